@@ -1,0 +1,2 @@
+-- What 'older' means.
+pub mod Age

@@ -1,0 +1,2 @@
+-- What a mask means. Its laws are in proofs/Laws.antt.
+pub mod Mask

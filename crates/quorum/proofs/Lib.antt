@@ -1,0 +1,7 @@
+-- Theorems has what this crate promises of quorums and of the choice; the other files lead to it.
+pub mod Meet
+pub mod Contain
+pub mod Order
+pub mod Steps
+pub mod Optimal
+pub mod Theorems

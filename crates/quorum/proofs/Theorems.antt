@@ -1,0 +1,122 @@
+-- What holds of quorums and of the choice, one theorem for each sentence.
+use mathlib.Core.Path.{_≡_, refl, sym, ap, _∙_, subst}
+use mathlib.Core.Bool.{Bool, true, false, not, cond, _||_, Bool·not-not}
+use mathlib.Core.List.{List, [], _∷_}
+use Prim.Native.Nat.{ℕ}
+use lib.Dec.{T}
+use lib.ListN.{length}
+use Rattle.mask.specs.Mask.{contains, within}
+use Rattle.mask.proofs.Tests.{or-left, or-right}
+use Rattle.mask.proofs.Laws.{within-contains}
+use Rattle.quorum.specs.declared.Choice.{Choice}
+use Rattle.quorum.specs.declared.Choice.the-variants.{Quorum, Nothing}
+use Rattle.quorum.specs.declared.Kind.{Kind}
+use Rattle.quorum.specs.declared.Kind.the-variants.{Read, Write}
+use Rattle.quorum.specs.Tree.{leaves, root, height}
+use Rattle.quorum.specs.Quorum.{isQuorum}
+use Rattle.quorum.specs.Smallest.{smallest}
+use Rattle.quorum.specs.Nearest.{distance, nearer, betterOf, oneOf, nearestOf, numberOf}
+use Rattle.quorum.proofs.Meet.{meet, write-root, larger}
+use Rattle.quorum.proofs.Contain.{anyWithin, any-smallest}
+use Rattle.quorum.proofs.Order.{asNear, as-near-self, as-near-left, as-near-right}
+
+-- ---- the tree
+-- nodes 4 to 12 are the leaves
+pub leaves-4-to-12 : leaves height root ≡ 4 ∷ 5 ∷ 6 ∷ 7 ∷ 8 ∷ 9 ∷ 10 ∷ 11 ∷ 12 ∷ []
+leaves-4-to-12 = refl
+
+-- ---- quorums
+-- node 0 is in every write quorum
+pub root-in-write : (w : ℕ) → T (isQuorum Write w) → T (contains w root)
+root-in-write w = write-root (contains w) height root
+
+-- every read quorum meets every write quorum
+pub read-meets-write : (m w : ℕ) → T (isQuorum Read m) → T (isQuorum Write w) → (i : ℕ) × T (contains m i) × T (contains w i)
+read-meets-write m w = meet (contains m) (contains w) height root
+
+-- any two write quorums meet
+pub write-meets-write : (v w : ℕ) → T (isQuorum Write v) → T (isQuorum Write w) → (i : ℕ) × T (contains v i) × T (contains w i)
+write-meets-write v w s t = (root, root-in-write v s, root-in-write w t)
+
+-- a larger set that contains a quorum counts as one too
+pub larger-counts : (k : Kind) (a b : ℕ) → T (within a b) → T (isQuorum k a) → T (isQuorum k b)
+larger-counts k a b s = larger k (contains a) (contains b) (within-contains a b s) height root
+
+-- a set is a quorum exactly when it contains a smallest one
+pub quorum-contains-smallest : (k : Kind) (m : ℕ) → isQuorum k m ≡ anyWithin (smallest k) m
+quorum-contains-smallest k m = sym (any-smallest m k height root)
+
+-- there are 49 smallest read quorums and 27 smallest write quorums
+pub reads-49 : length (smallest Read) ≡ 49
+reads-49 = refl
+
+pub writes-27 : length (smallest Write) ≡ 27
+writes-27 = refl
+
+-- ---- the nearest of a list
+pub data In : ℕ → List ℕ → Type 0 where
+  here : {q : ℕ} {qs : List ℕ} → In q (q ∷ qs)
+  there : {q p : ℕ} {qs : List ℕ} → In q qs → In q (p ∷ qs)
+
+-- no set of the list inside live is nearer than the choice
+pub none-nearer : (live : ℕ) (d : List ℕ) (q : ℕ) (qs : List ℕ) → In q qs → T (within q live) → T (asNear (nearestOf live d qs) q (distance d q))
+none-nearer live d q qs (here {qs = rest}) w = as-near-left (oneOf live d q) (nearestOf live d rest) q (distance d q) (by (within q live) w)
+  where
+    by : (b : Bool) → T b → T (asNear (cond b (Quorum q (distance d q)) Nothing) q (distance d q))
+    by true t = as-near-self q (distance d q)
+    by false t = absurd t
+none-nearer live d q qs (there {p = p} {qs = rest} i) w =
+    as-near-right (oneOf live d p) (nearestOf live d rest) q (distance d q) (none-nearer live d q rest i w)
+
+-- a choice is one of the list, inside live, with its own sum
+abbrev pub Chosen : ℕ → List ℕ → List ℕ → Choice → Type 0
+Chosen live d qs Nothing = T true
+Chosen live d qs (Quorum m s) = In m qs × T (within m live) × (s ≡ distance d m)
+
+chosen-better : (live : ℕ) (d qs : List ℕ) (x y : Choice) → Chosen live d qs x → Chosen live d qs y → Chosen live d qs (betterOf x y)
+chosen-better live d qs Nothing y p q = q
+chosen-better live d qs (Quorum m s) Nothing p q = p
+chosen-better live d qs (Quorum m s) (Quorum n t) p q = by (nearer m s n t)
+  where
+    by : (b : Bool) → Chosen live d qs (cond b (Quorum m s) (Quorum n t))
+    by true = p
+    by false = q
+
+chosen-more : (live : ℕ) (d : List ℕ) (q : ℕ) (qs : List ℕ) (x : Choice) → Chosen live d qs x → Chosen live d (q ∷ qs) x
+chosen-more live d q qs Nothing p = tt
+chosen-more live d q qs (Quorum m s) p = (there (p .0), p .1, p .2)
+
+pub chosen : (live : ℕ) (d qs : List ℕ) → Chosen live d qs (nearestOf live d qs)
+chosen live d [] = tt
+chosen live d (q ∷ qs) =
+    chosen-better live d (q ∷ qs) (oneOf live d q) (nearestOf live d qs) (by (within q live) (λ t. t))
+    (chosen-more live d q qs (nearestOf live d qs) (chosen live d qs))
+  where
+    by : (b : Bool) → (T b → T (within q live)) → Chosen live d (q ∷ qs) (cond b (Quorum q (distance d q)) Nothing)
+    by true f = (here, f tt, refl)
+    by false f = tt
+
+-- nothing is chosen exactly when no set of the list is inside live
+abbrev pub isNothing : Choice → Bool
+isNothing Nothing = true
+isNothing (Quorum m s) = false
+
+nothing-better : (b : Bool) (q s : ℕ) (y : Choice) → isNothing (betterOf (cond b (Quorum q s) Nothing) y) ≡ not (b || not (isNothing y))
+nothing-better true q s Nothing = refl
+nothing-better true q s (Quorum n t) = by (nearer q s n t)
+  where
+    by : (b : Bool) → isNothing (cond b (Quorum q s) (Quorum n t)) ≡ false
+    by true = refl
+    by false = refl
+nothing-better false q s Nothing = refl
+nothing-better false q s (Quorum n t) = refl
+
+pub none-in-list : (live : ℕ) (d qs : List ℕ) → isNothing (nearestOf live d qs) ≡ not (anyWithin qs live)
+none-in-list live d [] = refl
+none-in-list live d (q ∷ qs) =
+    nothing-better (within q live) q (distance d q) (nearestOf live d qs)
+    ∙ ap (λ (b : Bool). not (within q live || b)) (ap not (none-in-list live d qs) ∙ Bool·not-not (anyWithin qs live))
+
+-- 'no quorum' is said exactly when live contains none
+pub none-exactly : (k : Kind) (live : ℕ) (d : List ℕ) → isNothing (nearestOf live d (smallest k)) ≡ not (isQuorum k live)
+none-exactly k live d = none-in-list live d (smallest k) ∙ ap not (any-smallest live k height root)

@@ -1,0 +1,40 @@
+-- The choice made level by level: a subtree's best set comes from its children's best pairs, and a pair's from the subtrees one level down.
+use mathlib.Core.Bool.{cond}
+use mathlib.Core.List.{List}
+use Prim.Native.Nat.{ℕ, zero, suc, _+_, _^_}
+use lib.ListN.{getD}
+use Rattle.mask.specs.Mask.{contains, joined}
+use Rattle.quorum.specs.declared.Choice.{Choice}
+use Rattle.quorum.specs.declared.Choice.the-variants.{Quorum, Nothing}
+use Rattle.quorum.specs.declared.Kind.{Kind}
+use Rattle.quorum.specs.declared.Kind.the-variants.{Read, Write}
+use Rattle.quorum.specs.Tree.{child}
+use Rattle.quorum.specs.Nearest.{betterOf}
+
+-- one node by itself, if it is live
+abbrev pub aloneOf : ℕ → List ℕ → ℕ → Choice
+aloneOf live d i = cond (contains live i) (Quorum (2 ^ i) (getD d i 0)) Nothing
+
+-- two choices joined: nothing unless both are there
+abbrev pub bothOf : Choice → Choice → Choice
+bothOf Nothing b = Nothing
+bothOf (Quorum m s) Nothing = Nothing
+bothOf (Quorum m s) (Quorum n t) = Quorum (joined m n) (s + t)
+
+-- the nearest join of two of three
+abbrev pub choosePair : Choice → Choice → Choice → Choice
+choosePair a b c = betterOf (bothOf a b) (betterOf (bothOf a c) (bothOf b c))
+
+-- the root or a pair, the root with a pair
+abbrev pub withRoot : Kind → Choice → Choice → Choice
+withRoot Read own pair = betterOf own pair
+withRoot Write own pair = bothOf own pair
+
+-- the best set of the subtree of height h at node i, and the best pair of its children's, which have height h
+unfoldable pub bestOf : Kind → ℕ → List ℕ → ℕ → ℕ → Choice
+bestOf k live d zero i = aloneOf live d i
+bestOf k live d (suc h) i =
+    withRoot k (aloneOf live d i) (choosePair (bestOf k live d h (child i 1)) (bestOf k live d h (child i 2)) (bestOf k live d h (child i 3)))
+
+unfoldable pub pairOf : Kind → ℕ → List ℕ → ℕ → ℕ → Choice
+pairOf k live d h i = choosePair (bestOf k live d h (child i 1)) (bestOf k live d h (child i 2)) (bestOf k live d h (child i 3))
