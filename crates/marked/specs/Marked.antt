@@ -49,4 +49,5 @@ allRight [] = true
 allRight (r ∷ rs) = right r && allRight rs
 
 pub marked-cases : T (allRight rows)
+unfolding smallest
 marked-cases = tt

@@ -1,14 +1,14 @@
 -- The laws of masks: what each operation says of each node, and that a mask is its nodes. By the bits of a number, digit by digit.
-use mathlib.Core.Path.{_≡_, refl, sym, ap, ap₂, _∙_, subst}
+use mathlib.Core.Path.{_≡_, refl, sym, ap, _∙_, subst}
 use mathlib.Core.Bool.{Bool, true, false, not, cond, _&&_, _||_}
 use Prim.Native.Nat.{ℕ, zero, suc, _+_, _*_, _-_, _/_, _%_, _^_, _≤_, _<_, min, max}
-use native.Mathlib.Nat.{mod-lt, lt-of-le-of-lt, min-le-left, zero-lt-suc, pow-suc, zero-div, div-add-mod', div-one, div-self, div-eq-of-lt, le-trans}
+use native.Mathlib.Nat.{mod-lt, lt-of-le-of-lt, min-le-left, zero-lt-suc, pow-suc, zero-div, div-add-mod', div-one, div-self, div-eq-of-lt}
 use native.Mathlib.Omega.{arith}
 use lib.Arith.{digits-mod, bin-ind}
-use lib.Bits.{bitAnd, bitOr, bitXor, and-step, or-step, xor-step, and-shr, or-shr, xor-shr, and-high, and-comm, and-self, differ}
+use lib.Bits.{bitAnd, bitOr, bitXor, and-step, or-step, xor-step, and-shr, or-shr, xor-shr, differ}
 use lib.Pow.{shr-shr, pow-add, shl-exact, pow-pos, pow-lt, pow-mono, shl-shr}
-use lib.Dec.{T, eqb, ltb, eqb→eq, eqb-refl}
-use borrow.Author.Tests.{ne-eqb, eq-eqb, lt-ltb, le-ltb}
+use lib.Dec.{T, eqb, eqb→eq, eqb-refl}
+use borrow.Author.Tests.{lt-ltb}
 use Rattle.mask.specs.Mask.{bit, contains, only, within, minus}
 use Rattle.mask.proofs.Tests.{same-test, and-both, and-left, and-right, or-left, or-right, or-cases, compared}
 

@@ -1,5 +1,5 @@
 -- Every read quorum meets every write quorum, by induction on the height: both have the root, or two of three children in each share one.
-use mathlib.Core.Bool.{Bool, true, false, _&&_, _||_}
+use mathlib.Core.Bool.{Bool, true, false, _||_}
 use Prim.Native.Nat.{ℕ, zero, suc}
 use lib.Dec.{T}
 use Rattle.mask.proofs.Tests.{and-left, and-right, and-both, or-left, or-right, or-cases}

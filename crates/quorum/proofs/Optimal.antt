@@ -1,7 +1,7 @@
 -- The choice made level by level is the nearest of all the smallest quorums inside live. The sets that a level joins share no node (a
 -- computed test at each inner node), so masks and sums add, and adding keeps the order: the best pair is a pair of bests.
 use mathlib.Core.Path.{_≡_, refl, sym, ap, ap₂, _∙_}
-use mathlib.Core.Bool.{Bool, true, false, not, cond, _&&_, _||_, Bool·not-not}
+use mathlib.Core.Bool.{Bool, true, false, cond, _&&_}
 use mathlib.Core.List.{List, [], _∷_, _++_, map}
 use Prim.Native.Nat.{ℕ, zero, suc, _+_, _*_, _/_, _%_, _^_}
 use native.Mathlib.Nat.{pow-suc, add-mul}
@@ -9,7 +9,7 @@ use native.Mathlib.Omega.{arith}
 use lib.Dec.{T, eqb, eqb→eq}
 use lib.Bits.{bitAnd, bitOr, and-step, or-step, or-disjoint}
 use lib.ListN.{getD}
-use Rattle.mask.specs.Mask.{contains, within}
+use Rattle.mask.specs.Mask.{within}
 use Rattle.mask.proofs.Tests.{and-both, and-left, and-right}
 use Rattle.mask.proofs.Laws.{within-joined, within-power}
 use Rattle.quorum.specs.declared.Choice.{Choice}
@@ -100,7 +100,7 @@ module _ (live : ℕ) (d : List ℕ) where
   one-joined a b t =
       let e : bitAnd a b ≡ 0 = eqb→eq (bitAnd a b) 0 t in
       let k : Quorum (bitOr a b) (distance d (bitOr a b)) ≡ Quorum (a + b) (distance d a + distance d b) =
-          ap₂ Quorum (or-disjoint a b e) (distance-joined d a b e) in
+      ap₂ Quorum (or-disjoint a b e) (distance-joined d a b e) in
       ap₂ (λ (p : Bool) (c : Choice). cond p c Nothing) (within-joined a b live) k
       ∙ cond-and (within a live) (within b live) a (distance d a) b (distance d b)
 
@@ -185,5 +185,6 @@ module _ (live : ℕ) (d : List ℕ) where
   hall k r a = step k 0 r a (leaf k (child r 1)) (leaf k (child r 2)) (leaf k (child r 3))
 
   pub optimal : (k : Kind) → bestOf k live d 2 0 ≡ nearestOf live d (smallest k)
+  unfolding smallest
   optimal Read = step Read 1 0 tt (hall Read 1 tt) (hall Read 2 tt) (hall Read 3 tt)
   optimal Write = step Write 1 0 tt (hall Write 1 tt) (hall Write 2 tt) (hall Write 3 tt)

@@ -1,12 +1,11 @@
 -- The order of choices: the lesser sum, then the lower mask. It is total and transitive, so taking the better one is associative; and adding
 -- a set that shares nothing with either does not change which of two is better.
 use mathlib.Core.Path.{_≡_, refl, sym, ap, ap₂, _∙_, subst}
-use mathlib.Core.Bool.{Bool, true, false, not, cond, _&&_, _||_}
+use mathlib.Core.Bool.{Bool, true, false, not, cond, _&&_}
 use Prim.Native.Nat.{ℕ, _+_, _≤_, _<_}
 use native.Mathlib.Nat.{add-comm}
 use native.Mathlib.Omega.{arith}
 use lib.Dec.{T, ltb, leb, eqb, ltb→lt, lt→ltb, leb→le, le→leb, eqb→eq, eqb-refl, T-not, not-T}
-use borrow.Author.Tests.{lt-ltb, le-ltb, le-leb, lt-leb, eq-eqb, ne-eqb}
 use Rattle.mask.proofs.Tests.{and-both, and-left, and-right, or-left, or-right, or-cases, same-test, compared}
 use Rattle.quorum.specs.declared.Choice.{Choice}
 use Rattle.quorum.specs.declared.Choice.the-variants.{Quorum, Nothing}
@@ -83,7 +82,8 @@ plus-comm (Quorum m s) (Quorum n t) = ap₂ Quorum (add-comm m n) (add-comm s t)
 nearer-shift : (m s n t k u : ℕ) → nearer (m + n) (s + t) (m + k) (s + u) ≡ nearer n t k u
 nearer-shift m s n t k u =
     same-test _ _
-    (nearer-cases (T (nearer n t k u)) (m + n) (s + t) (m + k) (s + u) (λ a. by-sum n t k u (omega arith)) (λ a b. by-mask n t k u (omega arith) (omega arith)))
+    (nearer-cases (T (nearer n t k u)) (m + n) (s + t) (m + k) (s + u) (λ a. by-sum n t k u (omega arith))
+    (λ a b. by-mask n t k u (omega arith) (omega arith)))
     (nearer-cases (T (nearer (m + n) (s + t) (m + k) (s + u))) n t k u (λ a. by-sum (m + n) (s + t) (m + k) (s + u) (omega arith))
     (λ a b. by-mask (m + n) (s + t) (m + k) (s + u) (omega arith) (omega arith)))
 

@@ -1,5 +1,5 @@
 -- What the proofs of the level-by-level functions use: one level of each definition, which roots a call may name, and that sums fit.
-use mathlib.Core.Path.{_≡_, refl, sym, ap, _∙_, subst}
+use mathlib.Core.Path.{_≡_, refl, sym, ap, subst}
 use mathlib.Core.Bool.{Bool, true, false, cond}
 use mathlib.Core.List.{List}
 use Prim.Native.Nat.{ℕ, zero, suc, _+_, _-_, _*_, _^_, _≤_, _<_}
@@ -14,7 +14,7 @@ use Rattle.quorum.specs.Nearest.{nearer, betterOf, sumOf}
 use Rattle.quorum.specs.Levels.{bothOf, aloneOf, withRoot, bestOf, pairOf, choosePair}
 
 -- ---- roots
-pub last-mono : (h : ℕ) {r s : ℕ} → r ≤ s → last h r ≤ last h s
+last-mono : (h : ℕ) {r s : ℕ} → r ≤ s → last h r ≤ last h s
 last-mono zero e = e
 last-mono (suc h) e = last-mono h (omega arith)
 
@@ -28,6 +28,13 @@ less-one h = omega arith
 pub last-step : (h r : ℕ) → (h ≡ 0 → ⊥) → last h r ≡ last (h - 1) (3 * r + 3)
 last-step zero r f = absurd (f refl)
 last-step (suc h) r f = ap (λ (k : ℕ). last k (3 * r + 3)) (sym (less-one h))
+
+-- what a call one level down asks of its root
+pub child-last : (h r i : ℕ) → i ≤ 3 → last h (3 * r + 3) < 13 → last h (3 * r + i) < 13
+child-last h r i e b = omega (arith, last-mono h {r = 3 * r + i} {s = 3 * r + 3} (omega arith))
+
+pub child-small : (h r : ℕ) → last h (3 * r + 3) < 13 → 3 * r + 3 < 13
+child-small h r b = omega (arith, root-le-last h (3 * r + 3))
 
 -- ---- one level of the choice
 pub best-zero : (k : Kind) (live : ℕ) (d : List ℕ) (h r : ℕ) → h ≡ 0 → bestOf k live d h r ≡ aloneOf live d r

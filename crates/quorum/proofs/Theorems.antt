@@ -1,12 +1,11 @@
 -- What holds of quorums and of the choice, one theorem for each sentence.
-use mathlib.Core.Path.{_≡_, refl, sym, ap, _∙_, subst}
+use mathlib.Core.Path.{_≡_, refl, sym, ap, _∙_}
 use mathlib.Core.Bool.{Bool, true, false, not, cond, _||_, Bool·not-not}
 use mathlib.Core.List.{List, [], _∷_}
 use Prim.Native.Nat.{ℕ}
 use lib.Dec.{T}
 use lib.ListN.{length}
 use Rattle.mask.specs.Mask.{contains, within}
-use Rattle.mask.proofs.Tests.{or-left, or-right}
 use Rattle.mask.proofs.Laws.{within-contains}
 use Rattle.quorum.specs.declared.Choice.{Choice}
 use Rattle.quorum.specs.declared.Choice.the-variants.{Quorum, Nothing}
@@ -15,7 +14,7 @@ use Rattle.quorum.specs.declared.Kind.the-variants.{Read, Write}
 use Rattle.quorum.specs.Tree.{leaves, root, height}
 use Rattle.quorum.specs.Quorum.{isQuorum}
 use Rattle.quorum.specs.Smallest.{smallest}
-use Rattle.quorum.specs.Nearest.{distance, nearer, betterOf, oneOf, nearestOf, numberOf}
+use Rattle.quorum.specs.Nearest.{distance, nearer, betterOf, oneOf, nearestOf}
 use Rattle.quorum.proofs.Meet.{meet, write-root, larger}
 use Rattle.quorum.proofs.Contain.{anyWithin, any-smallest}
 use Rattle.quorum.proofs.Order.{asNear, as-near-self, as-near-left, as-near-right}
@@ -28,10 +27,12 @@ leaves-4-to-12 = refl
 -- ---- quorums
 -- node 0 is in every write quorum
 pub root-in-write : (w : ℕ) → T (isQuorum Write w) → T (contains w root)
+unfolding isQuorum
 root-in-write w = write-root (contains w) height root
 
 -- every read quorum meets every write quorum
 pub read-meets-write : (m w : ℕ) → T (isQuorum Read m) → T (isQuorum Write w) → (i : ℕ) × T (contains m i) × T (contains w i)
+unfolding isQuorum
 read-meets-write m w = meet (contains m) (contains w) height root
 
 -- any two write quorums meet
@@ -40,17 +41,21 @@ write-meets-write v w s t = (root, root-in-write v s, root-in-write w t)
 
 -- a larger set that contains a quorum counts as one too
 pub larger-counts : (k : Kind) (a b : ℕ) → T (within a b) → T (isQuorum k a) → T (isQuorum k b)
+unfolding isQuorum
 larger-counts k a b s = larger k (contains a) (contains b) (within-contains a b s) height root
 
 -- a set is a quorum exactly when it contains a smallest one
 pub quorum-contains-smallest : (k : Kind) (m : ℕ) → isQuorum k m ≡ anyWithin (smallest k) m
+unfolding isQuorum smallest
 quorum-contains-smallest k m = sym (any-smallest m k height root)
 
 -- there are 49 smallest read quorums and 27 smallest write quorums
 pub reads-49 : length (smallest Read) ≡ 49
+unfolding smallest
 reads-49 = refl
 
 pub writes-27 : length (smallest Write) ≡ 27
+unfolding smallest
 writes-27 = refl
 
 -- ---- the nearest of a list
@@ -119,4 +124,5 @@ none-in-list live d (q ∷ qs) =
 
 -- 'no quorum' is said exactly when live contains none
 pub none-exactly : (k : Kind) (live : ℕ) (d : List ℕ) → isNothing (nearestOf live d (smallest k)) ≡ not (isQuorum k live)
+unfolding isQuorum smallest
 none-exactly k live d = none-in-list live d (smallest k) ∙ ap not (any-smallest live k height root)

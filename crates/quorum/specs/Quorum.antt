@@ -22,5 +22,5 @@ inSubtree k has zero i = has i
 inSubtree k has (suc h) i = rootedBy k (has i) (twoOf (inSubtree k has h (child i 1)) (inSubtree k has h (child i 2)) (inSubtree k has h (child i 3)))
 
 -- a quorum of the whole tree
-abbrev pub isQuorum : Kind → ℕ → Bool
+unfoldable pub isQuorum : Kind → ℕ → Bool
 isQuorum k m = inSubtree k (contains m) height root

@@ -26,5 +26,5 @@ smallestOf k zero i = 2 ^ i ∷ []
 smallestOf k (suc h) i = withRootSet k (2 ^ i) (pairs (smallestOf k h (child i 1)) (smallestOf k h (child i 2)) (smallestOf k h (child i 3)))
 
 -- those of the whole tree: 49 to read, 27 to write
-abbrev pub smallest : Kind → List ℕ
+unfoldable pub smallest : Kind → List ℕ
 smallest k = smallestOf k height root

@@ -1,6 +1,5 @@
 -- `mask::has`: the shifted mask's last digit is the bit; past the width no mask has a bit.
 use mathlib.Core.Path.{sym}
-use Prim.Native.Nat.{_<_, _^_}
 use borrow.Author.Needs.{needs}
 use Rattle.mask.proofs.Laws.{contains-high}
 use Rattle.mask.proofs.has.Statement.{statement}

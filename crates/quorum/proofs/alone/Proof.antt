@@ -5,11 +5,6 @@ use Rattle.mask.proofs.Laws.{only-small}
 use borrow.Author.Needs.{needs}
 use Rattle.quorum.proofs.alone.Statement.{statement}
 use Rattle.quorum.proofs.alone.Tie as tie
-use Rattle.quorum.proofs.alone.Reads as reads
-use Rattle.quorum.proofs.alone.Lts as lts
-use Rattle.mask.proofs.has.Reads as has-reads
-use Rattle.mask.proofs.single.Reads as single-reads
-use Rattle.quorum.proofs.wide.Reads as wide-reads
 
 has-requires : tie.Need-has-requires
 has-requires c κs = search needs
@@ -30,7 +25,8 @@ returns : tie.Need-returns
 returns c =
     let a = c .before .before .before .before .before .args in
     let h = c .before .before .before .before .has in
-    (simp (sym (h .ensures), c .before .before .before .if1 .taken, c .wide .ensures .0, c .before .before .single .ensures, only-small (a .node) (omega arith)), search needs)
+    let one = c .before .before .single .ensures ∙ only-small (a .node) (omega arith) in
+    (simp (sym (h .ensures), c .before .before .before .if1 .taken, c .wide .ensures .0, one), search needs)
 
 returns-2 : tie.Need-returns-2
 returns-2 c = (simp (sym (c .before .has .ensures), c .if1 .left), search needs)

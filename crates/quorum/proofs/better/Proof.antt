@@ -1,12 +1,10 @@
 -- `quorum::better`: each way through the tests is one case of the order.
-use mathlib.Core.Path.{sym, ap, ap₂, _∙_}
+use mathlib.Core.Path.{sym, ap₂, _∙_}
 use borrow.Author.Needs.{needs}
 use Rattle.quorum.proofs.Order.{better-less, better-more, better-low, better-high}
 use Rattle.quorum.specs.Nearest.{betterOf}
 use Rattle.quorum.proofs.better.Statement.{statement}
 use Rattle.quorum.proofs.better.Tie as tie
-use Rattle.quorum.proofs.better.Reads as reads
-use Rattle.quorum.proofs.better.Lts as lts
 
 enum-told : tie.Need-enum-told
 enum-told c = search needs
@@ -27,16 +25,28 @@ returns-2 : tie.Need-returns-2
 returns-2 c = sym (ap₂ betterOf (c .before .before .before .a .given .1) (c .enum-told2 .given .1))
 
 returns-3 : tie.Need-returns-3
-returns-3 c = sym (ap₂ betterOf (c .before .before .before .before .before .a .given .1) (c .before .before .b .given .1) ∙ better-less _ _ _ _ (c .if1 .taken))
+returns-3 c =
+    let b = c .before .before in
+    sym (ap₂ betterOf (b .before .before .before .a .given .1) (b .b .given .1) ∙ better-less _ _ _ _ (c .if1 .taken))
 
 returns-4 : tie.Need-returns-4
-returns-4 c = sym (ap₂ betterOf (c .before .before .before .before .before .before .a .given .1) (c .before .before .before .b .given .1) ∙ better-more _ _ _ _ (c .if2 .taken))
+returns-4 c =
+    let b = c .before .before .before in
+    sym (ap₂ betterOf (b .before .before .before .a .given .1) (b .b .given .1) ∙ better-more _ _ _ _ (c .if2 .taken))
 
 returns-5 : tie.Need-returns-5
-returns-5 c = sym (ap₂ betterOf (c .before .before .before .before .before .before .before .a .given .1) (c .before .before .before .before .b .given .1) ∙ better-low _ _ _ _ (c .before .if2 .left) (c .before .before .if1 .left) (c .if3 .taken))
+returns-5 c =
+    let b = c .before .before .before .before in
+    sym
+    (ap₂ betterOf (b .before .before .before .a .given .1) (b .b .given .1)
+    ∙ better-low _ _ _ _ (c .before .if2 .left) (c .before .before .if1 .left) (c .if3 .taken))
 
 returns-6 : tie.Need-returns-6
-returns-6 c = sym (ap₂ betterOf (c .before .before .before .before .before .before .before .a .given .1) (c .before .before .before .before .b .given .1) ∙ better-high _ _ _ _ (c .before .if2 .left) (c .before .before .if1 .left) (c .if3 .left))
+returns-6 c =
+    let b = c .before .before .before .before in
+    sym
+    (ap₂ betterOf (b .before .before .before .a .given .1) (b .b .given .1)
+    ∙ better-high _ _ _ _ (c .before .if2 .left) (c .before .before .if1 .left) (c .if3 .left))
 
 pub better-spec : {M : Type 1} → statement M
 better-spec =

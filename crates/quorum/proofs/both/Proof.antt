@@ -8,9 +8,6 @@ use Rattle.quorum.specs.Levels.{bothOf}
 use borrow.Author.Needs.{needs}
 use Rattle.quorum.proofs.both.Statement.{statement}
 use Rattle.quorum.proofs.both.Tie as tie
-use Rattle.quorum.proofs.both.Reads as reads
-use Rattle.quorum.proofs.both.Lts as lts
-use Rattle.mask.proofs.join.Reads as join-reads
 
 enum-told : tie.Need-enum-told
 enum-told c = search needs
@@ -29,7 +26,8 @@ join-requires c κs = search needs
 
 add-t10 : tie.Need-add-t10
 add-t10 c =
-    record { fits = omega (arith, c .before .before .before .before .before .before .before .pre, ap sumOf (c .before .before .before .before .before .a .given .1), ap sumOf (c .before .before .b .given .1)) }
+    let a = c .before .before .before .before .before in
+    record { fits = omega (arith, a .before .before .pre, ap sumOf (a .a .given .1), ap sumOf (c .before .before .b .given .1)) }
 
 returns : tie.Need-returns
 returns c = search needs
@@ -39,8 +37,9 @@ returns-2 c = search needs
 
 returns-3 : tie.Need-returns-3
 returns-3 c =
-    ap (λ (m : ℕ). Quorum m (c .before .before .before .before .before .a .given .0 .1 .0 + c .before .before .b .given .0 .1 .0)) (c .join .ensures)
-    ∙ sym (ap₂ bothOf (c .before .before .before .before .before .a .given .1) (c .before .before .b .given .1))
+    let a = c .before .before .before .before .before .a in
+    let b = c .before .before .b in
+    ap (λ (m : ℕ). Quorum m (a .given .0 .1 .0 + b .given .0 .1 .0)) (c .join .ensures) ∙ sym (ap₂ bothOf (a .given .1) (b .given .1))
 
 pub both-spec : {M : Type 1} → statement M
 both-spec =

@@ -2,10 +2,6 @@
 use borrow.Author.Needs.{needs}
 use Rattle.quorum.proofs.choose_pair.Statement.{statement}
 use Rattle.quorum.proofs.choose_pair.Tie as tie
-use Rattle.quorum.proofs.choose_pair.Reads as reads
-use Rattle.quorum.proofs.choose_pair.Lts as lts
-use Rattle.quorum.proofs.better.Reads as better-reads
-use Rattle.quorum.proofs.both.Reads as both-reads
 
 both-requires : tie.Need-both-requires
 both-requires c κs = search needs

@@ -1,11 +1,7 @@
+-- `quorum::in_hall`: one level of the definition, over three leaves.
 use borrow.Author.Needs.{needs}
 use Rattle.quorum.proofs.in_hall.Statement.{statement}
 use Rattle.quorum.proofs.in_hall.Tie as tie
-use Rattle.quorum.proofs.in_hall.Reads as reads
-use Rattle.quorum.proofs.in_hall.Lts as lts
-use Rattle.mask.proofs.has.Reads as has-reads
-use Rattle.quorum.proofs.rooted_by.Reads as rooted-by-reads
-use Rattle.quorum.proofs.two_of.Reads as two-of-reads
 
 mul-at : tie.Need-mul-at
 mul-at c = search needs

@@ -1,12 +1,8 @@
+-- `quorum::is_quorum`: one level of the definition at the root, over the three halls.
 use borrow.Author.Needs.{needs}
+use Rattle.quorum.specs.Quorum.{isQuorum}
 use Rattle.quorum.proofs.is_quorum.Statement.{statement}
 use Rattle.quorum.proofs.is_quorum.Tie as tie
-use Rattle.quorum.proofs.is_quorum.Reads as reads
-use Rattle.quorum.proofs.is_quorum.Lts as lts
-use Rattle.mask.proofs.has.Reads as has-reads
-use Rattle.quorum.proofs.in_hall.Reads as in-hall-reads
-use Rattle.quorum.proofs.rooted_by.Reads as rooted-by-reads
-use Rattle.quorum.proofs.two_of.Reads as two-of-reads
 
 in-hall-requires : tie.Need-in-hall-requires
 in-hall-requires c κs = search needs
@@ -27,6 +23,7 @@ rooted-by-requires : tie.Need-rooted-by-requires
 rooted-by-requires c κs = search needs
 
 returns : tie.Need-returns
+unfolding isQuorum
 returns c = cc
 
 pub is-quorum-spec : {M : Type 1} → statement M

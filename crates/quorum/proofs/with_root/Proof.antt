@@ -5,10 +5,6 @@ use Rattle.quorum.specs.declared.Kind.{Kind}
 use Rattle.quorum.specs.Levels.{withRoot}
 use Rattle.quorum.proofs.with_root.Statement.{statement}
 use Rattle.quorum.proofs.with_root.Tie as tie
-use Rattle.quorum.proofs.with_root.Reads as reads
-use Rattle.quorum.proofs.with_root.Lts as lts
-use Rattle.quorum.proofs.better.Reads as better-reads
-use Rattle.quorum.proofs.both.Reads as both-reads
 
 enum-told : tie.Need-enum-told
 enum-told c = search needs
@@ -23,10 +19,14 @@ both-requires : tie.Need-both-requires
 both-requires c κs = search needs
 
 returns : tie.Need-returns
-returns c = c .better .ensures ∙ sym (ap (λ (k : Kind). withRoot k (c .before .before .before .args .own) (c .before .before .before .args .pair)) (c .before .enum-told .given .1))
+returns c =
+    let a = c .before .before .before .args in
+    c .better .ensures ∙ sym (ap (λ (k : Kind). withRoot k (a .own) (a .pair)) (c .before .enum-told .given .1))
 
 returns-2 : tie.Need-returns-2
-returns-2 c = c .both .ensures ∙ sym (ap (λ (k : Kind). withRoot k (c .before .before .before .args .own) (c .before .before .before .args .pair)) (c .before .enum-told2 .given .1))
+returns-2 c =
+    let a = c .before .before .before .args in
+    c .both .ensures ∙ sym (ap (λ (k : Kind). withRoot k (a .own) (a .pair)) (c .before .enum-told2 .given .1))
 
 pub with-root-spec : {M : Type 1} → statement M
 with-root-spec =

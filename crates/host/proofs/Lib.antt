@@ -1,0 +1,2 @@
+-- What the loop over the distances uses.
+mod Laws

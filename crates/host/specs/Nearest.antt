@@ -1,0 +1,34 @@
+-- The nearest quorum for C: 1 for distances of another length than 26 bytes, 4 for a live mask above 8,191, 8 where live contains no quorum.
+use mathlib.Core.Bool.{cond, not}
+use mathlib.Core.List.{List, [], _∷_}
+use Prim.Native.Nat.{ℕ}
+use lib.Dec.{eqb, ltb}
+use lib.ListN.{length}
+use Rattle.numbers.specs.Numbers.{wrongLength, stranger, noQuorum}
+use Rattle.numbers.specs.Refusal.{Refusal, refuse, firstOf}
+use Rattle.quorum.specs.declared.Kind.{Kind}
+use Rattle.quorum.specs.declared.Choice.{Choice}
+use Rattle.quorum.specs.declared.Choice.the-variants.{Nothing}
+use Rattle.quorum.specs.Quorum.{isQuorum}
+use Rattle.quorum.specs.Smallest.{smallest}
+use Rattle.quorum.specs.Nearest.{nearestOf, maskOf, sumOf}
+use Rattle.host.specs.declared.Chosen.{Chosen}
+use Rattle.host.specs.Distances.{distancesOf}
+
+abbrev pub nearestRefusals : Kind → ℕ → List ℕ → List Refusal
+nearestRefusals kind live bytes =
+    refuse wrongLength (not (eqb (length bytes) 26)) ∷ refuse stranger (ltb 8191 live) ∷ refuse noQuorum (not (isQuorum kind live)) ∷ []
+
+abbrev pub nearestNumber : Kind → ℕ → List ℕ → ℕ
+nearestNumber kind live bytes = firstOf (nearestRefusals kind live bytes)
+
+-- the choice, or nothing where the call is refused
+abbrev pub granted : ℕ → Choice → Choice
+granted number choice = cond (eqb number 0) choice Nothing
+
+abbrev pub answerOf : ℕ → Choice → Chosen
+answerOf number choice = record { number = number; mask = maskOf choice; sum = sumOf choice }
+
+unfoldable pub nearestAnswer : Kind → ℕ → List ℕ → Chosen
+nearestAnswer kind live bytes =
+    answerOf (nearestNumber kind live bytes) (granted (nearestNumber kind live bytes) (nearestOf live (distancesOf bytes) (smallest kind)))
