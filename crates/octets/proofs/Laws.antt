@@ -2,15 +2,16 @@
 use Prim.Native.Nat.{ℕ, zero, suc, _+_, _-_, _*_, _/_, _%_, _^_, _<_, _≤_, min}
 use native.Mathlib.Omega.{arith}
 use native.Mathlib.Nat.{pow-suc}
+use native.Mathlib.Numerals.{add-one}
 use mathlib.Core.Path.{_≡_, refl, sym, ap, _∙_}
 use mathlib.Core.Logic.{_⊎_, inl, inr, ⊎-elim}
-use mathlib.Core.List.{List, [], _∷_}
+use mathlib.Core.List.{List, [], _∷_, _++_}
 use mathlib.Core.Bool.{Bool, true, false}
 use lib.Dec.{ltb}
 use borrow.Author.Tests.{ltb-true, ltb-false}
-use lib.ListN.{length, getD, set, length-set}
-use lib.Seq.{getD-set-same, getD-set-other, set-set, set-comm, set-getD, set-out}
-use Rattle.octets.specs.Octets.{get, put}
+use lib.ListN.{length, getD, set, take, drop, length-set, List·getD-eq-default}
+use lib.Seq.{getD-set-same, getD-set-other, set-set, set-comm, set-getD, set-out, getD-append-add, getD-drop, sets, drop-cons}
+use Rattle.octets.specs.Octets.{get, put, le}
 
 pub length-put : (k : ℕ) (l : List ℕ) (i v : ℕ) → length (put k l i v) ≡ length l
 unfolding put
@@ -92,6 +93,59 @@ put-put (suc k) l i v w =
     ∙ ap (λ (m : List ℕ). put k m (i + 1) (v / 256)) (set-set l i (v % 256) (w % 256)))
     ∙ put-put k (set l i (w % 256)) (i + 1) (v / 256) (w / 256)
 
+-- ---- a number as a list of its bytes
+pub length-le : (k v : ℕ) → length (le k v) ≡ k
+unfolding le
+length-le zero v = refl
+length-le (suc k) v = ap suc (length-le k (v / 256))
+
+-- writing is storing the bytes
+pub put-le : (k : ℕ) (l : List ℕ) (i v : ℕ) → put k l i v ≡ sets l i (le k v)
+unfolding put le
+put-le zero l i v = refl
+put-le (suc k) l i v =
+    put-le k (set l i (v % 256)) (i + 1) (v / 256) ∙ ap (λ (j : ℕ). sets (set l i (v % 256)) j (le k (v / 256))) (add-one i)
+
+-- a number that starts in the second of two lists
+pub get-append : (k : ℕ) (a b : List ℕ) (i : ℕ) → get k (a ++ b) (length a + i) ≡ get k b i
+unfolding get
+get-append zero a b i = refl
+get-append (suc k) a b i =
+    let e : length a + i + 1 ≡ length a + (i + 1) = omega arith in
+    let p : getD (a ++ b) (length a + i) 0 ≡ getD b i 0 = getD-append-add a b i 0 in
+    let q : get k (a ++ b) (length a + i + 1) ≡ get k b (i + 1) = ap (get k (a ++ b)) e ∙ get-append k a b (i + 1) in
+    cc
+
+-- a number in what is left of a list
+pub get-drop : (k : ℕ) (l : List ℕ) (n i : ℕ) → get k (drop n l) i ≡ get k l (n + i)
+unfolding get
+get-drop zero l n i = refl
+get-drop (suc k) l n i =
+    let e : n + (i + 1) ≡ n + i + 1 = omega arith in
+    let p : getD (drop n l) i 0 ≡ getD l (n + i) 0 = getD-drop n l i 0 in
+    let q : get k (drop n l) (i + 1) ≡ get k l (n + i + 1) = get-drop k l n (i + 1) ∙ ap (get k l) e in
+    cc
+
+-- reading the bytes of a number gives the number
+pub get-le : (k v : ℕ) (b : List ℕ) → v < 256 ^ k → get k (le k v ++ b) 0 ≡ v
+unfolding get le
+get-le zero v b h = omega arith
+get-le (suc k) v b h =
+    let p : 256 ^ suc k ≡ 256 ^ k * 256 = pow-suc 256 k in
+    let q : get k (v % 256 ∷ (le k (v / 256) ++ b)) (0 + 1) ≡ get k (le k (v / 256) ++ b) 0 = get-append k (v % 256 ∷ []) (le k (v / 256) ++ b) 0 in
+    let r : get k (le k (v / 256) ++ b) 0 ≡ v / 256 = get-le k (v / 256) b (omega arith) in
+    omega arith
+
+-- the bytes of the number that stands at i are the bytes that stand there
+pub le-get : (k : ℕ) (l : List ℕ) (i : ℕ) → i + k ≤ length l → Bytes l → le k (get k l i) ≡ take k (drop i l)
+unfolding get le
+le-get zero l i h f = refl
+le-get (suc k) l i h f =
+    let lo : (getD l i 0 + 256 * get k l (i + 1)) % 256 ≡ getD l i 0 = omega (arith, f i) in
+    let hi : (getD l i 0 + 256 * get k l (i + 1)) / 256 ≡ get k l (i + 1) = omega (arith, f i) in
+    let e : suc i ≡ i + 1 = omega arith in
+    rw (lo, hi, le-get k l (i + 1) (omega arith) f, drop-cons l i 0 (omega arith), e)
+
 -- ---- what the loops use
 -- one byte of a write
 pub put-step : (k : ℕ) (l : List ℕ) (i v : ℕ) → 0 < k → put k l i v ≡ put (k - 1) (set l i (v % 256)) (i + 1) (v / 256)
@@ -104,17 +158,11 @@ unfolding put
 put-zero zero l i v h = refl
 put-zero (suc k) l i v h = absurd (let z : ⊥ = omega arith in z)
 
--- nothing stands past the end
-pub getD-out : (l : List ℕ) (i : ℕ) → length l ≤ i → getD l i 0 ≡ 0
-getD-out [] i h = refl
-getD-out (x ∷ l) zero h = absurd (omega arith)
-getD-out (x ∷ l) (suc i) h = getD-out l i (omega arith)
-
 -- past the end the number is 0, and writing changes nothing
 pub get-out : (k : ℕ) (l : List ℕ) (i : ℕ) → length l ≤ i → get k l i ≡ 0
 unfolding get
 get-out zero l i h = refl
-get-out (suc k) l i h = omega (arith, getD-out l i h, get-out k l (i + 1) (omega arith))
+get-out (suc k) l i h = omega (arith, List·getD-eq-default l 0 h, get-out k l (i + 1) (omega arith))
 
 pub put-out : (k : ℕ) (l : List ℕ) (i v : ℕ) → length l ≤ i → put k l i v ≡ l
 unfolding put

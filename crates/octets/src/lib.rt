@@ -2,6 +2,7 @@
 // Bytes past the end are not there: they read as 0, and writing them does nothing.
 ghost use mathlib.Core.Path.{_≡_};
 ghost use Prim.Native.Nat.{_-_, _≤_, _<_, _^_, min};
+ghost use lib.ListN.{getD, set};
 ghost use Rattle.octets.specs.Octets.{get, put};
 ghost use Rattle.octets.specs.Signed.{signedOf, bitsOf};
 
@@ -50,9 +51,9 @@ fn put_bytes(s: &mut [u8], at: usize, k: usize, v: u64)
 
 // Each reader at a width rules out, among others: the bytes read high end first; a byte of the neighbouring number.
 pub fn get_u8(s: &[u8], at: usize) -> u8
-    ensures { λ r. ⌜ r ≡ get 1 (now (s .entry)) at ⌝ }
+    ensures { λ r. ⌜ r ≡ getD (now (s .entry)) at 0 ⌝ }
 {
-    get_bytes(s, at, 1) as u8
+    if at < s.len() { s[at] } else { 0 }
 }
 
 pub fn get_u16(s: &[u8], at: usize) -> u16
@@ -75,9 +76,11 @@ pub fn get_u64(s: &[u8], at: usize) -> u64
 
 // Each writer at a width rules out, among others: the bytes written high end first; a byte beside the number altered.
 pub fn put_u8(s: &mut [u8], at: usize, v: u8)
-    ensures { λ r. ⌜ now (s .exit) ≡ put 1 (now (s .entry)) at v ⌝ }
+    ensures { λ r. ⌜ now (s .exit) ≡ set (now (s .entry)) at v ⌝ }
 {
-    put_bytes(s, at, 1, v as u64);
+    if at < s.len() {
+        s[at] = v;
+    }
 }
 
 pub fn put_u16(s: &mut [u8], at: usize, v: u16)

@@ -1,0 +1,4 @@
+-- Laws of messages.
+pub mod Made
+pub mod Accepted
+pub mod RoundTrip

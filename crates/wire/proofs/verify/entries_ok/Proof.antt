@@ -1,0 +1,78 @@
+-- `wire::verify::entries_ok`: what was good so far, and the rest from here, is the whole pass.
+use Prim.Native.Nat.{_+_, _*_, _≤_}
+use native.Mathlib.Omega.{arith}
+use mathlib.Core.Path.{_≡_, refl, sym, _∙_}
+use mathlib.Core.Bool.{_&&_, and-true}
+use mathlib.Core.Path.{ap}
+use borrow.Author.Needs.{needs}
+use denote.Ref.{now}
+use Rattle.wire.specs.Formed.{entryOk}
+use Rattle.wire.specs.Decode.{entryAt, itemsFrom}
+use Rattle.wire.specs.Run.{run, objectOf}
+use Rattle.wire.proofs.Accepted.{run-again, run-end}
+use Rattle.wire.proofs.verify.entries_ok.Statement.{statement}
+use Rattle.wire.proofs.verify.entries_ok.Tie as tie
+
+abbrev Inv-loop : tie.InvT-loop
+Inv-loop s kind n ok₀ lo₀ at₀ left₀ ok lo at left =
+    (at + 14 * left ≤ 13 + 14 * n)
+    × ((ok && run objectOf (entryOk kind) lo (itemsFrom entryAt 14 left s at)) ≡ run objectOf (entryOk kind) 0 (itemsFrom entryAt 14 n s 13))
+
+abbrev μ-loop : tie.MeasureT-loop
+μ-loop s kind n ok₀ lo₀ at₀ left₀ ok lo at left = left
+
+add-at : tie.Need-add-at Inv-loop μ-loop
+add-at c = search needs
+
+loop-holds : tie.Need-loop-holds Inv-loop μ-loop
+loop-holds c = (omega arith, refl)
+
+entry-at-requires : tie.Need-entry-at-requires Inv-loop μ-loop
+entry-at-requires c κs = omega arith
+
+entry-fits-requires : tie.Need-entry-fits-requires Inv-loop μ-loop
+entry-fits-requires c κs = search needs
+
+above-requires : tie.Need-above-requires Inv-loop μ-loop
+above-requires c κs = search needs
+
+add-at-2 : tie.Need-add-at-2 Inv-loop μ-loop
+add-at-2 c = omega arith
+
+sub-left : tie.Need-sub-left Inv-loop μ-loop
+sub-left c = omega arith
+
+loop-less : tie.Need-loop-less Inv-loop μ-loop
+loop-less c = omega arith
+
+loop-again : tie.Need-loop-again Inv-loop μ-loop
+loop-again c =
+    let l = c .before .before .before .before .loop in
+    let x = c .before .before .before .before .before .before .args in
+    (omega arith,
+    run-again entryAt 14 (now (x .s)) objectOf (entryOk (x .kind)) (l .lo) (l .left) (l .at) (l .ok) _ _ _ _ (c .before .before .entry-at .ensures)
+    (c .before .entry-fits .ensures) (c .above .ensures) (c .before .before .before .loop-test .taken) (l .inv .1))
+
+returns : tie.Need-returns Inv-loop μ-loop
+returns c =
+    let l = c .before .loop in
+    let x = c .before .before .before .args in
+    sym (and-true (l .ok)) ∙ ap (_&&_ (l .ok)) (sym (run-end entryAt 14 (now (x .s)) objectOf (entryOk (x .kind)) (l .lo) (l .left) (l .at) (c .loop-test .left)))
+    ∙ l .inv .1
+
+pub entries-ok-spec : {M : Type 1} → statement M
+entries-ok-spec =
+    tie.close
+    (tie.spec
+    Inv-loop
+    μ-loop
+    add-at
+    loop-holds
+    entry-at-requires
+    entry-fits-requires
+    above-requires
+    add-at-2
+    sub-left
+    loop-less
+    loop-again
+    returns)

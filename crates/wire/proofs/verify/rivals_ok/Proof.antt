@@ -1,0 +1,74 @@
+-- `wire::verify::rivals_ok`: what was good so far, and the rest from here, is the whole pass.
+use Prim.Native.Nat.{_+_, _*_, _≤_}
+use native.Mathlib.Omega.{arith}
+use mathlib.Core.Path.{_≡_, refl, sym, _∙_}
+use mathlib.Core.Bool.{_&&_, and-true}
+use mathlib.Core.Path.{ap}
+use borrow.Author.Needs.{needs}
+use denote.Ref.{now}
+use Rattle.wire.specs.Formed.{rivalOk}
+use Rattle.wire.specs.Decode.{rivalAt, itemsFrom}
+use Rattle.wire.specs.Run.{run, ownerIn}
+use Rattle.wire.proofs.Accepted.{run-again, run-end}
+use Rattle.wire.proofs.verify.rivals_ok.Statement.{statement}
+use Rattle.wire.proofs.verify.rivals_ok.Tie as tie
+
+abbrev Inv-loop : tie.InvT-loop
+Inv-loop s kind owner to place n ok₀ lo₀ at₀ left₀ ok lo at left =
+    (at + 5 * left ≤ place + 5 * n)
+    × ((ok && run ownerIn (rivalOk kind owner to) lo (itemsFrom rivalAt 5 left s at)) ≡ run ownerIn (rivalOk kind owner to) 0 (itemsFrom rivalAt 5 n s place))
+
+abbrev μ-loop : tie.MeasureT-loop
+μ-loop s kind owner to place n ok₀ lo₀ at₀ left₀ ok lo at left = left
+
+loop-holds : tie.Need-loop-holds Inv-loop μ-loop
+loop-holds c = (omega arith, refl)
+
+rival-at-requires : tie.Need-rival-at-requires Inv-loop μ-loop
+rival-at-requires c κs = omega arith
+
+rival-fits-requires : tie.Need-rival-fits-requires Inv-loop μ-loop
+rival-fits-requires c κs = search needs
+
+above-requires : tie.Need-above-requires Inv-loop μ-loop
+above-requires c κs = search needs
+
+add-at : tie.Need-add-at Inv-loop μ-loop
+add-at c = omega arith
+
+sub-left : tie.Need-sub-left Inv-loop μ-loop
+sub-left c = omega arith
+
+loop-less : tie.Need-loop-less Inv-loop μ-loop
+loop-less c = omega arith
+
+loop-again : tie.Need-loop-again Inv-loop μ-loop
+loop-again c =
+    let l = c .before .before .before .before .loop in
+    let x = c .before .before .before .before .before .before .args in
+    (omega arith,
+    run-again rivalAt 5 (now (x .s)) ownerIn (rivalOk (x .kind) (x .owner) (x .to)) (l .lo) (l .left) (l .at) (l .ok) _ _ _ _ (c .before .before .rival-at .ensures)
+    (c .before .rival-fits .ensures) (c .above .ensures) (c .before .before .before .loop-test .taken) (l .inv .1))
+
+returns : tie.Need-returns Inv-loop μ-loop
+returns c =
+    let l = c .before .loop in
+    let x = c .before .before .before .args in
+    sym (and-true (l .ok)) ∙ ap (_&&_ (l .ok)) (sym (run-end rivalAt 5 (now (x .s)) ownerIn (rivalOk (x .kind) (x .owner) (x .to)) (l .lo) (l .left) (l .at) (c .loop-test .left)))
+    ∙ l .inv .1
+
+pub rivals-ok-spec : {M : Type 1} → statement M
+rivals-ok-spec =
+    tie.close
+    (tie.spec
+    Inv-loop
+    μ-loop
+    loop-holds
+    rival-at-requires
+    rival-fits-requires
+    above-requires
+    add-at
+    sub-left
+    loop-less
+    loop-again
+    returns)

@@ -1,0 +1,36 @@
+// Messages: bytes checked, read in place and written.
+mod read;
+mod verify;
+
+pub use verify::check;
+pub use read::{entries, from, kind, nth_entry, nth_rival, owner, rivals, serial, stamp, to, word};
+
+// One object of a message (document 01: tally): which, in which mode (0 read, 1 write), the version and the value.
+pub struct Entry {
+    pub object: u8,
+    pub mode: u8,
+    pub version: u32,
+    pub value: u64,
+}
+
+// One rival: the owner and serial of another transaction.
+pub struct Rival {
+    pub owner: u8,
+    pub serial: u32,
+}
+
+// Sizes in bytes: the shortest and the longest message, the header, an entry, a rival.
+pub const SHORTEST: usize = 15;
+pub const LONGEST: usize = 128;
+pub const HEADER: usize = 12;
+pub const ENTRY: usize = 14;
+pub const RIVAL: usize = 5;
+
+// The kinds.
+pub const FETCH: u8 = 1;
+pub const COPY: u8 = 2;
+pub const ASK: u8 = 3;
+pub const VOTE: u8 = 4;
+pub const OUTCOME: u8 = 5;
+pub const DONE: u8 = 6;
+pub const YIELD: u8 = 7;

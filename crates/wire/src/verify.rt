@@ -1,0 +1,222 @@
+// Which bytes are a message: the length, then everything else.
+ghost use mathlib.Core.Path.{_≡_};
+ghost use mathlib.Core.Bool.{not, _&&_, _||_};
+ghost use Prim.Native.Nat.{_+_, _<_};
+ghost use lib.Dec.{eqb, leb};
+ghost use Rattle.wire.specs.Formed.{countsOk, namesOk, directionOk, contentOk, entryOk, rivalOk};
+ghost use Rattle.wire.specs.Encode.{entrySize, rivalSize};
+ghost use Rattle.wire.specs.Decode.{entryAt, rivalAt, itemsFrom, entriesPlace, decode, accepted, checkOf};
+ghost use Rattle.wire.specs.Run.{run, objectOf, ownerIn, fittingSections};
+use crate::read::{entries, entry_at, from, kind, owner, rival_at, rivals, rivals_place, serial, stamp, to, word, words};
+use crate::{Entry, Rival, ENTRY, HEADER, LONGEST, RIVAL, SHORTEST};
+
+// Both tests hold.
+fn both(a: bool, b: bool) -> bool
+    ensures { λ r. ⌜ r ≡ (a && b) ⌝ }
+{
+    if a { b } else { false }
+}
+
+// The counts of a vote: a no (word 0) names no rivals.
+fn vote_counts(entries: usize, rivals: usize, words: usize, word: u8) -> bool
+    ensures { λ r. ⌜ r ≡ countsOk 4 entries rivals words word ⌝ }
+{
+    let rest = both(entries == 0, words == 1);
+    match word {
+        0 => both(rivals == 0, rest),
+        1 => match rivals {
+            0..=12 => rest,
+            _ => false,
+        },
+        _ => false,
+    }
+}
+
+// The counts of an outcome: an abort (word 0) has no entries, a commit 1 to 8.
+fn outcome_counts(entries: usize, rivals: usize, words: usize, word: u8) -> bool
+    ensures { λ r. ⌜ r ≡ countsOk 5 entries rivals words word ⌝ }
+{
+    let rest = both(rivals == 0, words == 1);
+    match word {
+        0 => both(entries == 0, rest),
+        1 => match entries {
+            1..=8 => rest,
+            _ => false,
+        },
+        _ => false,
+    }
+}
+
+// The kind decides the counts of entries, rivals and words.
+fn counts_ok(kind: u8, entries: usize, rivals: usize, words: usize, word: u8) -> bool
+    ensures { λ r. ⌜ r ≡ countsOk kind entries rivals words word ⌝ }
+{
+    match kind {
+        // fetch, copy
+        1 | 2 => match entries {
+            1 => both(rivals == 0, words == 0),
+            _ => false,
+        },
+        // ask
+        3 => match entries {
+            1..=8 => both(rivals == 0, words == 0),
+            _ => false,
+        },
+        4 => vote_counts(entries, rivals, words, word),
+        5 => outcome_counts(entries, rivals, words, word),
+        // done
+        6 => both(entries == 0, both(rivals == 0, words == 0)),
+        // yield
+        7 => match rivals {
+            1 => both(entries == 0, words == 0),
+            _ => false,
+        },
+        _ => false,
+    }
+}
+
+// The content of an entry by its kind: a fetch has none, a copy any, an ask or a commit a read without value or a write below the last version.
+fn content_ok(kind: u8, e: Entry) -> bool
+    ensures { λ r. ⌜ r ≡ contentOk kind e ⌝ }
+{
+    match kind {
+        1 => both(e.version == 0, e.value == 0),
+        2 => true,
+        _ => {
+            if e.mode == 0 {
+                e.value == 0
+            } else {
+                e.version < 4294967295
+            }
+        }
+    }
+}
+
+// One more entry: its object is at least lo, and it is well formed.
+fn entry_fits(ok: bool, kind: u8, lo: usize, e: Entry) -> bool
+    ensures { λ r. ⌜ r ≡ (ok && (leb lo (e .object) && entryOk kind e)) ⌝ }
+{
+    let well = both(e.object < 64, both(e.mode < 2, content_ok(kind, e)));
+    both(ok, both(lo <= e.object as usize, well))
+}
+
+// A yield goes to its rival's owner.
+fn placed(kind: u8, rival: u8, to: u8) -> bool
+    ensures { λ r. ⌜ r ≡ (not (eqb kind 7) || eqb rival to) ⌝ }
+{
+    if kind == 7 { rival == to } else { true }
+}
+
+// One more rival: its owner is at least lo, and it is well formed.
+fn rival_fits(ok: bool, kind: u8, owner: u8, to: u8, lo: usize, r: Rival) -> bool
+    ensures { λ x. ⌜ x ≡ (ok && (leb lo (r .owner) && rivalOk kind owner to r)) ⌝ }
+{
+    let well = both(r.owner < 13, both(r.owner != owner, both(1 <= r.serial, placed(kind, r.owner, to))));
+    both(ok, both(lo <= r.owner as usize, well))
+}
+
+// One above an item's key.
+fn above(key: u8) -> usize
+    ensures { λ r. ⌜ r ≡ key + 1 ⌝ }
+{
+    key as usize + 1
+}
+
+// The entries ascend strictly, and each is well formed.
+fn entries_ok(s: &[u8], kind: u8, n: usize) -> bool
+    requires { ⌜ n < 256 ⌝ }
+    ensures { λ r. ⌜ r ≡ run objectOf (entryOk kind) 0 (itemsFrom entryAt entrySize n (now (s .entry)) entriesPlace) ⌝ }
+{
+    let mut ok = true;
+    let mut lo: usize = 0;
+    let mut at = HEADER + 1;
+    let mut left = n;
+    while 0 < left {
+        let e = entry_at(s, at);
+        ok = entry_fits(ok, kind, lo, e);
+        lo = above(e.object);
+        at = at + ENTRY;
+        left = left - 1;
+    }
+    ok
+}
+
+// The rivals from a place on ascend strictly, and each is well formed.
+fn rivals_ok(s: &[u8], kind: u8, owner: u8, to: u8, place: usize, n: usize) -> bool
+    requires { ⌜ (n < 256) × (place < 4096) ⌝ }
+    ensures { λ r. ⌜ r ≡ run ownerIn (rivalOk kind owner to) 0 (itemsFrom rivalAt rivalSize n (now (s .entry)) place) ⌝ }
+{
+    let mut ok = true;
+    let mut lo: usize = 0;
+    let mut at = place;
+    let mut left = n;
+    while 0 < left {
+        let r = rival_at(s, at);
+        ok = rival_fits(ok, kind, owner, to, lo, r);
+        lo = above(r.owner);
+        at = at + RIVAL;
+        left = left - 1;
+    }
+    ok
+}
+
+// The names of nodes, serial and stamp.
+fn names_ok(s: &[u8]) -> bool
+    ensures { λ r. ⌜ r ≡ namesOk (decode (now (s .entry))) ⌝ }
+{
+    both(from(s) < 13, both(to(s) < 13, both(owner(s) < 13, both(1 <= serial(s), 1 <= stamp(s)))))
+}
+
+// Odd kinds come from the owner, even ones go to it.
+fn direction_ok(s: &[u8]) -> bool
+    ensures { λ r. ⌜ r ≡ directionOk (decode (now (s .entry))) ⌝ }
+{
+    if kind(s) % 2 == 1 {
+        from(s) == owner(s)
+    } else {
+        to(s) == owner(s)
+    }
+}
+
+// The length is that of the sections, and the kind allows the counts.
+fn sized(s: &[u8]) -> bool
+    ensures { λ r. ⌜ r ≡ fittingSections (now (s .entry)) ⌝ }
+{
+    let n = entries(s);
+    let r = rivals(s);
+    let w = words(s);
+    both(s.len() == SHORTEST + ENTRY * n + RIVAL * r + w, counts_ok(kind(s), n, r, w, word(s)))
+}
+
+// A message without its length's number: sections first, so that the loops run over few items.
+fn is_accepted(s: &[u8]) -> bool
+    ensures { λ r. ⌜ r ≡ accepted (now (s .entry)) ⌝ }
+{
+    if sized(s) {
+        let listed = both(
+            entries_ok(s, kind(s), entries(s)),
+            rivals_ok(s, kind(s), owner(s), to(s), rivals_place(s), rivals(s)),
+        );
+        both(names_ok(s), both(direction_ok(s), listed))
+    } else {
+        false
+    }
+}
+
+// The number of a received message: 1 length, 3 garbled, 0 neither.
+// Ruled out: bytes left over accepted; a rival that is the owner accepted; 3 for a message of 14 bytes.
+pub fn check(s: &[u8]) -> u8
+    ensures { λ r. ⌜ r ≡ checkOf (now (s .entry)) ⌝ }
+{
+    if s.len() < SHORTEST {
+        return numbers::LENGTH;
+    }
+    if LONGEST < s.len() {
+        return numbers::LENGTH;
+    }
+    if is_accepted(s) {
+        0
+    } else {
+        numbers::GARBLED
+    }
+}
