@@ -171,7 +171,7 @@ put-out (suc k) l i v h =
     ap (λ (m : List ℕ). put k m (i + 1) (v / 256)) (set-out l i (v % 256) h) ∙ put-out k l (i + 1) (v / 256) (omega arith)
 
 -- only the bytes that are there count
-lt-or-le : (m n : ℕ) → (m < n) ⊎ (n ≤ m)
+pub lt-or-le : (m n : ℕ) → (m < n) ⊎ (n ≤ m)
 lt-or-le m n = by (ltb m n) refl
   where
     by : (b : Bool) → ltb m n ≡ b → (m < n) ⊎ (n ≤ m)

@@ -1,15 +1,13 @@
 -- The check's passes over the items are the clauses of `accepted`: how a list of items read from bytes unfolds, and how one pass splits into
 -- ascent and tests.
 use mathlib.Core.Path.{_≡_, refl, sym, ap, ap₂, _∙_}
-use mathlib.Core.Bool.{Bool, true, false, cond, _&&_, and-assoc, and-comm}
+use mathlib.Core.Bool.{Bool, true, false, cond, _&&_, and-assoc}
 use mathlib.Core.List.{List, [], _∷_, map}
 use Prim.Native.Nat.{ℕ, zero, suc, _+_, _-_, _≤_, _<_}
 use native.Mathlib.Omega.{arith}
 use lib.Dec.{eqb, ltb, leb}
 use borrow.Author.Tests.{lt-ltb}
 use lib.ListN.{length, getD}
-use Rattle.wire.specs.declared.Entry.{Entry}
-use Rattle.wire.specs.declared.Rival.{Rival}
 use Rattle.wire.specs.Formed.{countsOk, namesOk, directionOk, ascend, every, entryOk, rivalOk, entriesOk, rivalsOk, wellFormed}
 use Rattle.wire.specs.Encode.{entrySize, rivalSize, sizeWith}
 use Rattle.wire.specs.Decode.{kindOf, toOf, ownerOf, entryCount, entriesPlace, rivalCount, rivalsPlace, wordCount, wordsPlace}
@@ -25,7 +23,8 @@ module _ {A : Type 0} (at : List ℕ → ℕ → A) (size : ℕ) (l : List ℕ) 
 
   -- one turn, and the end, of a loop over items
   pub run-step : (key : A → ℕ) (ok : A → Bool) (lo n i : ℕ) → 0 < n
-      → run key ok lo (itemsFrom at size n l i) ≡ (leb lo (key (at l i)) && ok (at l i) && run key ok (key (at l i) + 1) (itemsFrom at size (n - 1) l (i + size)))
+      → run key ok lo (itemsFrom at size n l i) ≡
+      (leb lo (key (at l i)) && ok (at l i) && run key ok (key (at l i) + 1) (itemsFrom at size (n - 1) l (i + size)))
   unfolding run itemsFrom
   run-step key ok lo zero i h = absurd (let z : ⊥ = omega arith in z)
   run-step key ok lo (suc n) i h =

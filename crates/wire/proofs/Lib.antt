@@ -1,4 +1,9 @@
 -- Laws of messages.
 pub mod Made
 pub mod Accepted
+pub mod Stores
 pub mod RoundTrip
+pub mod ByOwner
+pub mod Theorems
+pub mod Sending
+pub mod Given

@@ -2,26 +2,21 @@
 use mathlib.Core.Path.{_≡_, refl, sym, ap, ap₂, _∙_}
 use mathlib.Core.List.{List, [], _∷_, _++_, append-assoc, append-nil}
 use Prim.Native.Nat.{ℕ, zero, suc, _+_, _*_, _^_, _≤_, _<_}
-use native.Mathlib.Nat.{add-zero}
 use native.Mathlib.Numerals.{add-one}
 use native.Mathlib.Omega.{arith}
-use lib.ListN.{length, getD, take, drop, length-append, take-append-drop}
+use lib.ListN.{length, getD, drop, length-append, take-append-drop}
 use lib.Seq.{drop-drop, drop-at, drop-cons, getD-drop, drop-length}
 use Rattle.octets.specs.Octets.{get, le}
 use Rattle.octets.proofs.Laws.{Bytes, length-le, get-drop, get-le, le-get}
 use Rattle.wire.specs.declared.Entry.{Entry}
 use Rattle.wire.specs.declared.Rival.{Rival}
 use Rattle.wire.specs.Message.{Message}
-use Rattle.wire.specs.Encode.{encodeEntry, encodeRival, together, section, encodeHeader, encode, entrySize, rivalSize, sizeOf}
+use Rattle.wire.specs.Encode.{encodeEntry, encodeRival, encodeWord, together, section, encodeHeader, encode, sizeOf}
 use Rattle.wire.specs.Encode.{All, EntryFits, RivalFits, Fits}
-use Rattle.wire.specs.Decode.{kindOf, entryCount, entriesPlace, rivalCount, rivalsPlace, wordCount, wordsPlace}
+use Rattle.wire.specs.Decode.{entryCount, entriesPlace, rivalCount, rivalsPlace, wordCount, wordsPlace}
 use Rattle.wire.specs.Decode.{entryAt, rivalAt, wordAt, itemsFrom, decode}
 use Rattle.wire.proofs.Made.{made-entry, made-rival, made-message}
 use Rattle.wire.proofs.Accepted.{length-items}
-
--- a word as a list of its one byte
-abbrev encodeWord : ℕ → List ℕ
-encodeWord w = w ∷ []
 
 -- ---- lengths
 pub length-entry : (e : Entry) → length (encodeEntry e) ≡ 14
@@ -32,13 +27,13 @@ pub length-rival : (r : Rival) → length (encodeRival r) ≡ 5
 unfolding encodeRival
 length-rival r = omega (arith, length-le 4 (r .serial))
 
-length-together : {A : Type 0} (enc : A → List ℕ) (size : ℕ) → ((x : A) → length (enc x) ≡ size) → (xs : List A)
+pub length-together : {A : Type 0} (enc : A → List ℕ) (size : ℕ) → ((x : A) → length (enc x) ≡ size) → (xs : List A)
     → length (together enc xs) ≡ size * length xs
 unfolding together
 length-together enc size f [] = omega arith
 length-together enc size f (x ∷ xs) = omega (arith, length-append (enc x) (together enc xs), f x, length-together enc size f xs)
 
-length-header : (m : Message) → length (encodeHeader m) ≡ 12
+pub length-header : (m : Message) → length (encodeHeader m) ≡ 12
 length-header m = omega (arith, length-append (le 4 (m .serial)) (le 4 (m .stamp)), length-le 4 (m .serial), length-le 4 (m .stamp))
 
 pub length-encode : (m : Message) → length (encode m) ≡ sizeOf m
@@ -47,10 +42,16 @@ length-encode m =
     let e = section encodeEntry (m .entries) in
     let r = section encodeRival (m .rivals) in
     let w = section encodeWord (m .words) in
-    omega
-    (arith, length-append (encodeHeader m) (e ++ (r ++ w)), length-append e (r ++ w), length-append r w, length-header m,
-    length-together encodeEntry 14 length-entry (m .entries), length-together encodeRival 5 length-rival (m .rivals),
-    length-together encodeWord 1 (λ x. refl) (m .words))
+    omega (
+      arith,
+      length-append (encodeHeader m) (e ++ (r ++ w)),
+      length-append e (r ++ w),
+      length-append r w,
+      length-header m,
+      length-together encodeEntry 14 length-entry (m .entries),
+      length-together encodeRival 5 length-rival (m .rivals),
+      length-together encodeWord 1 (λ x. refl) (m .words),
+    )
 
 -- ---- what stands at a place of a list
 module _ (l : List ℕ) where
@@ -144,7 +145,9 @@ module _ (m : Message) (f : Fits m) where
   at-rivals = next bytes 13 (14 * length (m .entries)) es tail2 (length-together encodeEntry 14 length-entry (m .entries)) at13
 
   count-rivals : rivalCount bytes ≡ length (m .rivals)
-  count-rivals = ap (λ (n : ℕ). getD bytes (13 + 14 * n) 0) count-entries ∙ byte-at bytes (13 + 14 * length (m .entries)) (length (m .rivals)) (rs ++ tail3) at-rivals
+  count-rivals =
+      ap (λ (n : ℕ). getD bytes (13 + 14 * n) 0) count-entries
+      ∙ byte-at bytes (13 + 14 * length (m .entries)) (length (m .rivals)) (rs ++ tail3) at-rivals
 
   place-rivals : rivalsPlace bytes ≡ 13 + 14 * length (m .entries) + 1
   place-rivals = ap (λ (n : ℕ). 13 + 14 * n + 1) count-entries
@@ -197,7 +200,8 @@ module _ (l : List ℕ) (b : Bytes l) where
   peel-items at enc size p zero i h = let z : i ≡ i + size * 0 = omega arith in ap (λ (j : ℕ). drop j l) z
   peel-items at enc size p (suc n) i h =
       let z : i + size + size * n ≡ i + size * suc n = omega arith in
-      p i (omega arith) ∙ ap (_++_ (enc (at l i))) (peel-items at enc size p n (i + size) (omega arith) ∙ ap (λ (j : ℕ). together enc (itemsFrom at size n l (i + size)) ++ drop j l) z)
+      p i (omega arith) ∙ ap (_++_ (enc (at l i))) (peel-items at enc size p n (i + size) (omega arith)
+      ∙ ap (λ (j : ℕ). together enc (itemsFrom at size n l (i + size)) ++ drop j l) z)
       ∙ sym (append-assoc (enc (at l i)) (together enc (itemsFrom at size n l (i + size))) (drop (i + size * suc n) l))
 
   peel-entry : Peels entryAt encodeEntry 14
@@ -241,8 +245,8 @@ module _ (l : List ℕ) (b : Bytes l) where
       let r = rivalCount l in
       let w = wordCount l in
       let size : length l ≡ 15 + 14 * n + 5 * r + w =
-          e ∙ ap₂ (λ (x : ℕ) (y : ℕ × ℕ). 15 + 14 * x + 5 * y .0 + y .1) (length-items entryAt 14 l n entriesPlace)
-          (ap₂ (λ (x y : ℕ). (x, y)) (length-items rivalAt 5 l r (rivalsPlace l)) (length-items wordAt 1 l w (wordsPlace l))) in
+      e ∙ ap₂ (λ (x : ℕ) (y : ℕ × ℕ). 15 + 14 * x + 5 * y .0 + y .1) (length-items entryAt 14 l n entriesPlace)
+      (ap₂ (λ (x y : ℕ). (x, y)) (length-items rivalAt 5 l r (rivalsPlace l)) (length-items wordAt 1 l w (wordsPlace l))) in
       let es = section encodeEntry (itemsFrom entryAt 14 n l 13) in
       let rs = section encodeRival (itemsFrom rivalAt 5 r l (rivalsPlace l)) in
       let ws = section encodeWord (itemsFrom wordAt 1 w l (wordsPlace l)) in
@@ -250,13 +254,13 @@ module _ (l : List ℕ) (b : Bytes l) where
       let s8 = le 4 (get 4 l 8) in
       let z : wordsPlace l + 1 * w ≡ length l = omega arith in
       let p3 : drop (rivalsPlace l + 5 * r) l ≡ ws =
-          peel-section wordAt encodeWord 1 peel-word (rivalsPlace l + 5 * r) (omega arith)
-          ∙ ap (λ (j : ℕ). ws ++ drop j l) z ∙ ap (_++_ ws) (drop-length l) ∙ append-nil ws in
+      peel-section wordAt encodeWord 1 peel-word (rivalsPlace l + 5 * r) (omega arith)
+      ∙ ap (λ (j : ℕ). ws ++ drop j l) z ∙ ap (_++_ ws) (drop-length l) ∙ append-nil ws in
       let p2 : drop (13 + 14 * n) l ≡ rs ++ ws =
-          peel-section rivalAt encodeRival 5 peel-rival (13 + 14 * n) (omega arith) ∙ ap (_++_ rs) p3 in
+      peel-section rivalAt encodeRival 5 peel-rival (13 + 14 * n) (omega arith) ∙ ap (_++_ rs) p3 in
       let p1 : drop 12 l ≡ es ++ (rs ++ ws) = peel-section entryAt encodeEntry 14 peel-entry 12 (omega arith) ∙ ap (_++_ es) p2 in
       let p0 : drop 4 l ≡ (s4 ++ s8) ++ (es ++ (rs ++ ws)) =
-          peel-number 4 4 (omega arith) ∙ ap (_++_ s4) (peel-number 4 8 (omega arith) ∙ ap (_++_ s8) p1) ∙ sym (append-assoc s4 s8 (es ++ (rs ++ ws))) in
+      peel-number 4 4 (omega arith) ∙ ap (_++_ s4) (peel-number 4 8 (omega arith) ∙ ap (_++_ s8) p1) ∙ sym (append-assoc s4 s8 (es ++ (rs ++ ws))) in
       sym
       (peel-byte 0 (omega arith)
       ∙ ap (_∷_ (getD l 0 0))

@@ -25,6 +25,9 @@ encodeEntry e = e .object ∷ e .mode ∷ le 4 (e .version) ++ le 8 (e .value)
 unfoldable pub encodeRival : Rival → List ℕ
 encodeRival r = r .owner ∷ le 4 (r .serial)
 
+abbrev pub encodeWord : ℕ → List ℕ
+encodeWord w = w ∷ []
+
 -- the items one after the other
 unfoldable pub together : {A : Type 0} → (A → List ℕ) → List A → List ℕ
 together f [] = []
@@ -37,7 +40,7 @@ abbrev pub encodeHeader : Message → List ℕ
 encodeHeader m = m .kind ∷ m .from ∷ m .to ∷ m .owner ∷ le 4 (m .serial) ++ le 4 (m .stamp)
 
 unfoldable pub encode : Message → List ℕ
-encode m = encodeHeader m ++ (section encodeEntry (m .entries) ++ (section encodeRival (m .rivals) ++ section (λ (w : ℕ). w ∷ []) (m .words)))
+encode m = encodeHeader m ++ (section encodeEntry (m .entries) ++ (section encodeRival (m .rivals) ++ section encodeWord (m .words)))
 
 -- how long that is
 abbrev pub sizeWith : ℕ → ℕ → ℕ → ℕ

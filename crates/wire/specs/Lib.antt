@@ -6,3 +6,5 @@ pub mod Encode
 pub mod Decode
 pub mod Items
 pub mod Run
+pub mod Write
+pub mod Compose

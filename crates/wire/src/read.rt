@@ -5,7 +5,11 @@ ghost use lib.ListN.{getD};
 ghost use Rattle.wire.specs.Decode.{kindOf, fromOf, toOf, ownerOf, serialOf, stampOf};
 ghost use Rattle.wire.specs.Decode.{entryCount, rivalCount, rivalsPlace, wordCount, wordsPlace, entryAt, rivalAt};
 ghost use Rattle.wire.specs.Items.{entryOf, rivalOf, wordOf};
-use crate::{Entry, Rival, ENTRY, HEADER, RIVAL};
+use crate::ENTRY;
+use crate::Entry;
+use crate::HEADER;
+use crate::RIVAL;
+use crate::Rival;
 
 // The header. Each field rules out, among others: its neighbour's bytes; its bytes high end first.
 pub fn kind(s: &[u8]) -> u8

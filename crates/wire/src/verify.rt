@@ -7,8 +7,26 @@ ghost use Rattle.wire.specs.Formed.{countsOk, namesOk, directionOk, cont
 ghost use Rattle.wire.specs.Encode.{entrySize, rivalSize};
 ghost use Rattle.wire.specs.Decode.{entryAt, rivalAt, itemsFrom, entriesPlace, decode, accepted, checkOf};
 ghost use Rattle.wire.specs.Run.{run, objectOf, ownerIn, fittingSections};
-use crate::read::{entries, entry_at, from, kind, owner, rival_at, rivals, rivals_place, serial, stamp, to, word, words};
-use crate::{Entry, Rival, ENTRY, HEADER, LONGEST, RIVAL, SHORTEST};
+use crate::ENTRY;
+use crate::Entry;
+use crate::HEADER;
+use crate::LONGEST;
+use crate::RIVAL;
+use crate::Rival;
+use crate::SHORTEST;
+use crate::read::entries;
+use crate::read::entry_at;
+use crate::read::from;
+use crate::read::kind;
+use crate::read::owner;
+use crate::read::rival_at;
+use crate::read::rivals;
+use crate::read::rivals_place;
+use crate::read::serial;
+use crate::read::stamp;
+use crate::read::to;
+use crate::read::word;
+use crate::read::words;
 
 // Both tests hold.
 fn both(a: bool, b: bool) -> bool
@@ -111,7 +129,13 @@ fn placed(kind: u8, rival: u8, to: u8) -> bool
 fn rival_fits(ok: bool, kind: u8, owner: u8, to: u8, lo: usize, r: Rival) -> bool
     ensures { λ x. ⌜ x ≡ (ok && (leb lo (r .owner) && rivalOk kind owner to r)) ⌝ }
 {
-    let well = both(r.owner < 13, both(r.owner != owner, both(1 <= r.serial, placed(kind, r.owner, to))));
+    let well = both(
+        r.owner < 13,
+        both(
+            r.owner != owner,
+            both(1 <= r.serial, placed(kind, r.owner, to)),
+        ),
+    );
     both(ok, both(lo <= r.owner as usize, well))
 }
 
@@ -164,7 +188,13 @@ fn rivals_ok(s: &[u8], kind: u8, owner: u8, to: u8, place: usize, n: usize) -> b
 fn names_ok(s: &[u8]) -> bool
     ensures { λ r. ⌜ r ≡ namesOk (decode (now (s .entry))) ⌝ }
 {
-    both(from(s) < 13, both(to(s) < 13, both(owner(s) < 13, both(1 <= serial(s), 1 <= stamp(s)))))
+    both(
+        from(s) < 13,
+        both(
+            to(s) < 13,
+            both(owner(s) < 13, both(1 <= serial(s), 1 <= stamp(s))),
+        ),
+    )
 }
 
 // Odd kinds come from the owner, even ones go to it.
@@ -185,11 +215,14 @@ fn sized(s: &[u8]) -> bool
     let n = entries(s);
     let r = rivals(s);
     let w = words(s);
-    both(s.len() == SHORTEST + ENTRY * n + RIVAL * r + w, counts_ok(kind(s), n, r, w, word(s)))
+    both(
+        s.len() == SHORTEST + ENTRY * n + RIVAL * r + w,
+        counts_ok(kind(s), n, r, w, word(s)),
+    )
 }
 
 // A message without its length's number: sections first, so that the loops run over few items.
-fn is_accepted(s: &[u8]) -> bool
+pub(crate) fn is_accepted(s: &[u8]) -> bool
     ensures { λ r. ⌜ r ≡ accepted (now (s .entry)) ⌝ }
 {
     if sized(s) {
@@ -214,9 +247,5 @@ pub fn check(s: &[u8]) -> u8
     if LONGEST < s.len() {
         return numbers::LENGTH;
     }
-    if is_accepted(s) {
-        0
-    } else {
-        numbers::GARBLED
-    }
+    if is_accepted(s) { 0 } else { numbers::GARBLED }
 }

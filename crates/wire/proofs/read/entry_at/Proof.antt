@@ -4,11 +4,6 @@ use Rattle.wire.specs.Decode.{entryAt}
 use borrow.Author.Needs.{needs}
 use Rattle.wire.proofs.read.entry_at.Statement.{statement}
 use Rattle.wire.proofs.read.entry_at.Tie as tie
-use Rattle.wire.proofs.read.entry_at.Reads as reads
-use Rattle.wire.proofs.read.entry_at.Lts as lts
-use Rattle.octets.proofs.get_u32.Reads as get-u32-reads
-use Rattle.octets.proofs.get_u64.Reads as get-u64-reads
-use Rattle.octets.proofs.get_u8.Reads as get-u8-reads
 
 get-u8-requires : tie.Need-get-u8-requires
 get-u8-requires c κs = search needs

@@ -3,10 +3,6 @@ use borrow.Author.Tests.{lt-ltb, le-ltb}
 use borrow.Author.Needs.{needs}
 use Rattle.wire.proofs.read.nth_entry.Statement.{statement}
 use Rattle.wire.proofs.read.nth_entry.Tie as tie
-use Rattle.wire.proofs.read.nth_entry.Reads as reads
-use Rattle.wire.proofs.read.nth_entry.Lts as lts
-use Rattle.wire.proofs.read.entries.Reads as entries-reads
-use Rattle.wire.proofs.read.entry_at.Reads as entry-at-reads
 
 entries-requires : tie.Need-entries-requires
 entries-requires c κs = search needs

@@ -3,11 +3,6 @@ use borrow.Author.Tests.{lt-ltb, le-ltb}
 use borrow.Author.Needs.{needs}
 use Rattle.wire.proofs.read.nth_rival.Statement.{statement}
 use Rattle.wire.proofs.read.nth_rival.Tie as tie
-use Rattle.wire.proofs.read.nth_rival.Reads as reads
-use Rattle.wire.proofs.read.nth_rival.Lts as lts
-use Rattle.wire.proofs.read.rival_at.Reads as rival-at-reads
-use Rattle.wire.proofs.read.rivals.Reads as rivals-reads
-use Rattle.wire.proofs.read.rivals_place.Reads as rivals-place-reads
 
 rivals-requires : tie.Need-rivals-requires
 rivals-requires c κs = search needs
@@ -25,7 +20,8 @@ rival-at-requires : tie.Need-rival-at-requires
 rival-at-requires c κs = search needs
 
 returns : tie.Need-returns
-returns c = simp (lt-ltb _ _ (rw (c .before .before .before .rivals .ensures .0) at (c .before .before .if1 .taken))) (rw (c .before .rivals-place .ensures .0) at (c .rival-at .ensures))
+returns c = simp (lt-ltb _ _ (rw (c .before .before .before .rivals .ensures .0) at (c .before .before .if1 .taken)))
+    (rw (c .before .rivals-place .ensures .0) at (c .rival-at .ensures))
 
 returns-2 : tie.Need-returns-2
 returns-2 c = simp (le-ltb _ _ (rw (c .before .rivals .ensures .0) at (c .if1 .left)))

@@ -2,10 +2,6 @@
 use borrow.Author.Needs.{needs}
 use Rattle.wire.proofs.read.rivals.Statement.{statement}
 use Rattle.wire.proofs.read.rivals.Tie as tie
-use Rattle.wire.proofs.read.rivals.Reads as reads
-use Rattle.wire.proofs.read.rivals.Lts as lts
-use Rattle.wire.proofs.read.count_at.Reads as count-at-reads
-use Rattle.wire.proofs.read.entries.Reads as entries-reads
 
 add-count-at : tie.Need-add-count-at
 add-count-at c = search needs

@@ -3,11 +3,6 @@ use borrow.Author.Tests.{lt-ltb, le-ltb}
 use borrow.Author.Needs.{needs}
 use Rattle.wire.proofs.read.word.Statement.{statement}
 use Rattle.wire.proofs.read.word.Tie as tie
-use Rattle.wire.proofs.read.word.Reads as reads
-use Rattle.wire.proofs.read.word.Lts as lts
-use Rattle.octets.proofs.get_u8.Reads as get-u8-reads
-use Rattle.wire.proofs.read.words.Reads as words-reads
-use Rattle.wire.proofs.read.words_place.Reads as words-place-reads
 
 words-requires : tie.Need-words-requires
 words-requires c κs = search needs
@@ -19,7 +14,8 @@ get-u8-requires : tie.Need-get-u8-requires
 get-u8-requires c κs = search needs
 
 returns : tie.Need-returns
-returns c = simp (lt-ltb _ _ (rw (c .before .before .before .words .ensures .0) at (c .before .before .if1 .taken))) (rw (c .before .words-place .ensures .0) at (c .get-u8 .ensures))
+returns c = simp (lt-ltb _ _ (rw (c .before .before .before .words .ensures .0) at (c .before .before .if1 .taken)))
+    (rw (c .before .words-place .ensures .0) at (c .get-u8 .ensures))
 
 returns-2 : tie.Need-returns-2
 returns-2 c = simp (le-ltb _ _ (rw (c .before .words .ensures .0) at (c .if1 .left)))

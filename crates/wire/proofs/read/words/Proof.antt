@@ -2,11 +2,6 @@
 use borrow.Author.Needs.{needs}
 use Rattle.wire.proofs.read.words.Statement.{statement}
 use Rattle.wire.proofs.read.words.Tie as tie
-use Rattle.wire.proofs.read.words.Reads as reads
-use Rattle.wire.proofs.read.words.Lts as lts
-use Rattle.wire.proofs.read.count_at.Reads as count-at-reads
-use Rattle.wire.proofs.read.rivals.Reads as rivals-reads
-use Rattle.wire.proofs.read.rivals_place.Reads as rivals-place-reads
 
 rivals-place-requires : tie.Need-rivals-place-requires
 rivals-place-requires c κs = search needs

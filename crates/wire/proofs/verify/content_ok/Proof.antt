@@ -1,5 +1,5 @@
 -- `wire::verify::content_ok`: by the kind, then by the mode.
-use borrow.Author.Tests.{eq-eqb, ne-eqb, le-leb, lt-leb, lt-ltb, le-ltb}
+use borrow.Author.Tests.{eq-eqb, ne-eqb}
 use borrow.Author.Needs.{needs}
 use Rattle.wire.proofs.verify.content_ok.Statement.{statement}
 use Rattle.wire.proofs.verify.content_ok.Tie as tie

@@ -1,5 +1,5 @@
 -- `wire::verify::counts_ok`: by the kind, then by the range of the count that varies.
-use borrow.Author.Tests.{eq-eqb, ne-eqb, le-leb, lt-leb, lt-ltb, le-ltb}
+use borrow.Author.Tests.{ne-eqb, le-leb, lt-leb}
 use native.Mathlib.Nat.{le-of-suc-le-suc}
 use Rattle.wire.specs.Formed.{countsOk}
 use borrow.Author.Needs.{needs}
@@ -30,9 +30,12 @@ both-requires-5 c κs = search needs
 returns : tie.Need-returns
 unfolding countsOk
 returns c =
-    simp
-    (c .both .ensures, c .before .before .before .match .keys1, le-leb 1 _ (c .before .before .if1 .left),
-    le-leb _ 8 (le-of-suc-le-suc (c .before .if2 .taken)))
+    simp (
+      c .both .ensures,
+      c .before .before .before .match .keys1,
+      le-leb 1 _ (c .before .before .if1 .left),
+      le-leb _ 8 (le-of-suc-le-suc (c .before .if2 .taken)),
+    )
 
 returns-2 : tie.Need-returns-2
 unfolding countsOk
@@ -63,9 +66,12 @@ returns-8 c = simp (c .before .match .keys5, ne-eqb _ 1 (c .match2 .rest .1))
 returns-9 : tie.Need-returns-9
 unfolding countsOk
 returns-9 c =
-    simp
-    (c .both5 .ensures, c .before .match3 .keys1, le-leb 1 _ (c .before .before .before .if3 .left),
-    le-leb _ 2 (le-of-suc-le-suc (c .before .before .if4 .taken)))
+    simp (
+      c .both5 .ensures,
+      c .before .match3 .keys1,
+      le-leb 1 _ (c .before .before .before .if3 .left),
+      le-leb _ 2 (le-of-suc-le-suc (c .before .before .if4 .taken)),
+    )
 
 returns-10 : tie.Need-returns-10
 unfolding countsOk
@@ -77,15 +83,30 @@ returns-11 : tie.Need-returns-11
 unfolding countsOk
 returns-11 c =
     let ne = c .before .match .rest in
-    simp
-    (lt-leb 1 _ (c .if3 .taken), ne-eqb _ 3 (ne .0 .0 .0 .0 .1), ne-eqb _ 4 (ne .0 .0 .0 .1), ne-eqb _ 5 (ne .0 .0 .1), ne-eqb _ 6 (ne .0 .1), ne-eqb _ 7 (ne .1))
+    simp (
+      lt-leb 1 _ (c .if3 .taken),
+      ne-eqb _ 3 (ne .0 .0 .0 .0 .1),
+      ne-eqb _ 4 (ne .0 .0 .0 .1),
+      ne-eqb _ 5
+          (ne .0 .0 .1),
+      ne-eqb _ 6 (ne .0 .1),
+      ne-eqb _ 7 (ne .1),
+    )
 
 returns-12 : tie.Need-returns-12
 unfolding countsOk
 returns-12 c =
     let ne = c .before .before .match .rest in
-    simp
-    (lt-leb _ 2 (c .if4 .left), le-leb 1 _ (c .before .if3 .left), ne-eqb _ 3 (ne .0 .0 .0 .0 .1), ne-eqb _ 4 (ne .0 .0 .0 .1), ne-eqb _ 5 (ne .0 .0 .1), ne-eqb _ 6 (ne .0 .1), ne-eqb _ 7 (ne .1))
+    simp (
+      lt-leb _ 2 (c .if4 .left),
+      le-leb 1 _ (c .before .if3 .left),
+      ne-eqb _ 3 (ne .0 .0 .0 .0 .1),
+      ne-eqb _ 4
+          (ne .0 .0 .0 .1),
+      ne-eqb _ 5 (ne .0 .0 .1),
+      ne-eqb _ 6 (ne .0 .1),
+      ne-eqb _ 7 (ne .1),
+    )
 
 pub counts-ok-spec : {M : Type 1} → statement M
 counts-ok-spec =

@@ -48,16 +48,18 @@ loop-less c = omega arith
 loop-again : tie.Need-loop-again Inv-loop μ-loop
 loop-again c =
     let l = c .before .before .before .before .loop in
-    let x = c .before .before .before .before .before .before .args in
-    (omega arith,
-    run-again entryAt 14 (now (x .s)) objectOf (entryOk (x .kind)) (l .lo) (l .left) (l .at) (l .ok) _ _ _ _ (c .before .before .entry-at .ensures)
-    (c .before .entry-fits .ensures) (c .above .ensures) (c .before .before .before .loop-test .taken) (l .inv .1))
+    let x = c .before .before .before .before .before .before .args in (
+      omega arith,
+      run-again entryAt 14 (now (x .s)) objectOf (entryOk (x .kind)) (l .lo) (l .left) (l .at) (l .ok) _ _ _ _ (c .before .before .entry-at .ensures)
+          (c .before .entry-fits .ensures) (c .above .ensures) (c .before .before .before .loop-test .taken) (l .inv .1),
+    )
 
 returns : tie.Need-returns Inv-loop μ-loop
 returns c =
     let l = c .before .loop in
     let x = c .before .before .before .args in
-    sym (and-true (l .ok)) ∙ ap (_&&_ (l .ok)) (sym (run-end entryAt 14 (now (x .s)) objectOf (entryOk (x .kind)) (l .lo) (l .left) (l .at) (c .loop-test .left)))
+    sym (and-true (l .ok)) ∙ ap (_&&_ (l .ok))
+    (sym (run-end entryAt 14 (now (x .s)) objectOf (entryOk (x .kind)) (l .lo) (l .left) (l .at) (c .loop-test .left)))
     ∙ l .inv .1
 
 pub entries-ok-spec : {M : Type 1} → statement M

@@ -25,9 +25,13 @@ both-requires-4 c κs = search needs
 returns : tie.Need-returns
 unfolding entryOk
 returns c =
-    simp
-    (c .both4 .ensures, c .before .both3 .ensures, c .before .before .before .both2 .ensures,
-    c .before .before .before .before .both .ensures, c .before .before .before .before .before .content-ok .ensures)
+    simp (
+      c .both4 .ensures,
+      c .before .both3 .ensures,
+      c .before .before .before .both2 .ensures,
+      c .before .before .before .before .both .ensures,
+      c .before .before .before .before .before .content-ok .ensures,
+    )
 
 pub entry-fits-spec : {M : Type 1} → statement M
 entry-fits-spec =

@@ -58,8 +58,13 @@ returns c =
     let d = k .before .before .before in
     let l = now (d .before .before .before .before .args .s) in
     let e = rw (d .kind .ensures, k .before .before .entries .ensures .0) at (k .before .entries-ok .ensures) in
-    let r = rw (k .kind2 .ensures, b .before .before .before .before .owner .ensures, b .before .before .before .to .ensures,
-        b .before .before .rivals-place .ensures .0, b .before .rivals .ensures .0) at (b .rivals-ok .ensures) in
+    let r = rw (
+      k .kind2 .ensures,
+      b .before .before .before .before .owner .ensures,
+      b .before .before .before .to .ensures,
+      b .before .before .rivals-place .ensures .0,
+      b .before .rivals .ensures .0,
+    ) at (b .rivals-ok .ensures) in
     simp (c .both3 .ensures, c .before .both2 .ensures, c .before .before .before .before .both .ensures)
     (accepted-when l _ _ _ _ (sym (d .before .before .sized .ensures) ∙ d .before .if1 .taken) (c .before .before .before .names-ok .ensures)
     (c .before .before .direction-ok .ensures) e r)

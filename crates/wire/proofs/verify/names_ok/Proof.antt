@@ -35,10 +35,17 @@ returns : tie.Need-returns
 unfolding decode
 returns c =
     let b = c .before .before .before .before in
-    simp
-    (c .both4 .ensures, c .before .both3 .ensures, c .before .before .both2 .ensures, c .before .before .before .both .ensures, b .stamp .ensures,
-    b .before .serial .ensures, b .before .before .owner .ensures, b .before .before .before .to .ensures,
-    b .before .before .before .before .from .ensures)
+    simp (
+      c .both4 .ensures,
+      c .before .both3 .ensures,
+      c .before .before .both2 .ensures,
+      c .before .before .before .both .ensures,
+      b .stamp .ensures,
+      b .before .serial .ensures,
+      b .before .before .owner .ensures,
+      b .before .before .before .to .ensures,
+      b .before .before .before .before .from .ensures,
+    )
 
 pub names-ok-spec : {M : Type 1} → statement M
 names-ok-spec =

@@ -1,5 +1,5 @@
 -- `wire::verify::outcome_counts`: by the word, then by the range of the entries.
-use borrow.Author.Tests.{eq-eqb, ne-eqb, le-leb, lt-leb, lt-ltb, le-ltb}
+use borrow.Author.Tests.{ne-eqb, le-leb, lt-leb}
 use native.Mathlib.Nat.{le-of-suc-le-suc}
 use Rattle.wire.specs.Formed.{countsOk}
 use borrow.Author.Needs.{needs}
@@ -19,9 +19,12 @@ returns c = simp (c .both2 .ensures, c .before .before .both .ensures, c .before
 returns-2 : tie.Need-returns-2
 unfolding countsOk
 returns-2 c =
-    simp
-    (c .before .before .before .both .ensures, c .before .before .match .keys2, le-leb 1 _ (c .before .if1 .left),
-    le-leb _ 8 (le-of-suc-le-suc (c .if2 .taken)))
+    simp (
+      c .before .before .before .both .ensures,
+      c .before .before .match .keys2,
+      le-leb 1 _ (c .before .if1 .left),
+      le-leb _ 8 (le-of-suc-le-suc (c .if2 .taken)),
+    )
 
 returns-3 : tie.Need-returns-3
 unfolding countsOk

@@ -28,9 +28,14 @@ both-requires-5 c κs = search needs
 returns : tie.Need-returns
 unfolding rivalOk
 returns c =
-    simp
-    (c .both5 .ensures, c .before .both4 .ensures, c .before .before .before .both3 .ensures, c .before .before .before .before .both2 .ensures,
-    c .before .before .before .before .before .both .ensures, c .before .before .before .before .before .before .placed .ensures)
+    simp (
+      c .both5 .ensures,
+      c .before .both4 .ensures,
+      c .before .before .before .both3 .ensures,
+      c .before .before .before .before .both2 .ensures,
+      c .before .before .before .before .before .both .ensures,
+      c .before .before .before .before .before .before .placed .ensures,
+    )
 
 pub rival-fits-spec : {M : Type 1} → statement M
 rival-fits-spec =

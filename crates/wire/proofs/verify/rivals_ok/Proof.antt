@@ -45,16 +45,19 @@ loop-less c = omega arith
 loop-again : tie.Need-loop-again Inv-loop μ-loop
 loop-again c =
     let l = c .before .before .before .before .loop in
-    let x = c .before .before .before .before .before .before .args in
-    (omega arith,
-    run-again rivalAt 5 (now (x .s)) ownerIn (rivalOk (x .kind) (x .owner) (x .to)) (l .lo) (l .left) (l .at) (l .ok) _ _ _ _ (c .before .before .rival-at .ensures)
-    (c .before .rival-fits .ensures) (c .above .ensures) (c .before .before .before .loop-test .taken) (l .inv .1))
+    let x = c .before .before .before .before .before .before .args in (
+      omega arith,
+      run-again rivalAt 5 (now (x .s)) ownerIn (rivalOk (x .kind) (x .owner) (x .to)) (l .lo) (l .left) (l .at)
+          (l .ok) _ _ _ _ (c .before .before .rival-at .ensures)
+          (c .before .rival-fits .ensures) (c .above .ensures) (c .before .before .before .loop-test .taken) (l .inv .1),
+    )
 
 returns : tie.Need-returns Inv-loop μ-loop
 returns c =
     let l = c .before .loop in
     let x = c .before .before .before .args in
-    sym (and-true (l .ok)) ∙ ap (_&&_ (l .ok)) (sym (run-end rivalAt 5 (now (x .s)) ownerIn (rivalOk (x .kind) (x .owner) (x .to)) (l .lo) (l .left) (l .at) (c .loop-test .left)))
+    sym (and-true (l .ok)) ∙ ap (_&&_ (l .ok))
+    (sym (run-end rivalAt 5 (now (x .s)) ownerIn (rivalOk (x .kind) (x .owner) (x .to)) (l .lo) (l .left) (l .at) (c .loop-test .left)))
     ∙ l .inv .1
 
 pub rivals-ok-spec : {M : Type 1} → statement M

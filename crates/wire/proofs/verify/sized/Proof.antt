@@ -42,9 +42,15 @@ both-requires c κs = search needs
 returns : tie.Need-returns
 returns c =
     let b = c .before .before .before .before in
-    simp
-    (c .both .ensures, c .before .counts-ok .ensures, c .before .before .word .ensures, c .before .before .before .kind .ensures, b .words .ensures .0,
-    b .before .rivals .ensures .0, b .before .before .entries .ensures .0)
+    simp (
+      c .both .ensures,
+      c .before .counts-ok .ensures,
+      c .before .before .word .ensures,
+      c .before .before .before .kind .ensures,
+      b .words .ensures .0,
+      b .before .rivals .ensures .0,
+      b .before .before .entries .ensures .0,
+    )
 
 pub sized-spec : {M : Type 1} → statement M
 sized-spec =

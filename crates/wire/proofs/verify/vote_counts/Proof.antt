@@ -1,5 +1,5 @@
 -- `wire::verify::vote_counts`: by the word, then by the range of the rivals.
-use borrow.Author.Tests.{eq-eqb, ne-eqb, le-leb, lt-leb, lt-ltb, le-ltb}
+use borrow.Author.Tests.{ne-eqb, le-leb, lt-leb}
 use native.Mathlib.Nat.{le-of-suc-le-suc}
 use Rattle.wire.specs.Formed.{countsOk}
 use borrow.Author.Needs.{needs}

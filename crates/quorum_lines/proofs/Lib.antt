@@ -1,0 +1,2 @@
+-- Lemmas that the proofs of several needs share.
+pub mod Feeding

@@ -1,0 +1,385 @@
+-- Which lines are good: exactly the texts of a mask and thirteen distances in range, with one space before each distance.
+-- The idea: one way by reading the digits of each text; the other by what is known of the bytes behind a line that is not spoilt. Assumes nothing.
+use Prim.Native.Nat.{ℕ, zero, suc, _+_, _*_, _-_, _/_, _%_, _^_, _≤_, _<_}
+use native.Mathlib.Numerals.{add-one}
+use native.Mathlib.Omega.{arith}
+use mathlib.Core.Path.{_≡_, refl, sym, ap, subst, _∙_}
+use mathlib.Core.Bool.{Bool, true, false, cond, not, _&&_}
+use mathlib.Core.Logic.{⊎-elim}
+use mathlib.Core.List.{List, [], _∷_, _++_, append-assoc, append-nil}
+use lib.Dec.{eqb, ltb, leb}
+use lib.ListN.{length, take, set, replicate, length-append, length-set}
+use lib.Seq.{set-at, append-snoc, take-suc-set, take-all}
+use borrow.Author.Tests.{eq-eqb, ne-eqb, lt-ltb, le-leb, eqb-true, eqb-false, ltb-true, leb-true, not-true}
+use Rattle.decimal.specs.Decimal.{digits, decimal}
+use Rattle.decimal.specs.Laws.{digits-one, digits-more, tenth, one-more, less-or-not, decimal-digit, decimal-more}
+use Rattle.quorum_lines.specs.declared.Line.{Line}
+use Rattle.quorum_lines.specs.Line.{Good, Bad, fresh, most, spoil, keep, space, mayFollow, more, digit, stepOn, step, readFrom, isGood, ended, reading}
+use Rattle.quorum_lines.specs.Laws.{true-false, and-left, and-right}
+use Rattle.quorum_lines.specs.Pieces.{read-append}
+
+-- distances, each behind one space
+unfoldable pub spaced : List ℕ → List ℕ
+spaced [] = []
+spaced (d ∷ ds) = (32 ∷ []) ++ decimal d ++ spaced ds
+
+-- the text of a mask and distances
+unfoldable pub lineText : ℕ → List ℕ → List ℕ
+lineText live ds = decimal live ++ spaced ds
+
+-- every distance is at most 65,535
+abbrev pub Small : List ℕ → Type 0
+Small [] = Unit {0}
+Small (d ∷ ds) = (d ≤ 65535) × Small ds
+
+-- a mask and distances in range
+pub record InRange (live : ℕ) (ds : List ℕ) : Type 0 where
+  pub mask : live ≤ 8191
+  pub thirteen : length ds ≡ 13
+  pub small : Small ds
+
+-- a line after k numbers: before the next, and within it at v
+abbrev blank : ℕ → ℕ → List ℕ → Line
+blank k live ds = record { count = k; digits = false; value = 0; spoilt = false; live = live; distances = ds }
+
+abbrev number : ℕ → ℕ → ℕ → List ℕ → Line
+number k v live ds = record { count = k; digits = true; value = v; spoilt = false; live = live; distances = ds }
+
+-- a digit of a line that is not bad
+step-digit : (s : Line) (d : ℕ) → s .spoilt ≡ false → d < 10 → mayFollow s d ≡ true → step s (48 + d) ≡ more s d
+unfolding step stepOn digit
+step-digit s d p h e =
+    let z : 48 + d - 48 ≡ d = omega arith in
+    ap (λ (t : Bool). cond t s (stepOn s (48 + d))) p
+    ∙ ap (λ (t : Bool). cond t (space s) (cond (leb 48 (48 + d) && leb (48 + d) 57) (digit s (48 + d - 48)) (spoil s)))
+    (ne-eqb (48 + d) 32 (λ q. omega arith))
+    ∙ (λ j. cond (le-leb 48 (48 + d) (omega arith) j && le-leb (48 + d) 57 (omega arith) j) (digit s (z j)) (spoil s))
+    ∙ ap (λ (t : Bool). cond t (more s d) (spoil s)) e
+
+-- the digits of a number that is small enough
+read-digits : (k n c live : ℕ) (ds : List ℕ) → 0 < k → n < 10 ^ k → n ≤ most c → readFrom (blank c live ds) (digits k n) ≡ number c n live ds
+unfolding readFrom more mayFollow
+read-digits zero n c live ds p h m = absurd (omega arith)
+read-digits (suc k) n c live ds p h m =
+    ⊎-elim
+    (λ i.
+    let e : 0 * 10 + n ≡ n = omega arith in
+    ap (readFrom (blank c live ds)) (digits-one k n i)
+    ∙ step-digit (blank c live ds) n refl i (ap (λ (t : Bool). t && true) (le-leb (0 * 10 + n) (most c) (omega arith)))
+    ∙ ap (λ (v : ℕ). number c v live ds) e)
+    (λ i.
+    let e : n / 10 * 10 + n % 10 ≡ n = omega arith in
+    let q : n / 10 ≤ most c = omega arith in
+    ap (readFrom (blank c live ds)) (digits-more k n i)
+    ∙ read-append (blank c live ds) (digits k (n / 10)) ((48 + n % 10) ∷ [])
+    ∙ ap (λ (s : Line). step s (48 + n % 10)) (read-digits k (n / 10) c live ds (one-more k n h i) (tenth k n h) q)
+    ∙ step-digit (number c (n / 10) live ds) (n % 10) refl (omega arith)
+    (λ j. le-leb (n / 10 * 10 + n % 10) (most c) (omega arith) j && not (ne-eqb (n / 10) 0 (λ z. omega arith) j))
+    ∙ ap (λ (v : ℕ). number c v live ds) e)
+    (less-or-not n 10)
+
+-- no number is larger than 65,535
+most-small : (c : ℕ) → most c ≤ 65535
+unfolding most
+most-small c = from (eqb c 0)
+  where
+    from : (t : Bool) → cond t 8191 65535 ≤ 65535
+    from true = omega arith
+    from false = omega arith
+
+most-first : most 0 ≡ 8191
+unfolding most
+most-first = refl
+
+most-later : (j : ℕ) → most (j + 1) ≡ 65535
+unfolding most
+most-later j = ap (λ (t : Bool). cond t 8191 65535) (ne-eqb (j + 1) 0 (λ z. omega arith))
+
+read-decimal : (n c live : ℕ) (ds : List ℕ) → n ≤ most c → readFrom (blank c live ds) (decimal n) ≡ number c n live ds
+unfolding decimal
+read-decimal n c live ds m = read-digits 20 n c live ds (omega arith) (omega (arith, most-small c)) m
+
+-- a space behind a number that is not the last
+step-space : (k v live : ℕ) (ds : List ℕ) → k < 13 → step (number k v live ds) 32 ≡ keep (number k v live ds)
+unfolding step stepOn space
+step-space k v live ds h = ap (λ (t : Bool). cond t (keep (number k v live ds)) (spoil (number k v live ds))) (lt-ltb k 13 h)
+
+keep-first : (v live : ℕ) (ds : List ℕ) → keep (number 0 v live ds) ≡ blank 1 v ds
+unfolding keep
+keep-first v live ds = refl
+
+keep-later : (k j v live : ℕ) (ds : List ℕ) → j + 1 ≡ k → keep (number k v live ds) ≡ blank (k + 1) live (set ds j v)
+unfolding keep
+keep-later k j v live ds h =
+    let e : k - 1 ≡ j = omega arith in
+    let f : eqb k 0 ≡ false = ne-eqb k 0 (λ z. omega arith) in
+    (λ i. blank (k + 1) (cond (f i) v live) (cond (f i) ds (set ds (e i) v)))
+
+-- a space and a distance, behind a number
+read-next : (s : Line) (k live d : ℕ) (ds rest : List ℕ) → step s 32 ≡ blank k live ds → d ≤ most k
+    → readFrom s ((32 ∷ []) ++ decimal d ++ rest) ≡ readFrom (number k d live ds) rest
+unfolding readFrom
+read-next s k live d ds rest e m =
+    read-append (step s 32) (decimal d) rest
+    ∙ ap (λ (u : Line). readFrom (readFrom u (decimal d)) rest) e
+    ∙ ap (λ (u : Line). readFrom u rest) (read-decimal d k live ds m)
+
+-- the distances behind the j-th, of which p are complete and v is read
+read-rest : (ds p q : List ℕ) (v live : ℕ) → length p + length ds ≡ 12 → length q ≡ length ds + 1 → Small ds
+    → ended (readFrom (number (length p + 1) v live (p ++ q)) (spaced ds)) ≡ Good live (p ++ (v ∷ ds))
+unfolding spaced readFrom ended isGood
+read-rest ds p [] v live h i m = absurd (omega arith)
+read-rest [] p (y ∷ y₂ ∷ q) v live h i m = absurd (omega arith)
+read-rest [] p (y ∷ []) v live h i m =
+    let s = number (length p + 1) v live (p ++ (y ∷ [])) in
+    ap (λ (t : Bool). cond t (Good (keep s .live) (keep s .distances)) Bad) (eq-eqb (length p + 1) 13 (omega arith))
+    ∙ ap (λ (u : Line). Good (u .live) (u .distances)) (keep-later (length p + 1) (length p) v live (p ++ (y ∷ [])) refl)
+    ∙ ap (Good live) (set-at p y [] v (length p) refl)
+read-rest (d ∷ ds) p (y ∷ q) v live h i m =
+    let l = length-append p (v ∷ []) in
+    ap ended
+    (read-next (number (length p + 1) v live (p ++ (y ∷ q))) (length p + 1 + 1) live d (set (p ++ (y ∷ q)) (length p) v) (spaced ds)
+    (step-space (length p + 1) v live (p ++ (y ∷ q)) (omega arith) ∙ keep-later (length p + 1) (length p) v live (p ++ (y ∷ q)) refl)
+    (omega (arith, most-later (length p + 1), m .0))
+    ∙ (λ j. readFrom (number (sym l j + 1) d live ((set-at p y q v (length p) refl ∙ sym (append-snoc p v q)) j)) (spaced ds)))
+    ∙ read-rest ds (p ++ (v ∷ [])) q d live (omega arith) (omega arith) (m .1)
+    ∙ ap (Good live) (append-snoc p v (d ∷ ds))
+
+-- THEOREM. The text of a mask and distances in range is read back as them.
+pub read-text : (live : ℕ) (ds : List ℕ) → InRange live ds → reading (lineText live ds) ≡ Good live ds
+unfolding reading lineText spaced fresh
+read-text live [] r = absurd (omega (arith, r .thirteen))
+read-text live (d ∷ ds) r =
+    ap ended
+    (read-append fresh (decimal live) (spaced (d ∷ ds))
+    ∙ ap (λ (s : Line). readFrom s (spaced (d ∷ ds))) (read-decimal live 0 0 (replicate 13 0) (omega (arith, most-first, r .mask)))
+    ∙ read-next (number 0 live 0 (replicate 13 0)) 1 live d (replicate 13 0) (spaced ds)
+    (step-space 0 live 0 (replicate 13 0) (omega arith) ∙ keep-first live 0 (replicate 13 0))
+    (omega (arith, most-later 0, r .small .0)))
+    ∙ read-rest ds [] (replicate 13 0) d live (omega (arith, r .thirteen)) (omega (arith, r .thirteen)) (r .small .1)
+
+-- What is known of the bytes l behind a line that is not spoilt: k complete numbers, each with a space behind it, and the digits so far of the next.
+abbrev front : ℕ → ℕ → List ℕ → List ℕ
+front zero live ds = []
+front (suc j) live ds = lineText live (take j ds) ++ (32 ∷ [])
+
+abbrev Kept : ℕ → ℕ → List ℕ → Type 0
+Kept zero live ds = Unit {0}
+Kept (suc j) live ds = (live ≤ 8191) × Small (take j ds)
+
+record Seen (l : List ℕ) (k : ℕ) (t : Bool) (v live : ℕ) (ds : List ℕ) : Type 0 where
+  text : l ≡ front k live ds ++ cond t (decimal v) []
+  size : length ds ≡ 13
+  small : v ≤ most k
+  none : t ≡ false → v ≡ 0
+  kept : Kept k live ds
+
+abbrev SeenLine : List ℕ → Line → Type 0
+SeenLine l s = Seen l (s .count) (s .digits) (s .value) (s .live) (s .distances)
+
+-- a distance more
+small-more : (ds : List ℕ) (v : ℕ) → Small ds → v ≤ 65535 → Small (ds ++ (v ∷ []))
+small-more [] v m h = (h, tt)
+small-more (d ∷ ds) v m h = (m .0, small-more ds v (m .1) h)
+
+spaced-more : (ds : List ℕ) (v : ℕ) → spaced (ds ++ (v ∷ [])) ≡ spaced ds ++ ((32 ∷ []) ++ decimal v)
+unfolding spaced
+spaced-more [] v = append-nil ((32 ∷ []) ++ decimal v)
+spaced-more (d ∷ ds) v =
+    ap (λ (l : List ℕ). (32 ∷ []) ++ decimal d ++ l) (spaced-more ds v)
+    ∙ sym (append-assoc ((32 ∷ []) ++ decimal d) (spaced ds) ((32 ∷ []) ++ decimal v))
+
+text-more : (j v live : ℕ) (ds : List ℕ) → j < length ds → front (suc j) live ds ++ decimal v ≡ lineText live (take (suc j) (set ds j v))
+unfolding lineText
+text-more j v live ds h =
+    append-assoc (decimal live ++ spaced (take j ds)) (32 ∷ []) (decimal v)
+    ∙ append-assoc (decimal live) (spaced (take j ds)) ((32 ∷ []) ++ decimal v)
+    ∙ ap (λ (l : List ℕ). decimal live ++ l) (sym (spaced-more (take j ds) v) ∙ ap spaced (sym (take-suc-set ds j v h)))
+
+-- a number that becomes complete
+seen-first : (l : List ℕ) (v live : ℕ) (ds : List ℕ) → Seen l 0 true v live ds → Seen (l ++ (32 ∷ [])) 1 false 0 v ds
+unfolding lineText spaced
+seen-first l v live ds g =
+    record {
+      text = ap (λ (m : List ℕ). m ++ (32 ∷ [])) (g .text ∙ sym (append-nil (decimal v))) ∙ sym (append-nil (decimal v ++ [] ++ (32 ∷ [])));
+      size = g .size;
+      small = omega arith;
+      none = λ e. refl;
+      kept = (omega (arith, most-first, g .small), tt);
+    }
+
+seen-later : (j : ℕ) (l : List ℕ) (v live : ℕ) (ds : List ℕ) → j < 13
+    → Seen l (suc j) true v live ds
+    → Seen (l ++ (32 ∷ [])) (suc (suc j)) false 0 live (set ds j v)
+seen-later j l v live ds h g =
+    let i : j < length ds = omega (arith, g .size) in
+    record {
+      text =
+          ap (λ (m : List ℕ). m ++ (32 ∷ [])) (g .text ∙ text-more j v live ds i)
+          ∙ sym (append-nil (lineText live (take (suc j) (set ds j v)) ++ (32 ∷ [])));
+      size = length-set ds j v ∙ g .size;
+      small = omega arith;
+      none = λ e. refl;
+      kept = (g .kept .0, rw (take-suc-set ds j v i) (small-more (take j ds) v (g .kept .1) (omega (arith, g .small, most-small (suc j)))));
+    }
+
+seen-keep : (s : Line) (l : List ℕ) → s .digits ≡ true → s .count < 13 → SeenLine l s → SeenLine (l ++ (32 ∷ [])) (keep s)
+unfolding keep
+seen-keep s l e h g = from (s .count) h (subst (λ (t : Bool). Seen l (s .count) t (s .value) (s .live) (s .distances)) e g)
+  where
+    from : (k : ℕ) → k < 13 → Seen l k true (s .value) (s .live) (s .distances)
+        → Seen (l ++ (32 ∷ [])) (k + 1) false 0 (cond (eqb k 0) (s .value) (s .live)) (cond (eqb k 0) (s .distances) (set (s .distances) (k - 1) (s .value)))
+    from zero h g = seen-first l (s .value) (s .live) (s .distances) g
+    from (suc j) h g =
+        subst (SeenLine (l ++ (32 ∷ [])))
+        (sym
+        (keep-later (suc j) j (s .value) (s .live) (s .distances) (add-one j)
+        ∙ (λ i. blank (add-one (suc j) i) (s .live) (set (s .distances) j (s .value)))))
+        (seen-later j l (s .value) (s .live) (s .distances) (omega arith) g)
+
+-- a digit more
+digit-behind : (t : Bool) (v d : ℕ) → d < 10 → v < 10 ^ 19 → (t ≡ false → v ≡ 0) → not (t && eqb v 0) ≡ true
+    → cond t (decimal v) [] ++ ((48 + d) ∷ []) ≡ decimal (v * 10 + d)
+digit-behind false v d h m n f = let z : v ≡ 0 = n refl in sym (decimal-digit d h) ∙ ap decimal (omega arith)
+digit-behind true v d h m n f =
+    let q : v ≡ 0 → ⊥ = eqb-false v 0 (not-true (eqb v 0) f) in
+    sym (decimal-more v d (omega arith) m h)
+
+seen-more : (s : Line) (l : List ℕ) (d : ℕ) → d < 10 → mayFollow s d ≡ true → SeenLine l s → SeenLine (l ++ ((48 + d) ∷ [])) (more s d)
+unfolding mayFollow more
+seen-more s l d h e g =
+    let fits = leb (s .value * 10 + d) (most (s .count)) in
+    let starts = not (s .digits && eqb (s .value) 0) in
+    let f = front (s .count) (s .live) (s .distances) in
+    record {
+      text =
+          ap (λ (m : List ℕ). m ++ ((48 + d) ∷ [])) (g .text)
+          ∙ append-assoc f (cond (s .digits) (decimal (s .value)) []) ((48 + d) ∷ [])
+          ∙ ap (λ (m : List ℕ). f ++ m)
+          (digit-behind (s .digits) (s .value) d h (omega (arith, g .small, most-small (s .count))) (g .none) (and-right fits starts e));
+      size = g .size;
+      small = leb-true (s .value * 10 + d) (most (s .count)) (and-left fits starts e);
+      none = λ f. absurd (true-false f);
+      kept = g .kept;
+    }
+
+-- a space, and a digit, that do not spoil the line
+seen-space : (s : Line) (l : List ℕ) → space s .spoilt ≡ false → SeenLine l s → SeenLine (l ++ (32 ∷ [])) (space s)
+unfolding space spoil
+seen-space s l f g = from (s .digits && ltb (s .count) 13) refl f
+  where
+    from : (t : Bool) → (s .digits && ltb (s .count) 13) ≡ t → cond t (keep s) (spoil s) .spoilt ≡ false
+        → SeenLine (l ++ (32 ∷ [])) (cond t (keep s) (spoil s))
+    from true e f =
+        seen-keep s l (and-left (s .digits) (ltb (s .count) 13) e) (ltb-true (s .count) 13 (and-right (s .digits) (ltb (s .count) 13) e)) g
+    from false e f = absurd (true-false f)
+
+seen-digit : (s : Line) (l : List ℕ) (d : ℕ) → d < 10 → digit s d .spoilt ≡ false → SeenLine l s → SeenLine (l ++ ((48 + d) ∷ [])) (digit s d)
+unfolding digit spoil
+seen-digit s l d h f g = from (mayFollow s d) refl f
+  where
+    from : (t : Bool) → mayFollow s d ≡ t → cond t (more s d) (spoil s) .spoilt ≡ false → SeenLine (l ++ ((48 + d) ∷ [])) (cond t (more s d) (spoil s))
+    from true e f = seen-more s l d h e g
+    from false e f = absurd (true-false f)
+
+-- a byte that does not
+seen-on : (s : Line) (l : List ℕ) (b : ℕ) → stepOn s b .spoilt ≡ false → SeenLine l s → SeenLine (l ++ (b ∷ [])) (stepOn s b)
+unfolding stepOn spoil
+seen-on s l b f g = first (eqb b 32) refl f
+  where
+    isDigit : Bool
+    isDigit = leb 48 b && leb b 57
+
+    second : (t : Bool) → isDigit ≡ t → cond t (digit s (b - 48)) (spoil s) .spoilt ≡ false → SeenLine (l ++ (b ∷ [])) (cond t (digit s (b - 48)) (spoil s))
+    second true e f =
+        let p : 48 ≤ b = leb-true 48 b (and-left (leb 48 b) (leb b 57) e) in
+        let q : b ≤ 57 = leb-true b 57 (and-right (leb 48 b) (leb b 57) e) in
+        let z : 48 + (b - 48) ≡ b = omega arith in
+        subst (λ (x : ℕ). SeenLine (l ++ (x ∷ [])) (digit s (b - 48))) z (seen-digit s l (b - 48) (omega arith) f g)
+    second false e f = absurd (true-false f)
+
+    first : (t : Bool) → eqb b 32 ≡ t → cond t (space s) (cond isDigit (digit s (b - 48)) (spoil s)) .spoilt ≡ false
+        → SeenLine (l ++ (b ∷ [])) (cond t (space s) (cond isDigit (digit s (b - 48)) (spoil s)))
+    first true e f = subst (λ (x : ℕ). SeenLine (l ++ (x ∷ [])) (space s)) (sym (eqb-true b 32 e)) (seen-space s l f g)
+    first false e f = second isDigit refl f
+
+seen-step : (s : Line) (l : List ℕ) (b : ℕ) → s .spoilt ≡ false → step s b .spoilt ≡ false → SeenLine l s → SeenLine (l ++ (b ∷ [])) (step s b)
+unfolding step
+seen-step s l b e f g =
+    let p : step s b ≡ stepOn s b = ap (λ (t : Bool). cond t s (stepOn s b)) e in
+    subst (SeenLine (l ++ (b ∷ []))) (sym p) (seen-on s l b (ap (λ (u : Line). u .spoilt) (sym p) ∙ f) g)
+
+-- a line that is not spoilt was not spoilt before
+not-spoilt : (s : Line) (l : List ℕ) → readFrom s l .spoilt ≡ false → s .spoilt ≡ false
+unfolding readFrom step
+not-spoilt s [] f = f
+not-spoilt s (b ∷ l) f = from (s .spoilt) refl (not-spoilt (step s b) l f)
+  where
+    from : (t : Bool) → s .spoilt ≡ t → cond t s (stepOn s b) .spoilt ≡ false → s .spoilt ≡ false
+    from true e f = f
+    from false e f = e
+
+seen-read : (l p : List ℕ) (s : Line) → readFrom s l .spoilt ≡ false → SeenLine p s → SeenLine (p ++ l) (readFrom s l)
+unfolding readFrom
+seen-read [] p s f g = subst (λ (m : List ℕ). SeenLine m s) (sym (append-nil p)) g
+seen-read (b ∷ l) p s f g =
+    let e : step s b .spoilt ≡ false = not-spoilt (step s b) l f in
+    subst (λ (m : List ℕ). SeenLine m (readFrom (step s b) l)) (append-snoc p b l)
+    (seen-read l (p ++ (b ∷ [])) (step s b) f (seen-step s p b (not-spoilt s (b ∷ l) f) e g))
+
+mask-of : {m n : ℕ} {a b : List ℕ} → Good m a ≡ Good n b → m ≡ n
+mask-of e = cc
+
+distances-of : {m n : ℕ} {a b : List ℕ} → Good m a ≡ Good n b → a ≡ b
+distances-of e = cc
+
+seen-start : SeenLine [] fresh
+unfolding fresh
+seen-start = record { text = refl; size = refl; small = omega arith; none = λ e. refl; kept = tt }
+
+-- the whole of a good line
+seen-last : (l : List ℕ) (v live : ℕ) (ds : List ℕ) → Seen l 13 true v live ds → (l ≡ lineText live (set ds 12 v)) × InRange live (set ds 12 v)
+seen-last l v live ds g =
+    let i : 12 < length ds = omega (arith, g .size) in
+    let n : length (set ds 12 v) ≡ 13 = length-set ds 12 v ∙ g .size in
+    let e : take 13 (set ds 12 v) ≡ set ds 12 v = take-all 13 (set ds 12 v) (omega arith) in (
+      g .text ∙ text-more 12 v live ds i ∙ ap (lineText live) e,
+      record {
+        mask = g .kept .0;
+        thirteen = n;
+        small = subst Small (sym (take-suc-set ds 12 v i) ∙ e) (small-more (take 12 ds) v (g .kept .1) (omega (arith, g .small, most-small 13)));
+      },
+    )
+
+-- a line that is read as good ends as a good line does
+good-line : (s : Line) (live : ℕ) (ds : List ℕ) → ended s ≡ Good live ds → isGood s ≡ true
+unfolding ended
+good-line s live ds e = from (isGood s) refl e
+  where
+    from : (t : Bool) → isGood s ≡ t → cond t (Good (keep s .live) (keep s .distances)) Bad ≡ Good live ds → isGood s ≡ true
+    from true p q = p
+    from false p q = absurd (let z : _≡_ {A = ℕ} 0 1 = cc in omega arith)
+
+-- THEOREM. A line that is read as good is the text of a mask and distances, which are in range.
+pub text-read : (line : List ℕ) (live : ℕ) (ds : List ℕ) → reading line ≡ Good live ds → (line ≡ lineText live ds) × InRange live ds
+unfolding reading ended isGood keep
+text-read line live ds e =
+    let s = readFrom fresh line in
+    let good : isGood s ≡ true = good-line s live ds e in
+    let rest = s .digits && eqb (s .count) 13 in
+    let spoilt : s .spoilt ≡ false = not-true (s .spoilt) (and-left (not (s .spoilt)) rest good) in
+    let ends : rest ≡ true = and-right (not (s .spoilt)) rest good in
+    let count : s .count ≡ 13 = eqb-true (s .count) 13 (and-right (s .digits) (eqb (s .count) 13) ends) in
+    let both : Good (keep s .live) (keep s .distances) ≡ Good live ds =
+    sym (ap (λ (t : Bool). cond t (Good (keep s .live) (keep s .distances)) Bad) good) ∙ e in
+    let a : s .live ≡ live = sym (ap (λ (k : ℕ). cond (eqb k 0) (s .value) (s .live)) count) ∙ mask-of both in
+    let b : set (s .distances) 12 (s .value) ≡ ds =
+    sym (ap (λ (k : ℕ). cond (eqb k 0) (s .distances) (set (s .distances) (k - 1) (s .value))) count) ∙ distances-of both in
+    let g : Seen line 13 true (s .value) (s .live) (s .distances) =
+    subst (λ (k : ℕ). Seen line k true (s .value) (s .live) (s .distances)) count
+    (subst (λ (t : Bool). Seen line (s .count) t (s .value) (s .live) (s .distances)) (and-left (s .digits) (eqb (s .count) 13) ends)
+    (seen-read line [] fresh spoilt seen-start)) in
+    let r = seen-last line (s .value) (s .live) (s .distances) g in (
+      r .0 ∙ (λ j. lineText (a j) (b j)),
+      subst (InRange live) b (subst (λ (m : ℕ). InRange m (set (s .distances) 12 (s .value))) a (r .1)),
+    )

@@ -1,0 +1,50 @@
+//! The checks of the library and its programs against the second model.
+//!
+//! Usage, in the repository's root folder: checks [--seed S] [--rounds K] [--program PATH]
+
+#![deny(unsafe_code)]
+
+mod checks;
+#[allow(unsafe_code)]
+mod ffi;
+mod model;
+mod random;
+mod runner;
+
+use runner::{Options, Runner};
+use std::path::PathBuf;
+use std::process::ExitCode;
+
+const USAGE: &str = "usage: checks [--seed S] [--rounds K] [--program PATH]";
+
+/// The options, and where the quorum program is; none where the words are no options.
+fn options() -> Option<(Options, PathBuf)> {
+    let mut options = Options { seed: 13, rounds: 1 };
+    let mut program = PathBuf::from("target/bin/quorum_program");
+    let mut words = std::env::args().skip(1);
+    while let Some(word) = words.next() {
+        let value = words.next()?;
+        match word.as_str() {
+            "--program" => program = PathBuf::from(value),
+            "--seed" => options.seed = value.parse().ok()?,
+            "--rounds" => options.rounds = value.parse().ok().filter(|&rounds| rounds > 0)?,
+            _ => return None,
+        }
+    }
+    Some((options, program))
+}
+
+fn main() -> ExitCode {
+    let Some((options, program)) = options() else {
+        println!("{USAGE}\n0 passed, 1 failed");
+        return ExitCode::FAILURE;
+    };
+    let mut runner = Runner::new(options);
+    checks::quorum::run(&mut runner);
+    checks::program::run(&mut runner, &program);
+    if runner.close() {
+        ExitCode::SUCCESS
+    } else {
+        ExitCode::FAILURE
+    }
+}

@@ -1,0 +1,14 @@
+//! The second model: the rules once more, written from document 01 alone and for plainness, to be compared with the library.
+//!
+//! A module for each part of the rules. Speed does not matter here; a reader compares each function with a sentence.
+
+pub mod program;
+pub mod quorum;
+
+/// The numbers with which a call refuses. They are tried in the order in which a call lists them, mostly the lowest first.
+pub mod number {
+    pub const OK: u8 = 0;
+    pub const LENGTH: u8 = 1;
+    pub const STRANGER: u8 = 4;
+    pub const NO_QUORUM: u8 = 8;
+}
