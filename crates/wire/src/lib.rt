@@ -24,6 +24,7 @@ pub use write::write_vote;
 pub use write::write_yield;
 
 // One object of a message (document 01: tally): which, in which mode (0 read, 1 write), the version and the value.
+#[repr(C)]
 pub struct Entry {
     pub object: u8,
     pub mode: u8,
@@ -38,6 +39,7 @@ pub struct Rival {
 }
 
 // What a writer answers: a number, and how many bytes it filled.
+#[repr(C)]
 pub struct Written {
     pub number: u8,
     pub length: u8,
