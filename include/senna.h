@@ -1,5 +1,5 @@
 /*
- * senna.h: quorums of a tree of thirteen nodes.
+ * senna.h: replicated objects on a tree of thirteen nodes: the quorums, the messages between nodes, and a node's stored image.
  *
  * Link with libhost.a, which `rt staticlib host` writes to target/staticlib/. Nothing else is needed.
  *
@@ -8,8 +8,13 @@
  * together with write quorums of two. For a leaf both are the leaf. A set that contains a quorum is a quorum too. Every read quorum
  * meets every write quorum, and any two write quorums meet.
  *
- * No function here keeps a state, uses the heap or writes to memory of the caller: all are re-entrant and may be called from any
- * thread.
+ * Objects are 0 to 63. A transaction is named by its owner, which is a node, and a serial from 1, and carries a timestamp from 1, here
+ * its stamp. Nodes exchange messages, each of which belongs to one transaction. What a node keeps as a replica is its image: a copy of
+ * each object, and what it knows of each owner's last transaction. Messages and images are bytes; both formats are written below.
+ *
+ * No function here keeps a state of its own or uses the heap. A function reads its arguments and the bytes lent to it, and writes only
+ * to a buffer lent to it as non-const. All are re-entrant and may be called from any thread, as long as no other thread uses a buffer
+ * that is being written. A pointer is never null, also where its length is 0, and may have any alignment.
  */
 #ifndef SENNA_H
 #define SENNA_H
@@ -22,9 +27,14 @@ extern "C" {
 #endif
 
 /* Sizes. */
-#define SENNA_NODES 13     /* nodes of the tree */
-#define SENNA_DISTANCES 26 /* bytes of thirteen distances */
-#define SENNA_ALL 8191     /* the mask of all nodes, and the highest mask of nodes */
+#define SENNA_NODES 13        /* nodes of the tree */
+#define SENNA_DISTANCES 26    /* bytes of thirteen distances */
+#define SENNA_ALL 8191        /* the mask of all nodes, and the highest mask of nodes */
+#define SENNA_OBJECTS 64      /* objects */
+#define SENNA_ENTRIES 8       /* entries of a message, at most */
+#define SENNA_MESSAGE_MIN 15  /* bytes of the shortest message */
+#define SENNA_MESSAGE_MAX 128 /* bytes of the longest message, and of the smallest buffer for one */
+#define SENNA_IMAGE 1207      /* bytes of a stored image */
 
 /* Numbers. A call answers 0, or why it refuses; where several fit, the lowest unless its comment says otherwise. */
 #define SENNA_OK 0
@@ -80,6 +90,153 @@ senna_choice senna_nearest_read(uint16_t live, const uint8_t *distances, size_t 
  * Only reads the bytes at distances; no heap; re-entrant.
  */
 senna_choice senna_nearest_write(uint16_t live, const uint8_t *distances, size_t length);
+
+/*
+ * Messages. Numbers are little-endian. Twelve bytes come first: kind, from, to, owner (one byte each), serial, stamp (four each). Then
+ * three sections follow, each after its count in one byte:
+ *   entries  object 1, mode 1 (0 read, 1 write), version 4, value 8 (signed); ascending strictly by object
+ *   rivals   owner 1, serial 4; ascending strictly by owner
+ *   word     1
+ *
+ *   kind       goes             entries                       rivals                              word
+ *   1 fetch    from the owner   1, version and value 0        0                                   none
+ *   2 copy     to the owner     1                             0                                   none
+ *   3 ask      from the owner   1 to 8                        0                                   none
+ *   4 vote     to the owner     0                             0 to 12, never the owner; 0 on no   0 no, 1 yes
+ *   5 outcome  from the owner   0 on abort, 1 to 8 on commit  0                                   0 abort, 1 commit
+ *   6 done     to the owner     0                             0                                   none
+ *   7 yield    from the owner   0                             1, the receiver, not the owner      none
+ *
+ * Nodes are 0 to 12, objects 0 to 63, serials and stamps from 1. In an ask and an outcome a read's value is 0, and a write's version is
+ * below 4294967295. A message that keeps all of this, with no byte missing or left over, is well formed.
+ */
+
+/* An object in a message. */
+typedef struct senna_entry {
+    uint8_t object;
+    uint8_t mode; /* 0 read, 1 write */
+    uint32_t version;
+    int64_t value;
+} senna_entry;
+
+/* The entries of a message: the first count of these. A count above SENNA_ENTRIES counts as SENNA_ENTRIES. The rest does not matter. */
+typedef struct senna_entries {
+    senna_entry entry[SENNA_ENTRIES];
+    uint8_t count;
+} senna_entries;
+
+/* The rivals that a vote names, by owner: the serial, or 0 where that owner's transaction is no rival. */
+typedef struct senna_serials {
+    uint32_t serial[SENNA_NODES];
+} senna_serials;
+
+/* The answer of a write call. On a refusal length is 0. */
+typedef struct senna_written {
+    uint8_t number; /* SENNA_OK, or why the call refuses */
+    uint8_t length; /* the bytes of the message, SENNA_MESSAGE_MIN to SENNA_MESSAGE_MAX */
+} senna_written;
+
+/*
+ * Whether bytes are a well-formed message.
+ *
+ * message  the bytes
+ * length   how many
+ *
+ * Numbers, the lowest that fits: SENNA_LENGTH (length is not SENNA_MESSAGE_MIN to SENNA_MESSAGE_MAX), SENNA_GARBLED (they are not a
+ * well-formed message).
+ * Only reads the bytes at message; no heap; re-entrant.
+ */
+uint8_t senna_check_message(const uint8_t *message, size_t length);
+
+/*
+ * The write calls, one for each kind: writes a message to the front of out and leaves the bytes behind it as they were.
+ *
+ * out                   where the message goes
+ * size                  the bytes at out, at least SENNA_MESSAGE_MAX whatever the message
+ * owner, serial, stamp  the transaction
+ *
+ * Numbers, the lowest that fits: SENNA_LENGTH (size is under SENNA_MESSAGE_MAX), SENNA_GARBLED (the message would not be well formed: a
+ * node above 12, serial or stamp 0, or what each call names besides).
+ * On a refusal nothing is written. Otherwise senna_check_message answers 0 for what is written. Only writes to out; no heap;
+ * re-entrant.
+ */
+
+/*
+ * A fetch from the owner to node `to`: one entry of this object and mode, with version and value 0.
+ * SENNA_GARBLED also: object above 63, mode above 1.
+ */
+senna_written senna_write_fetch(uint8_t *out, size_t size, uint8_t to, uint8_t owner, uint32_t serial, uint32_t stamp,
+                                uint8_t object, uint8_t mode);
+
+/*
+ * A copy from node `from` to the owner: this entry, of any version and value.
+ * SENNA_GARBLED also: its object above 63, its mode above 1.
+ */
+senna_written senna_write_copy(uint8_t *out, size_t size, uint8_t from, uint8_t owner, uint32_t serial, uint32_t stamp,
+                               senna_entry entry);
+
+/*
+ * An ask from the owner to node `to`: these entries.
+ * SENNA_GARBLED also: no entry, an object above 63, a mode above 1, objects that do not ascend strictly, a read with a value other than
+ * 0, a write with version 4294967295.
+ */
+senna_written senna_write_ask(uint8_t *out, size_t size, uint8_t to, uint8_t owner, uint32_t serial, uint32_t stamp,
+                              senna_entries entries);
+
+/*
+ * A vote from node `from` to the owner: word 0 no, 1 yes, and the rivals in ascending order.
+ * SENNA_GARBLED also: word above 1, the owner among the rivals, a no with a rival.
+ */
+senna_written senna_write_vote(uint8_t *out, size_t size, uint8_t from, uint8_t owner, uint32_t serial, uint32_t stamp,
+                               senna_serials rivals, uint8_t word);
+
+/*
+ * An outcome from the owner to node `to`: word 0 abort, without entries, or 1 commit, with these entries.
+ * SENNA_GARBLED also: word above 1, an abort with an entry, a commit with entries that an ask would not have.
+ */
+senna_written senna_write_outcome(uint8_t *out, size_t size, uint8_t to, uint8_t owner, uint32_t serial, uint32_t stamp,
+                                  senna_entries entries, uint8_t word);
+
+/* A done from node `from` to the owner. */
+senna_written senna_write_done(uint8_t *out, size_t size, uint8_t from, uint8_t owner, uint32_t serial, uint32_t stamp);
+
+/*
+ * A yield from the owner to node `rival`: one rival, that node's transaction rival_serial.
+ * SENNA_GARBLED also: rival is the owner, rival_serial 0.
+ */
+senna_written senna_write_yield(uint8_t *out, size_t size, uint8_t owner, uint32_t serial, uint32_t stamp, uint8_t rival,
+                                uint32_t rival_serial);
+
+/*
+ * Images. Numbers are little-endian. SENNA_IMAGE bytes:
+ *   the count 64, then 64 copies: value 8 (signed), version 4, holder 1 (0 to 12, 255 for none), readers 2, writers 2 (masks)
+ *   the count 13, then 13 owners: last serial 4, state 1 (0 over, 1 listed, 2 held, 3 refused), stamp 4
+ *
+ * An owner's serial and stamp are both 0, and then its state is 0, or neither is 0. A holder's state is 2. A node that readers or
+ * writers contain has state 1, and no mask is above SENNA_ALL. An image that breaks any of this is damaged.
+ */
+
+/*
+ * Whether bytes are a valid image.
+ *
+ * image   the bytes
+ * length  how many
+ *
+ * Numbers, the lowest that fits: SENNA_LENGTH (length is not SENNA_IMAGE), SENNA_DAMAGED (they break a rule of the format).
+ * Only reads the bytes at image; no heap; re-entrant.
+ */
+uint8_t senna_check_image(const uint8_t *image, size_t length);
+
+/*
+ * Writes a blank image: all zeros, but for the two counts and the holders, which are 255. Whatever stood there before is lost.
+ *
+ * image   where the image goes
+ * length  the bytes at image
+ *
+ * Number: SENNA_LENGTH (length is not SENNA_IMAGE), and then nothing is written. Otherwise senna_check_image answers 0 for what is
+ * written. Only writes to image; no heap; re-entrant.
+ */
+uint8_t senna_blank_image(uint8_t *image, size_t length);
 
 #ifdef __cplusplus
 }

@@ -1,4 +1,6 @@
 //! The checks, a module for each part of the product.
 
+pub mod image;
+pub mod message;
 pub mod program;
 pub mod quorum;

@@ -1,6 +1,7 @@
 //! The library's C functions as `include/senna.h` declares them, and safe wrappers over them.
 
-use crate::model::quorum::{Choice, Kind};
+use crate::model::message::{Entry, Rival, Transaction, ENTRIES};
+use crate::model::quorum::{Choice, Kind, NODES};
 
 /// `senna_choice` of the header.
 #[repr(C)]
@@ -10,11 +11,69 @@ struct SennaChoice {
     sum: u32,
 }
 
+/// `senna_entry` of the header.
+#[repr(C)]
+#[derive(Clone, Copy)]
+struct SennaEntry {
+    object: u8,
+    mode: u8,
+    version: u32,
+    value: i64,
+}
+
+/// `senna_entries` of the header.
+#[repr(C)]
+struct SennaEntries {
+    entry: [SennaEntry; ENTRIES],
+    count: u8,
+}
+
+/// `senna_serials` of the header.
+#[repr(C)]
+struct SennaSerials {
+    serial: [u32; NODES],
+}
+
+/// `senna_written` of the header.
+#[repr(C)]
+struct SennaWritten {
+    number: u8,
+    length: u8,
+}
+
 extern "C" {
     fn senna_is_read_quorum(mask: u16) -> u8;
     fn senna_is_write_quorum(mask: u16) -> u8;
     fn senna_nearest_read(live: u16, distances: *const u8, length: usize) -> SennaChoice;
     fn senna_nearest_write(live: u16, distances: *const u8, length: usize) -> SennaChoice;
+    fn senna_check_message(message: *const u8, length: usize) -> u8;
+    fn senna_check_image(image: *const u8, length: usize) -> u8;
+    fn senna_blank_image(image: *mut u8, length: usize) -> u8;
+    fn senna_write_fetch(out: *mut u8, size: usize, to: u8, owner: u8, serial: u32, stamp: u32, object: u8, mode: u8) -> SennaWritten;
+    fn senna_write_copy(out: *mut u8, size: usize, from: u8, owner: u8, serial: u32, stamp: u32, entry: SennaEntry) -> SennaWritten;
+    fn senna_write_ask(out: *mut u8, size: usize, to: u8, owner: u8, serial: u32, stamp: u32, entries: SennaEntries) -> SennaWritten;
+    fn senna_write_vote(
+        out: *mut u8,
+        size: usize,
+        from: u8,
+        owner: u8,
+        serial: u32,
+        stamp: u32,
+        rivals: SennaSerials,
+        word: u8,
+    ) -> SennaWritten;
+    fn senna_write_outcome(
+        out: *mut u8,
+        size: usize,
+        to: u8,
+        owner: u8,
+        serial: u32,
+        stamp: u32,
+        entries: SennaEntries,
+        word: u8,
+    ) -> SennaWritten;
+    fn senna_write_done(out: *mut u8, size: usize, from: u8, owner: u8, serial: u32, stamp: u32) -> SennaWritten;
+    fn senna_write_yield(out: *mut u8, size: usize, owner: u8, serial: u32, stamp: u32, rival: u8, rival_serial: u32) -> SennaWritten;
 }
 
 /// The library's membership test, its byte as it came: 1 yes, 0 no, and nothing else is right.
@@ -43,4 +102,111 @@ pub fn nearest(kind: Kind, live: u16, distances: &[u8]) -> Choice {
         }
     };
     Choice { number: answer.number, mask: answer.mask, sum: answer.sum }
+}
+
+/// The library's number for the bytes of a message.
+pub fn check_message(message: &[u8]) -> u8 {
+    // SAFETY: the function reads at most `length` bytes at `message`, which are lent for the call.
+    unsafe { senna_check_message(message.as_ptr(), message.len()) }
+}
+
+/// The library's number for the bytes of an image.
+pub fn check_image(image: &[u8]) -> u8 {
+    // SAFETY: the function reads at most `length` bytes at `image`, which are lent for the call.
+    unsafe { senna_check_image(image.as_ptr(), image.len()) }
+}
+
+/// The library's blank image, written to a buffer; its number.
+pub fn blank_image(image: &mut [u8]) -> u8 {
+    // SAFETY: the function writes at most `length` bytes at `image`, which are lent for the call.
+    unsafe { senna_blank_image(image.as_mut_ptr(), image.len()) }
+}
+
+/// What a write call answers.
+#[derive(Clone, Copy, Debug, PartialEq, Eq)]
+pub struct Written {
+    pub number: u8,
+    pub length: u8,
+}
+
+impl From<SennaWritten> for Written {
+    fn from(answer: SennaWritten) -> Written {
+        Written { number: answer.number, length: answer.length }
+    }
+}
+
+impl From<Entry> for SennaEntry {
+    fn from(entry: Entry) -> SennaEntry {
+        SennaEntry { object: entry.object, mode: entry.mode, version: entry.version, value: entry.value }
+    }
+}
+
+/// Entries as the header has them: eight, of which the first `count` are meant.
+#[derive(Clone, Debug)]
+pub struct Entries {
+    pub entry: [Entry; ENTRIES],
+    pub count: u8,
+}
+
+impl Entries {
+    /// Those that are meant; a count above eight counts as eight.
+    pub fn meant(&self) -> Vec<Entry> {
+        self.entry.iter().copied().take(usize::from(self.count)).collect()
+    }
+
+    fn passed(&self) -> SennaEntries {
+        SennaEntries { entry: self.entry.map(SennaEntry::from), count: self.count }
+    }
+}
+
+/// Rivals as the header has them: a serial for each owner, 0 where there is none.
+#[derive(Clone, Debug)]
+pub struct Serials {
+    pub serial: [u32; NODES],
+}
+
+impl Serials {
+    /// The rivals that are meant, ascending.
+    pub fn meant(&self) -> Vec<Rival> {
+        let all = (0..).zip(self.serial).map(|(owner, serial)| Rival { owner, serial });
+        all.filter(|rival| rival.serial != 0).collect()
+    }
+}
+
+// SAFETY, of each writer below: the function writes at most `size` bytes at `out`, which are lent for the call, and takes all else by value.
+
+pub fn write_fetch(out: &mut [u8], to: u8, transaction: Transaction, object: u8, mode: u8) -> Written {
+    let Transaction { owner, serial, stamp } = transaction;
+    unsafe { senna_write_fetch(out.as_mut_ptr(), out.len(), to, owner, serial, stamp, object, mode).into() }
+}
+
+pub fn write_copy(out: &mut [u8], from: u8, transaction: Transaction, entry: Entry) -> Written {
+    let Transaction { owner, serial, stamp } = transaction;
+    unsafe { senna_write_copy(out.as_mut_ptr(), out.len(), from, owner, serial, stamp, entry.into()).into() }
+}
+
+pub fn write_ask(out: &mut [u8], to: u8, transaction: Transaction, entries: &Entries) -> Written {
+    let Transaction { owner, serial, stamp } = transaction;
+    unsafe { senna_write_ask(out.as_mut_ptr(), out.len(), to, owner, serial, stamp, entries.passed()).into() }
+}
+
+pub fn write_vote(out: &mut [u8], from: u8, transaction: Transaction, rivals: &Serials, word: u8) -> Written {
+    let Transaction { owner, serial, stamp } = transaction;
+    let rivals = SennaSerials { serial: rivals.serial };
+    unsafe { senna_write_vote(out.as_mut_ptr(), out.len(), from, owner, serial, stamp, rivals, word).into() }
+}
+
+pub fn write_outcome(out: &mut [u8], to: u8, transaction: Transaction, entries: &Entries, word: u8) -> Written {
+    let Transaction { owner, serial, stamp } = transaction;
+    unsafe { senna_write_outcome(out.as_mut_ptr(), out.len(), to, owner, serial, stamp, entries.passed(), word).into() }
+}
+
+pub fn write_done(out: &mut [u8], from: u8, transaction: Transaction) -> Written {
+    let Transaction { owner, serial, stamp } = transaction;
+    unsafe { senna_write_done(out.as_mut_ptr(), out.len(), from, owner, serial, stamp).into() }
+}
+
+pub fn write_yield(out: &mut [u8], transaction: Transaction, rival: Rival) -> Written {
+    let Transaction { owner, serial, stamp } = transaction;
+    unsafe { senna_write_yield(out.as_mut_ptr(), out.len(), owner, serial, stamp, rival.owner, rival.serial).into() }
 }

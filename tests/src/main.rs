@@ -41,6 +41,8 @@ fn main() -> ExitCode {
     };
     let mut runner = Runner::new(options);
     checks::quorum::run(&mut runner);
+    checks::message::run(&mut runner);
+    checks::image::run(&mut runner);
     checks::program::run(&mut runner, &program);
     if runner.close() {
         ExitCode::SUCCESS

@@ -16,6 +16,16 @@ macro_rules! ensure {
 }
 pub(crate) use ensure;
 
+/// Runs some work in four threads at once, each with random numbers of its own; the first thing that is wrong, if any.
+pub fn in_four_threads(random: &mut Random, work: impl Fn(&mut Random) -> Result<(), String> + Sync) -> Result<(), String> {
+    let sources = [(); 4].map(|()| Random::new(random.next(), "thread"));
+    let work = &work;
+    std::thread::scope(|scope| {
+        let running = sources.map(|mut random| scope.spawn(move || work(&mut random)));
+        running.into_iter().try_for_each(|thread| thread.join().unwrap_or_else(|_| Err(String::from("a thread panicked"))))
+    })
+}
+
 /// The two figures that a run may be given.
 #[derive(Clone, Copy)]
 pub struct Options {

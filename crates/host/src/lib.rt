@@ -1,6 +1,8 @@
 // The library's functions for C: numbers and byte slices (a slice is a pointer and a size_t), no heap, no state of their own.
 
+mod images;
 mod messages;
+
 ghost use mathlib.Core.Path.{_≡_};
 ghost use mathlib.Core.Bool.{cond};
 ghost use Rattle.quorum.specs.declared.Kind.the-variants.{Read, Write};

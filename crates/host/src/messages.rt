@@ -4,7 +4,8 @@ ghost use Prim.Native.Nat.{min};
 ghost use lib.ListN.{length};
 ghost use Rattle.wire.specs.Decode.{checkOf};
 ghost use Rattle.wire.specs.Write.{writtenOf, bufferAfter, fetchOf, copyOf, askOf, voteOf, outcomeOf, doneOf, yieldOf};
-use wire::{Entry, Written};
+use wire::Entry;
+use wire::Written;
 
 // Up to eight entries: the first count; a count above 8 counts as 8.
 #[repr(C)]
@@ -45,7 +46,14 @@ pub extern "C" fn senna_write_fetch(
 }
 
 #[no_mangle]
-pub extern "C" fn senna_write_copy(out: &mut [u8], from: u8, owner: u8, serial: u32, stamp: u32, entry: Entry) -> Written
+pub extern "C" fn senna_write_copy(
+    out: &mut [u8],
+    from: u8,
+    owner: u8,
+    serial: u32,
+    stamp: u32,
+    entry: Entry,
+) -> Written
     ensures { λ r. ⌜ r ≡ writtenOf (length (now (out .entry))) (copyOf from owner serial stamp entry) ⌝ }
     ensures { λ r. ⌜ now (out .exit) ≡ bufferAfter (copyOf from owner serial stamp entry) (now (out .entry)) ⌝ }
 {
@@ -53,7 +61,14 @@ pub extern "C" fn senna_write_copy(out: &mut [u8], from: u8, owner: u8, serial: 
 }
 
 #[no_mangle]
-pub extern "C" fn senna_write_ask(out: &mut [u8], to: u8, owner: u8, serial: u32, stamp: u32, entries: Entries) -> Written
+pub extern "C" fn senna_write_ask(
+    out: &mut [u8],
+    to: u8,
+    owner: u8,
+    serial: u32,
+    stamp: u32,
+    entries: Entries,
+) -> Written
     ensures { λ r. ⌜ r ≡ writtenOf (length (now (out .entry))) (askOf to owner serial stamp (entries .entry) (min (entries .count) 8)) ⌝ }
     ensures { λ r. ⌜ now (out .exit) ≡ bufferAfter (askOf to owner serial stamp (entries .entry) (min (entries .count) 8)) (now (out .entry)) ⌝ }
 {
@@ -62,7 +77,15 @@ pub extern "C" fn senna_write_ask(out: &mut [u8], to: u8, owner: u8, serial: u32
 }
 
 #[no_mangle]
-pub extern "C" fn senna_write_vote(out: &mut [u8], from: u8, owner: u8, serial: u32, stamp: u32, rivals: Serials, word: u8) -> Written
+pub extern "C" fn senna_write_vote(
+    out: &mut [u8],
+    from: u8,
+    owner: u8,
+    serial: u32,
+    stamp: u32,
+    rivals: Serials,
+    word: u8,
+) -> Written
     ensures { λ r. ⌜ r ≡ writtenOf (length (now (out .entry))) (voteOf from owner serial stamp (rivals .serial) word) ⌝ }
     ensures { λ r. ⌜ now (out .exit) ≡ bufferAfter (voteOf from owner serial stamp (rivals .serial) word) (now (out .entry)) ⌝ }
 {
@@ -71,16 +94,39 @@ pub extern "C" fn senna_write_vote(out: &mut [u8], from: u8, owner: u8, serial: 
 }
 
 #[no_mangle]
-pub extern "C" fn senna_write_outcome(out: &mut [u8], to: u8, owner: u8, serial: u32, stamp: u32, entries: Entries, word: u8) -> Written
+pub extern "C" fn senna_write_outcome(
+    out: &mut [u8],
+    to: u8,
+    owner: u8,
+    serial: u32,
+    stamp: u32,
+    entries: Entries,
+    word: u8,
+) -> Written
     ensures { λ r. ⌜ r ≡ writtenOf (length (now (out .entry))) (outcomeOf to owner serial stamp (entries .entry) (min (entries .count) 8) word) ⌝ }
     ensures { λ r. ⌜ now (out .exit) ≡ bufferAfter (outcomeOf to owner serial stamp (entries .entry) (min (entries .count) 8) word) (now (out .entry)) ⌝ }
 {
     let list = entries.entry;
-    wire::write_outcome(out, to, owner, serial, stamp, list, entries.count as usize, word)
+    wire::write_outcome(
+        out,
+        to,
+        owner,
+        serial,
+        stamp,
+        list,
+        entries.count as usize,
+        word,
+    )
 }
 
 #[no_mangle]
-pub extern "C" fn senna_write_done(out: &mut [u8], from: u8, owner: u8, serial: u32, stamp: u32) -> Written
+pub extern "C" fn senna_write_done(
+    out: &mut [u8],
+    from: u8,
+    owner: u8,
+    serial: u32,
+    stamp: u32,
+) -> Written
     ensures { λ r. ⌜ r ≡ writtenOf (length (now (out .entry))) (doneOf from owner serial stamp) ⌝ }
     ensures { λ r. ⌜ now (out .exit) ≡ bufferAfter (doneOf from owner serial stamp) (now (out .entry)) ⌝ }
 {
@@ -88,7 +134,14 @@ pub extern "C" fn senna_write_done(out: &mut [u8], from: u8, owner: u8, serial: 
 }
 
 #[no_mangle]
-pub extern "C" fn senna_write_yield(out: &mut [u8], owner: u8, serial: u32, stamp: u32, rival: u8, rival_serial: u32) -> Written
+pub extern "C" fn senna_write_yield(
+    out: &mut [u8],
+    owner: u8,
+    serial: u32,
+    stamp: u32,
+    rival: u8,
+    rival_serial: u32,
+) -> Written
     ensures { λ r. ⌜ r ≡ writtenOf (length (now (out .entry))) (yieldOf rival owner serial stamp «rival_serial») ⌝ }
     ensures { λ r. ⌜ now (out .exit) ≡ bufferAfter (yieldOf rival owner serial stamp «rival_serial») (now (out .entry)) ⌝ }
 {

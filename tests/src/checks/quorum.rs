@@ -4,7 +4,7 @@ use crate::ffi;
 use crate::model::number;
 use crate::model::quorum::{self as model, Choice, Kind, ALL, DISTANCES, KINDS, NODES};
 use crate::random::Random;
-use crate::runner::{ensure, Runner, Verdict};
+use crate::runner::{ensure, in_four_threads, Runner, Verdict};
 use std::collections::BTreeSet;
 
 pub fn run(runner: &mut Runner) {
@@ -300,21 +300,15 @@ fn lengths(random: &mut Random, _: usize) -> Verdict {
 /// Re-entrant: four threads at once get the model's answers, each on its own inputs.
 fn threads(random: &mut Random, rounds: usize) -> Verdict {
     let inputs = 10_000 * rounds;
-    let seeds = [random.next(), random.next(), random.next(), random.next()];
-    let work = |seed: u64| -> Result<(), String> {
-        let mut random = Random::new(seed, "thread");
+    in_four_threads(random, |random| {
         for _ in 0..inputs {
-            let bytes = bytes_of(&some_distances(&mut random));
-            let live = some_live(&mut random);
+            let bytes = bytes_of(&some_distances(random));
+            let live = some_live(random);
             for kind in KINDS {
                 compared(kind, live, &bytes)?;
             }
         }
         Ok(())
-    };
-    std::thread::scope(|scope| {
-        let running = seeds.map(|seed| scope.spawn(move || work(seed)));
-        running.into_iter().try_for_each(|thread| thread.join().unwrap_or_else(|_| Err(String::from("a thread panicked"))))
     })?;
     Ok(format!("4 times {inputs} inputs of both kinds"))
 }

@@ -1,0 +1,113 @@
+-- Document 01, 'Message and image': count 64 and the objects' copies (value 8, version 4, holder 1, readers 2, writers 2), then count 13 and the
+-- owners (last serial 4, state 1, stamp 4). An image has a shape, the number of objects and the width of a copy; more fields may follow in a copy.
+use mathlib.Core.List.{List}
+use Prim.Native.Nat.{ℕ, _+_, _*_}
+use Rattle.image.specs.Field.{fieldOf}
+use Rattle.image.specs.declared.Copy.{Copy}
+use Rattle.image.specs.declared.Field.{Field}
+use Rattle.image.specs.declared.Owner.{Owner}
+
+pub record Shape : Type 0 where
+  pub objects : ℕ
+  pub copySize : ℕ
+
+-- the shape of the images of this version: 64 objects (document 01: tallies), 17 bytes each
+abbrev pub shape : Shape
+shape = record { objects = 64; copySize = 17 }
+
+-- ---- sizes in bytes, and the number of owners (document 01: controllers)
+abbrev pub countSize : ℕ
+countSize = 1
+
+abbrev pub owners : ℕ
+owners = 13
+
+abbrev pub ownerSize : ℕ
+ownerSize = 9
+
+-- where the first copy, the second count and the first owner stand
+abbrev pub copiesPlace : ℕ
+copiesPlace = countSize
+
+abbrev pub ownerCountPlace : Shape → ℕ
+ownerCountPlace s = copiesPlace + s .copySize * s .objects
+
+abbrev pub ownersPlace : Shape → ℕ
+ownersPlace s = ownerCountPlace s + countSize
+
+abbrev pub imageSize : Shape → ℕ
+imageSize s = ownersPlace s + ownerSize * owners
+
+-- ---- the fields
+-- a field of a copy, and one of an owner
+abbrev pub copyField : Shape → ℕ → ℕ → Field
+copyField s offset width = record { items = s .objects; base = copiesPlace; stride = s .copySize; offset = offset; width = width }
+
+abbrev pub ownerField : Shape → ℕ → ℕ → Field
+ownerField s offset width = record { items = owners; base = ownersPlace s; stride = ownerSize; offset = offset; width = width }
+
+-- a count, the one item of its kind
+abbrev pub countField : ℕ → Field
+countField place = record { items = 1; base = place; stride = countSize; offset = 0; width = countSize }
+
+abbrev pub objectCount : Field
+objectCount = countField 0
+
+abbrev pub valueField : Shape → Field
+valueField s = copyField s 0 8
+
+abbrev pub versionField : Shape → Field
+versionField s = copyField s 8 4
+
+abbrev pub holderField : Shape → Field
+holderField s = copyField s 12 1
+
+abbrev pub readersField : Shape → Field
+readersField s = copyField s 13 2
+
+abbrev pub writersField : Shape → Field
+writersField s = copyField s 15 2
+
+abbrev pub ownerCount : Shape → Field
+ownerCount s = countField (ownerCountPlace s)
+
+abbrev pub serialField : Shape → Field
+serialField s = ownerField s 0 4
+
+abbrev pub stateField : Shape → Field
+stateField s = ownerField s 4 1
+
+abbrev pub stampField : Shape → Field
+stampField s = ownerField s 5 4
+
+-- ---- the fields of object t and of owner o
+abbrev pub value : List ℕ → ℕ → ℕ
+value l t = fieldOf (valueField shape) l t
+
+abbrev pub version : List ℕ → ℕ → ℕ
+version l t = fieldOf (versionField shape) l t
+
+abbrev pub holder : List ℕ → ℕ → ℕ
+holder l t = fieldOf (holderField shape) l t
+
+abbrev pub readers : List ℕ → ℕ → ℕ
+readers l t = fieldOf (readersField shape) l t
+
+abbrev pub writers : List ℕ → ℕ → ℕ
+writers l t = fieldOf (writersField shape) l t
+
+abbrev pub serial : List ℕ → ℕ → ℕ
+serial l o = fieldOf (serialField shape) l o
+
+abbrev pub state : List ℕ → ℕ → ℕ
+state l o = fieldOf (stateField shape) l o
+
+abbrev pub stamp : List ℕ → ℕ → ℕ
+stamp l o = fieldOf (stampField shape) l o
+
+-- ---- all fields at once; zeros for an object or an owner that is not there
+unfoldable pub copyOf : List ℕ → ℕ → Copy
+copyOf l t = record { value = value l t; version = version l t; holder = holder l t; readers = readers l t; writers = writers l t }
+
+unfoldable pub ownerOf : List ℕ → ℕ → Owner
+ownerOf l o = record { serial = serial l o; state = state l o; stamp = stamp l o }

@@ -1,0 +1,131 @@
+// What a replica changes in an image beside single fields: all of it made blank, the lists of an object, and what an owner holds or is listed in.
+ghost use mathlib.Core.Path.{_≡_};
+ghost use lib.ListN.{length, replicate};
+ghost use Rattle.image.specs.Layout.{shape};
+ghost use Rattle.image.specs.Field.{Near, changed};
+ghost use Rattle.image.specs.Blank.{counted, unheld, blank, blankNumber};
+ghost use Rattle.image.specs.Change.{listing, addReader, addWriter, freeing, free, leave, unlist};
+use crate::Field;
+use crate::NOBODY;
+use crate::OBJECT_COUNT;
+use crate::OBJECTS;
+use crate::OWNER_COUNT;
+use crate::OWNERS;
+use crate::READERS;
+use crate::SIZE;
+use crate::WRITERS;
+use crate::fields::get_u16;
+use crate::fields::put_u8;
+use crate::fields::put_u16;
+use crate::read::holder;
+use crate::write::set_holder;
+
+// Every byte becomes 0.
+fn zero(image: &mut [u8])
+    ensures { λ r. ⌜ now (image .exit) ≡ replicate (length (now (image .entry))) 0 ⌝ }
+{
+    let mut i = 0;
+    while i < image.len() {
+        image[i] = 0;
+        i = i + 1;
+    }
+}
+
+// The two counts are set.
+fn count(image: &mut [u8])
+    ensures { λ r. ⌜ now (image .exit) ≡ counted shape (now (image .entry)) ⌝ }
+{
+    put_u8(image, OBJECT_COUNT, 0, OBJECTS);
+    put_u8(image, OWNER_COUNT, 0, OWNERS);
+}
+
+// Nobody holds a copy any more.
+fn unhold(image: &mut [u8])
+    ensures { λ r. ⌜ now (image .exit) ≡ unheld shape (now (image .entry)) ⌝ }
+{
+    let mut t: u8 = 0;
+    while t < OBJECTS {
+        set_holder(image, t, NOBODY);
+        t = t + 1;
+    }
+}
+
+// Makes 1,207 bytes the blank image; 1 and nothing altered for another length.
+// Ruled out: holders left 0, which is node 0; a byte of the old image kept.
+pub fn blank(image: &mut [u8]) -> u8
+    ensures number { λ r. ⌜ r ≡ blankNumber (now (image .entry)) ⌝ }
+    ensures image { λ r. ⌜ now (image .exit) ≡ blank (now (image .entry)) ⌝ }
+{
+    if image.len() != SIZE {
+        return numbers::LENGTH;
+    }
+    zero(image);
+    count(image);
+    unhold(image);
+    0
+}
+
+// Owner o joins the list f of item t.
+fn add(image: &mut [u8], f: Field, t: u8, o: u8)
+    requires { ⌜ Near f × (f .width ≡ 2) ⌝ }
+    ensures { λ r. ⌜ now (image .exit) ≡ changed f (listing o) (now (image .entry)) t ⌝ }
+{
+    let m = mask::join(get_u16(image, f, t), mask::single(o));
+    put_u16(image, f, t, m);
+}
+
+// Owner o joins the readers of object t. Ruled out: the readers replaced by o alone; o put among the writers.
+pub fn add_reader(image: &mut [u8], t: u8, o: u8)
+    ensures { λ r. ⌜ now (image .exit) ≡ addReader (now (image .entry)) t o ⌝ }
+{
+    add(image, READERS, t, o);
+}
+
+// Owner o joins the writers of object t. Ruled out: the readers' bits taken over; every owner below o joining too.
+pub fn add_writer(image: &mut [u8], t: u8, o: u8)
+    ensures { λ r. ⌜ now (image .exit) ≡ addWriter (now (image .entry)) t o ⌝ }
+{
+    add(image, WRITERS, t, o);
+}
+
+// A holder once owner o has let go.
+fn freed(o: u8, h: u8) -> u8
+    ensures { λ r. ⌜ r ≡ freeing o h ⌝ }
+{
+    if h == o { NOBODY } else { h }
+}
+
+// Frees every copy that owner o holds. Ruled out: the copies of other owners freed; only the first of o's copies freed.
+pub fn free(image: &mut [u8], o: u8)
+    ensures { λ r. ⌜ now (image .exit) ≡ free (now (image .entry)) o ⌝ }
+{
+    let mut t: u8 = 0;
+    while t < OBJECTS {
+        let h = freed(o, holder(image, t));
+        set_holder(image, t, h);
+        t = t + 1;
+    }
+}
+
+// Owner o leaves the list f of every item.
+fn leave(image: &mut [u8], f: Field, o: u8)
+    requires { ⌜ Near f × (f .width ≡ 2) ⌝ }
+    ensures { λ r. ⌜ now (image .exit) ≡ leave f (now (image .entry)) o ⌝ }
+{
+    let own = mask::single(o);
+    let items = f.items;
+    let mut t: u8 = 0;
+    while t < items {
+        let m = mask::without(get_u16(image, f, t), own);
+        put_u16(image, f, t, m);
+        t = t + 1;
+    }
+}
+
+// Owner o leaves all readers and writers. Ruled out: the whole lists emptied; o left among the writers.
+pub fn unlist(image: &mut [u8], o: u8)
+    ensures { λ r. ⌜ now (image .exit) ≡ unlist (now (image .entry)) o ⌝ }
+{
+    leave(image, READERS, o);
+    leave(image, WRITERS, o);
+}

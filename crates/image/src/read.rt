@@ -1,0 +1,92 @@
+// The fields of an image, read in place. An object above 63 or an owner above 12 reads as 0, as do bytes that are not there.
+ghost use mathlib.Core.Path.{_≡_};
+ghost use Rattle.image.specs.Layout.{copyOf, ownerOf};
+ghost use Rattle.image.specs.Layout.{value, version, holder, readers, writers, serial, state, stamp};
+use crate::Copy;
+use crate::HOLDER;
+use crate::Owner;
+use crate::READERS;
+use crate::SERIAL;
+use crate::STAMP;
+use crate::STATE;
+use crate::VALUE;
+use crate::VERSION;
+use crate::WRITERS;
+use crate::fields::get_u8;
+use crate::fields::get_u16;
+use crate::fields::get_u32;
+use crate::fields::get_u64;
+
+// Each field of object t rules out, among others: the same field of the next object; the field beside it.
+pub fn value(image: &[u8], t: u8) -> u64
+    ensures { λ r. ⌜ r ≡ value (now (image .entry)) t ⌝ }
+{
+    get_u64(image, VALUE, t)
+}
+
+pub fn version(image: &[u8], t: u8) -> u32
+    ensures { λ r. ⌜ r ≡ version (now (image .entry)) t ⌝ }
+{
+    get_u32(image, VERSION, t)
+}
+
+pub fn holder(image: &[u8], t: u8) -> u8
+    ensures { λ r. ⌜ r ≡ holder (now (image .entry)) t ⌝ }
+{
+    get_u8(image, HOLDER, t)
+}
+
+pub fn readers(image: &[u8], t: u8) -> u16
+    ensures { λ r. ⌜ r ≡ readers (now (image .entry)) t ⌝ }
+{
+    get_u16(image, READERS, t)
+}
+
+pub fn writers(image: &[u8], t: u8) -> u16
+    ensures { λ r. ⌜ r ≡ writers (now (image .entry)) t ⌝ }
+{
+    get_u16(image, WRITERS, t)
+}
+
+// Each field of owner o rules out, among others: the same field of the next owner; the field beside it.
+pub fn serial(image: &[u8], o: u8) -> u32
+    ensures { λ r. ⌜ r ≡ serial (now (image .entry)) o ⌝ }
+{
+    get_u32(image, SERIAL, o)
+}
+
+pub fn state(image: &[u8], o: u8) -> u8
+    ensures { λ r. ⌜ r ≡ state (now (image .entry)) o ⌝ }
+{
+    get_u8(image, STATE, o)
+}
+
+pub fn stamp(image: &[u8], o: u8) -> u32
+    ensures { λ r. ⌜ r ≡ stamp (now (image .entry)) o ⌝ }
+{
+    get_u32(image, STAMP, o)
+}
+
+// The copy of object t. Ruled out: readers and writers the other way round; the copy of object 63 for one above it.
+pub fn copy_of(image: &[u8], t: u8) -> Copy
+    ensures { λ r. ⌜ r ≡ copyOf (now (image .entry)) t ⌝ }
+{
+    Copy {
+        value: value(image, t),
+        version: version(image, t),
+        holder: holder(image, t),
+        readers: readers(image, t),
+        writers: writers(image, t),
+    }
+}
+
+// What is kept of owner o. Ruled out: serial and stamp the other way round; the owner after it.
+pub fn owner_of(image: &[u8], o: u8) -> Owner
+    ensures { λ r. ⌜ r ≡ ownerOf (now (image .entry)) o ⌝ }
+{
+    Owner {
+        serial: serial(image, o),
+        state: state(image, o),
+        stamp: stamp(image, o),
+    }
+}
