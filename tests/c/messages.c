@@ -3,17 +3,7 @@
  * checked again; so is the blank image; every refusal; and that only the lent bytes are touched. Also valid C++, which shows that the
  * header is.
  */
-#ifndef _DEFAULT_SOURCE
-#define _DEFAULT_SOURCE /* for mmap */
-#endif
-
-#include "senna.h"
-
-#include <assert.h>
-#include <stdio.h>
-#include <string.h>
-#include <sys/mman.h>
-#include <unistd.h>
+#include "check.h"
 
 static_assert(sizeof(senna_entry) == 16, "the layout that the library takes");
 static_assert(offsetof(senna_entry, object) == 0 && offsetof(senna_entry, mode) == 1, "the layout that the library takes");
@@ -23,19 +13,6 @@ static_assert(sizeof(senna_serials) == 52, "the layout that the library takes");
 static_assert(sizeof(senna_written) == 2 && offsetof(senna_written, length) == 1, "the layout that the library returns");
 static_assert(SENNA_MESSAGE_MIN == 12 + 3 && SENNA_MESSAGE_MAX == 12 + 3 + 14 * SENNA_ENTRIES + 1, "the sizes agree");
 static_assert(SENNA_IMAGE == 1 + 17 * SENNA_OBJECTS + 1 + 9 * SENNA_NODES, "the sizes agree");
-
-static unsigned passed = 0;
-static unsigned failed = 0;
-
-static void check(int holds, const char *what)
-{
-    if (holds) {
-        passed++;
-    } else {
-        failed++;
-        printf("FAILED c: %s\n", what);
-    }
-}
 
 static void check_number(unsigned got, unsigned number, const char *what)
 {
@@ -471,6 +448,5 @@ int main(void)
     check_lengths();
     check_images();
     check_touches();
-    printf("%u passed, %u failed\n", passed, failed);
-    return failed > 0;
+    return closing();
 }

@@ -2,36 +2,13 @@
  * The C functions for quorums, called through include/senna.h as a host would: the marked cases, every refusal, and that only the lent
  * bytes are touched. Also valid C++, which shows that the header is.
  */
-#ifndef _DEFAULT_SOURCE
-#define _DEFAULT_SOURCE /* for mmap */
-#endif
-
-#include "senna.h"
-
-#include <assert.h>
-#include <stdio.h>
-#include <string.h>
-#include <sys/mman.h>
-#include <unistd.h>
+#include "check.h"
 
 static_assert(sizeof(senna_choice) == 8, "the layout that the library returns");
 static_assert(offsetof(senna_choice, number) == 0, "the layout that the library returns");
 static_assert(offsetof(senna_choice, mask) == 2, "the layout that the library returns");
 static_assert(offsetof(senna_choice, sum) == 4, "the layout that the library returns");
 static_assert(SENNA_DISTANCES == 2 * SENNA_NODES && SENNA_ALL == (1 << SENNA_NODES) - 1, "the sizes agree");
-
-static unsigned passed = 0;
-static unsigned failed = 0;
-
-static void check(int holds, const char *what)
-{
-    if (holds) {
-        passed++;
-    } else {
-        failed++;
-        printf("FAILED c: %s\n", what);
-    }
-}
 
 static void check_choice(senna_choice got, unsigned number, unsigned mask, unsigned sum, const char *what)
 {
@@ -187,6 +164,5 @@ int main(void)
     check_bytes();
     check_refusals();
     check_touches();
-    printf("%u passed, %u failed\n", passed, failed);
-    return failed > 0;
+    return closing();
 }
