@@ -1,0 +1,86 @@
+-- What the definitions imply, each by the cases of its test: a refusal leaves the record, serials rise by one, a late copy changes nothing, a
+-- commit needs every participant's yes, idle needs every done, and a message that does not fit changes nothing. Over any quorum system.
+use mathlib.Core.Path.{_≡_, refl, sym, ap, _∙_}
+use mathlib.Core.Bool.{Bool, true, false, cond, and-false}
+use mathlib.Core.List.{List}
+use Prim.Native.Nat.{ℕ, _+_}
+use native.Mathlib.Omega.{arith}
+use lib.Dec.{eqb}
+use borrow.Author.Tests.{eqb-false, ne-eqb}
+use Rattle.mask.specs.Mask.{within}
+use Rattle.numbers.specs.Refusal.{firstOf}
+use Rattle.quorum.specs.Nearest.{maskOf}
+use Rattle.wire.specs.Items.{entryOf}
+use Rattle.coordinator.specs.declared.Coordinator.{Coordinator}
+use Rattle.coordinator.specs.declared.BeginWith.{BeginWith}
+use Rattle.coordinator.specs.declared.Step.{Step}
+use Rattle.coordinator.specs.System.{System}
+use Rattle.coordinator.specs.State.{votingPhase, finishingPhase, nothing, committed, finished, blankRecord, idleAfter, objectAt, ready, awaited, stepOf}
+use Rattle.coordinator.specs.Clauses.{clauses, meets}
+use Rattle.coordinator.specs.Calls.{beginRefusals, begun, beginOf}
+use Rattle.coordinator.specs.Receive.{brought, answers, copyFits, copyTaken, withYes, voteTaken, withDone, doneTaken, receiveRefusals, receiveOf}
+
+-- ---- refusals, of every host call (each is a `stepOf`) and of a delivery
+pub refused-leaves : (number answer : ℕ) (before after : Coordinator) → (number ≡ 0 → ⊥) → stepOf number answer before after .coordinator ≡ before
+unfolding stepOf
+refused-leaves number answer before after h = simp (ne-eqb number 0 h)
+
+pub receive-refused-leaves : (s : System) (c : Coordinator) (me : ℕ) (m : List ℕ) → (firstOf (receiveRefusals c me m) ≡ 0 → ⊥)
+    → receiveOf s c me m .coordinator ≡ c
+unfolding receiveOf
+receive-refused-leaves s c me m h = simp (ne-eqb (firstOf (receiveRefusals c me m)) 0 h)
+
+-- ---- serials rise by one
+taken-or : (n : ℕ) (t : Bool) (x : Step) (y : Step) → eqb n 0 ≡ t → y .number ≡ n → cond t x y .number ≡ 0 → cond t x y .coordinator ≡ x .coordinator
+taken-or n true x y e f g = refl
+taken-or n false x y e f g = absurd (eqb-false n 0 e (sym f ∙ g))
+
+pub taken-after : (number answer : ℕ) (before after : Coordinator) → stepOf number answer before after .number ≡ 0
+    → stepOf number answer before after .coordinator ≡ after
+unfolding stepOf
+taken-after number answer before after e = taken-or number (eqb number 0) _ _ refl refl e
+
+pub serial-rises : (s : System) (c : Coordinator) (me : ℕ) (w : BeginWith) → beginOf s c me w .number ≡ 0
+    → beginOf s c me w .coordinator .serial ≡ c .serial + 1
+unfolding beginOf begun
+serial-rises s c me w e =
+    let chosen = s .nearestRead (w .live) (w .distances) in
+    ap (λ (d : Coordinator). d .serial) (taken-after (firstOf (beginRefusals c me w chosen)) (maskOf chosen) c (begun c w (maskOf chosen)) e)
+
+-- ---- found never changes once ready: a copy for a ready object changes nothing
+pub late-copy : (s : System) (c : Coordinator) (m : List ℕ) → ready s (objectAt c (entryOf m 0 .object)) ≡ true → copyTaken s c m ≡ brought nothing c
+unfolding copyTaken copyFits
+late-copy s c m h = simp (h, and-false)
+
+-- ---- an answer that only the first of two cases gives
+of-answer : (t : Bool) (x y : Step) (k : ℕ) → (y .answer ≡ k → ⊥) → cond t x y .answer ≡ k → t ≡ true
+of-answer true x y k n e = refl
+of-answer false x y k n e = absurd (n e)
+
+-- a commit needs every participant's yes
+pub commit-needs-all : (c : Coordinator) (agreed : ℕ) (rivals : List ℕ) → withYes c agreed rivals .answer ≡ committed → within (c .participants) agreed ≡ true
+unfolding withYes
+commit-needs-all c agreed rivals e = of-answer (within (c .participants) agreed) _ _ committed (λ z. let w : ⊥ = omega arith in w) e
+
+-- idle needs the done of every participant, when never voted of every contacted node
+pub finish-needs-all : (c : Coordinator) (said : ℕ) → withDone c said .answer ≡ finished → within (awaited c) said ≡ true
+unfolding withDone
+finish-needs-all c said e = of-answer (within (awaited c) said) _ _ finished (λ z. let w : ⊥ = omega arith in w) e
+
+-- ---- a message that does not fit changes nothing
+pub vote-unfit : (c : Coordinator) (m : List ℕ) → answers c votingPhase (c .participants) m ≡ false → voteTaken c m ≡ brought nothing c
+unfolding voteTaken
+vote-unfit c m h = simp (h)
+
+pub done-unfit : (c : Coordinator) (m : List ℕ) → answers c finishingPhase (awaited c) m ≡ false → doneTaken c m ≡ brought nothing c
+unfolding doneTaken
+done-unfit c m h = simp (h)
+
+pub copy-unfit : (s : System) (c : Coordinator) (m : List ℕ) → copyFits s c m ≡ false → copyTaken s c m ≡ brought nothing c
+unfolding copyTaken
+copy-unfit s c m h = simp (h)
+
+-- ---- the blank record meets the clauses
+pub blank-meets : meets blankRecord ≡ true
+unfolding clauses idleAfter
+blank-meets = refl

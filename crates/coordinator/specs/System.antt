@@ -1,0 +1,22 @@
+-- What a transaction needs of the quorums: a parameter of every definition. The tree is the one instance.
+use mathlib.Core.Bool.{Bool}
+use mathlib.Core.List.{List}
+use Prim.Native.Nat.{ℕ}
+use Rattle.quorum.specs.declared.Choice.{Choice}
+use Rattle.quorum.specs.declared.Kind.{Kind}
+use Rattle.quorum.specs.declared.Kind.the-variants.{Read, Write}
+use Rattle.quorum.specs.Quorum.{isQuorum}
+use Rattle.quorum.specs.Smallest.{smallest}
+use Rattle.quorum.specs.Nearest.{nearestOf}
+
+-- whether a set is a read quorum, and the nearest quorums within the live nodes by the distances
+pub record System : Type 0 where
+  pub isRead : ℕ → Bool
+  pub nearestRead : ℕ → List ℕ → Choice
+  pub nearestWrite : ℕ → List ℕ → Choice
+
+abbrev pub nearestIn : Kind → ℕ → List ℕ → Choice
+nearestIn kind live distances = nearestOf live distances (smallest kind)
+
+abbrev pub tree : System
+tree = record { isRead = isQuorum Read; nearestRead = nearestIn Read; nearestWrite = nearestIn Write }

@@ -1,0 +1,122 @@
+// How a call ends, and the small tests that the calls share.
+ghost use mathlib.Core.Path.{_≡_};
+ghost use mathlib.Core.Bool.{cond, _&&_, _||_};
+ghost use Rattle.quorum.specs.Nearest.{maskOf};
+ghost use Rattle.coordinator.specs.State.{idleAfter};
+ghost use Rattle.coordinator.specs.Calls.{isNone};
+use crate::Coordinator;
+use crate::IDLE;
+use crate::NODES;
+use crate::OBJECTS;
+use crate::Object;
+use crate::Step;
+use quorum::Choice;
+
+// The call is refused: the record is as before.
+pub(crate) fn refused(number: u8, c: Coordinator) -> Step
+    ensures { λ r. ⌜ r ≡ record { number = number; answer = 0; coordinator = c } ⌝ }
+{
+    Step {
+        number,
+        answer: 0,
+        coordinator: c,
+    }
+}
+
+// The call is taken: its answer, and the record after it.
+pub(crate) fn taken(answer: u64, c: Coordinator) -> Step
+    ensures { λ r. ⌜ r ≡ record { number = 0; answer = answer; coordinator = c } ⌝ }
+{
+    Step {
+        number: 0,
+        answer,
+        coordinator: c,
+    }
+}
+
+// One refusal before the rest of the list.
+pub(crate) fn refuse(number: u8, fits: bool, rest: u8) -> u8
+    ensures { λ r. ⌜ r ≡ cond fits number rest ⌝ }
+{
+    if fits { number } else { rest }
+}
+
+// Both tests, either of them.
+pub(crate) fn both(a: bool, b: bool) -> bool
+    ensures { λ r. ⌜ r ≡ (a && b) ⌝ }
+{
+    if a { b } else { false }
+}
+
+pub(crate) fn either(a: bool, b: bool) -> bool
+    ensures { λ r. ⌜ r ≡ (a || b) ⌝ }
+{
+    if a { true } else { b }
+}
+
+// One answer or another.
+pub(crate) fn pick(first: bool, a: u8, b: u8) -> u8
+    ensures { λ r. ⌜ r ≡ cond first a b ⌝ }
+{
+    if first { a } else { b }
+}
+
+// A mask as an answer.
+pub(crate) fn wide(m: u16) -> u64
+    ensures { λ r. ⌜ r ≡ m ⌝ }
+{
+    m as u64
+}
+
+// The set of a choice, and whether there is none.
+pub(crate) fn mask_of(x: Choice) -> u16
+    ensures { λ r. ⌜ r ≡ maskOf x ⌝ }
+{
+    match x {
+        Choice::Quorum(m, _) => m,
+        Choice::Nothing => 0,
+    }
+}
+
+pub(crate) fn is_none(x: Choice) -> bool
+    ensures { λ r. ⌜ r ≡ isNone x ⌝ }
+{
+    match x {
+        Choice::Quorum(_, _) => false,
+        Choice::Nothing => true,
+    }
+}
+
+// An idle record with a lasting part; the rest is blank.
+pub(crate) fn idle_with(serial: u32, timestamp: u32, outcome: u8) -> Coordinator
+    ensures { λ r. ⌜ r ≡ idleAfter serial timestamp outcome ⌝ }
+{
+    let none = Object {
+        object: 0,
+        mode: 0,
+        came: 0,
+        version: 0,
+        value: 0,
+        given: false,
+        new: 0,
+    };
+    let objects = [none; OBJECTS];
+    let distances = [0u16; NODES];
+    let rivals = [0u32; NODES];
+    Coordinator {
+        serial,
+        timestamp,
+        outcome,
+        phase: IDLE,
+        live: 0,
+        distances,
+        quorum: 0,
+        contacted: 0,
+        count: 0,
+        objects,
+        participants: 0,
+        yes: 0,
+        done: 0,
+        rivals,
+    }
+}

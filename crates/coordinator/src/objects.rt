@@ -1,0 +1,132 @@
+// The opened objects of a record, in the order of opening: where one stands, and what holds of all of them. Each loop goes down over the places.
+ghost use mathlib.Core.Path.{_≡_};
+ghost use lib.ListN.{getD, set};
+ghost use Rattle.coordinator.specs.System.{tree};
+ghost use Rattle.coordinator.specs.State.{noObject, placeIn, placeOf, objectAt, ready, andSettled, orUsedUp, allSettled, anyUsedUp, hereElse};
+use crate::Coordinator;
+use crate::OBJECTS;
+use crate::Object;
+use crate::common::both;
+use crate::common::either;
+use quorum::Kind;
+
+const HIGHEST: u32 = 4294967295;
+
+// Place i where it has the object, else what was found past it.
+fn here_else(object: u8, count: usize, i: usize, x: Object, rest: usize) -> usize
+    ensures { λ r. ⌜ r ≡ hereElse object count i x rest ⌝ }
+{
+    if both(i < count, x.object == object) {
+        i
+    } else {
+        rest
+    }
+}
+
+// The place of an opened object; 8 where it is not open.
+fn place_in(objects: [Object; OBJECTS], count: usize, object: u8) -> usize
+    ensures { λ r. ⌜ r ≡ placeIn objects count object ⌝ }
+{
+    let mut at = OBJECTS;
+    let mut i = OBJECTS;
+    while 0 < i {
+        i = i - 1;
+        at = here_else(object, count, i, objects[i], at);
+    }
+    at
+}
+
+// The same in a record.
+pub(crate) fn place(c: Coordinator, object: u8) -> usize
+    ensures { λ r. ⌜ r ≡ placeOf c object ⌝ }
+{
+    let objects = c.objects;
+    place_in(objects, c.count, object)
+}
+
+// Whether copies have come from a read quorum.
+pub(crate) fn is_ready(x: Object) -> bool
+    ensures { λ r. ⌜ r ≡ ready tree x ⌝ }
+{
+    quorum::is_quorum(Kind::Read, x.came)
+}
+
+// Whether votes may be asked for, as far as place i goes.
+fn and_settled(count: usize, i: usize, x: Object, rest: bool) -> bool
+    ensures { λ r. ⌜ r ≡ andSettled tree count i x rest ⌝ }
+{
+    let ok = both(is_ready(x), either(x.mode == 0, x.given));
+    both(either(!(i < count), ok), rest)
+}
+
+pub(crate) fn all_settled(objects: [Object; OBJECTS], count: usize) -> bool
+    ensures { λ r. ⌜ r ≡ allSettled tree objects count ⌝ }
+{
+    let mut ok = true;
+    let mut i = OBJECTS;
+    while 0 < i {
+        i = i - 1;
+        ok = and_settled(count, i, objects[i], ok);
+    }
+    ok
+}
+
+// Whether a written version has no next one.
+fn or_used_up(count: usize, i: usize, x: Object, rest: bool) -> bool
+    ensures { λ r. ⌜ r ≡ orUsedUp count i x rest ⌝ }
+{
+    either(
+        both(i < count, both(!(x.mode == 0), x.version == HIGHEST)),
+        rest,
+    )
+}
+
+pub(crate) fn any_used_up(objects: [Object; OBJECTS], count: usize) -> bool
+    ensures { λ r. ⌜ r ≡ anyUsedUp objects count ⌝ }
+{
+    let mut found = false;
+    let mut i = OBJECTS;
+    while 0 < i {
+        i = i - 1;
+        found = or_used_up(count, i, objects[i], found);
+    }
+    found
+}
+
+// The object that stands at a place; a blank one past the end.
+fn at_index(objects: [Object; OBJECTS], p: usize) -> Object
+    ensures { λ r. ⌜ r ≡ getD objects p noObject ⌝ }
+{
+    if p < OBJECTS {
+        objects[p]
+    } else {
+        Object {
+            object: 0,
+            mode: 0,
+            came: 0,
+            version: 0,
+            value: 0,
+            given: false,
+            new: 0,
+        }
+    }
+}
+
+// An opened object of a record.
+pub(crate) fn at_place(c: Coordinator, object: u8) -> Object
+    ensures { λ r. ⌜ r ≡ objectAt c object ⌝ }
+{
+    let objects = c.objects;
+    at_index(objects, place(c, object))
+}
+
+// The objects with another at a place; the same where there is no such place.
+pub(crate) fn put(objects: [Object; OBJECTS], p: usize, x: Object) -> [Object; OBJECTS]
+    ensures { λ r. ⌜ r ≡ set objects p x ⌝ }
+{
+    let mut a = objects;
+    if p < OBJECTS {
+        a[p] = x;
+    }
+    a
+}
