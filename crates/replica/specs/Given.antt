@@ -1,0 +1,28 @@
+-- What the private steps hand back while an answer is written: the writers' own number, length and buffer. proofs/Delivered.antt shows that they are 0, the
+-- answer's length and the answer.
+use mathlib.Core.Path.{_≡_}
+use mathlib.Core.Bool.{Bool, true, _||_}
+use mathlib.Core.List.{List}
+use Prim.Native.Nat.{ℕ}
+use lib.Dec.{eqb, ltb}
+use Rattle.wire.specs.declared.Entry.{Entry}
+use Rattle.wire.specs.declared.Written.{Written}
+use Rattle.wire.specs.Message.{Message}
+use Rattle.wire.specs.Formed.{every}
+use Rattle.wire.specs.Write.{writtenOf, bufferAfter}
+use Rattle.replica.specs.Steps.{Answer, silent, says}
+
+unfoldable pub writtenAs : ℕ → Answer → Written
+writtenAs size silent = record { number = 0; length = 0 }
+writtenAs size (says m) = writtenOf size m
+
+unfoldable pub filledBy : Answer → List ℕ → List ℕ
+filledBy silent l = l
+filledBy (says m) l = bufferAfter m l
+
+-- each version that a commit raises is below the last: what an accepted commit has
+abbrev pub raisable : Entry → Bool
+raisable e = eqb (e .mode) 0 || ltb (e .version) 4294967295
+
+abbrev pub Raisable : Message → Type 0
+Raisable m = every raisable (m .entries) ≡ true

@@ -1,0 +1,96 @@
+// What a fetch, an ask and an outcome do, once nothing refuses them.
+ghost use mathlib.Core.Path.{_≡_};
+ghost use lib.ListN.{length};
+ghost use Rattle.wire.specs.Decode.{decode};
+ghost use Rattle.replica.specs.Steps.{copyHere, fetchImage, fetchAnswer, judgedImage, judgedAnswer, askImage, askAnswer};
+ghost use Rattle.replica.specs.Steps.{outcomeImage, outcomeAnswer};
+ghost use Rattle.replica.specs.Given.{writtenAs, filledBy, Raisable};
+use crate::answer::say_copy;
+use crate::answer::say_done;
+use crate::answer::say_vote;
+use crate::answer::silence;
+use crate::change::hold;
+use crate::change::join_list;
+use crate::change::leave;
+use crate::change::settle;
+use crate::judge::rivals_of;
+use crate::judge::serials_of;
+use crate::judge::votes_no;
+use crate::standing::enter;
+use crate::standing::is_active;
+use crate::standing::standing;
+
+// The copy here of the entry's object, with the entry's mode.
+fn copy_here(image: &[u8], e: wire::Entry) -> wire::Entry
+    ensures { λ r. ⌜ r ≡ copyHere (now (image .entry)) e ⌝ }
+{
+    wire::Entry {
+        object: e.object,
+        mode: e.mode,
+        version: image::version(image, e.object),
+        value: image::value(image, e.object),
+    }
+}
+
+// A fetch: listed, the owner joins a list and the copy is answered.
+pub(crate) fn fetch(image: &mut [u8], me: u8, message: &[u8], answer: &mut [u8]) -> wire::Written
+    ensures number { λ r. ⌜ r ≡ writtenAs (length (now (answer .entry))) (fetchAnswer me (now (image .entry)) (decode (now (message .entry)))) ⌝ }
+    ensures image { λ r. ⌜ now (image .exit) ≡ fetchImage (now (image .entry)) (decode (now (message .entry))) ⌝ }
+    ensures buffer { λ r. ⌜ now (answer .exit) ≡ filledBy (fetchAnswer me (now (image .entry)) (decode (now (message .entry)))) (now (answer .entry)) ⌝ }
+{
+    if is_active(image, message) {
+        let e = copy_here(image, wire::nth_entry(message, 0));
+        enter(image, message);
+        join_list(image, wire::owner(message), e);
+        return say_copy(answer, me, message, e);
+    }
+    silence()
+}
+
+// A listed ask: a no leaves it refused; a yes holds what it writes and names the rivals. Either way the owner leaves all lists.
+fn judge(image: &mut [u8], me: u8, message: &[u8], answer: &mut [u8]) -> wire::Written
+    ensures number { λ r. ⌜ r ≡ writtenAs (length (now (answer .entry))) (judgedAnswer me (now (image .entry)) (decode (now (message .entry)))) ⌝ }
+    ensures image { λ r. ⌜ now (image .exit) ≡ judgedImage (now (image .entry)) (decode (now (message .entry))) ⌝ }
+    ensures buffer { λ r. ⌜ now (answer .exit) ≡ filledBy (judgedAnswer me (now (image .entry)) (decode (now (message .entry)))) (now (answer .entry)) ⌝ }
+{
+    let o = wire::owner(message);
+    if votes_no(image, message) {
+        leave(image, o, image::REFUSED);
+        return say_vote(answer, me, message, [0; 13], 0);
+    }
+    let serials = serials_of(image, rivals_of(image, message));
+    leave(image, o, image::HELD);
+    hold(image, message);
+    say_vote(answer, me, message, serials, 1)
+}
+
+// An ask: listed is judged; held answers yes and refused no again, naming no rivals.
+pub(crate) fn ask(image: &mut [u8], me: u8, message: &[u8], answer: &mut [u8]) -> wire::Written
+    ensures number { λ r. ⌜ r ≡ writtenAs (length (now (answer .entry))) (askAnswer me (now (image .entry)) (decode (now (message .entry)))) ⌝ }
+    ensures image { λ r. ⌜ now (image .exit) ≡ askImage (now (image .entry)) (decode (now (message .entry))) ⌝ }
+    ensures buffer { λ r. ⌜ now (answer .exit) ≡ filledBy (askAnswer me (now (image .entry)) (decode (now (message .entry)))) (now (answer .entry)) ⌝ }
+{
+    if is_active(image, message) {
+        enter(image, message);
+        return judge(image, me, message, answer);
+    }
+    let s = standing(image, message);
+    if s == image::HELD {
+        return say_vote(answer, me, message, [0u32; 13], 1);
+    }
+    if s == image::REFUSED {
+        return say_vote(answer, me, message, [0u32; 13], 0);
+    }
+    silence()
+}
+
+// An outcome: always answered with done.
+pub(crate) fn outcome(image: &mut [u8], me: u8, message: &[u8], answer: &mut [u8]) -> wire::Written
+    requires { ⌜ Raisable (decode (now message)) ⌝ }
+    ensures number { λ r. ⌜ r ≡ writtenAs (length (now (answer .entry))) (outcomeAnswer me (decode (now (message .entry)))) ⌝ }
+    ensures image { λ r. ⌜ now (image .exit) ≡ outcomeImage (now (image .entry)) (decode (now (message .entry))) ⌝ }
+    ensures buffer { λ r. ⌜ now (answer .exit) ≡ filledBy (outcomeAnswer me (decode (now (message .entry)))) (now (answer .entry)) ⌝ }
+{
+    settle(image, message);
+    say_done(answer, me, message)
+}
