@@ -49,28 +49,27 @@ fn held_in(random: &mut Random, image: Image, state: u8) -> Vec<u8> {
     held_by(random, image, holder)
 }
 
-/// An owner of another state among the readers or the writers of a copy.
-fn listed_in(random: &mut Random, mut image: Image, state: u8, reads: bool) -> Vec<u8> {
-    let bit = only(one_in(random, &image, state));
+/// These bits among the readers or the writers of a copy.
+fn listing(random: &mut Random, mut image: Image, bits: u16, reads: bool) -> Vec<u8> {
     let copy = &mut image.copies[place(random)];
     if reads {
-        copy.readers |= bit;
+        copy.readers |= bits;
     } else {
-        copy.writers |= bit;
+        copy.writers |= bits;
     }
     encode(&image)
 }
 
+/// An owner of another state among the readers or the writers of a copy.
+fn listed_in(random: &mut Random, image: Image, state: u8, reads: bool) -> Vec<u8> {
+    let bit = only(one_in(random, &image, state));
+    listing(random, image, bit, reads)
+}
+
 /// A bit that names no node among the readers or the writers of a copy.
-fn above_all(random: &mut Random, mut image: Image, reads: bool) -> Vec<u8> {
+fn above_all(random: &mut Random, image: Image, reads: bool) -> Vec<u8> {
     let bit = *random.pick(&[1 << 13, 1 << 14, 1 << 15, 7 << 13]);
-    let copy = &mut image.copies[place(random)];
-    if reads {
-        copy.readers |= bit;
-    } else {
-        copy.writers |= bit;
-    }
-    encode(&image)
+    listing(random, image, bit, reads)
 }
 
 /// An owner whom no copy names, with these fields.
