@@ -1,6 +1,6 @@
 // How a call ends, and the small tests that the calls share.
 ghost use mathlib.Core.Path.{_≡_};
-ghost use mathlib.Core.Bool.{cond, _&&_, _||_};
+ghost use mathlib.Core.Bool.{cond};
 ghost use Rattle.quorum.specs.Nearest.{maskOf};
 ghost use Rattle.coordinator.specs.State.{idleAfter};
 ghost use Rattle.coordinator.specs.Calls.{isNone};
@@ -32,26 +32,6 @@ pub(crate) fn taken(answer: u64, c: Coordinator) -> Step
         answer,
         coordinator: c,
     }
-}
-
-// One refusal before the rest of the list.
-pub(crate) fn refuse(number: u8, fits: bool, rest: u8) -> u8
-    ensures { λ r. ⌜ r ≡ cond fits number rest ⌝ }
-{
-    if fits { number } else { rest }
-}
-
-// Both tests, either of them.
-pub(crate) fn both(a: bool, b: bool) -> bool
-    ensures { λ r. ⌜ r ≡ (a && b) ⌝ }
-{
-    if a { b } else { false }
-}
-
-pub(crate) fn either(a: bool, b: bool) -> bool
-    ensures { λ r. ⌜ r ≡ (a || b) ⌝ }
-{
-    if a { true } else { b }
 }
 
 // One answer or another.

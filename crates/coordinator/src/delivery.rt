@@ -21,15 +21,15 @@ use crate::VOTING;
 use crate::calls::awaited_by;
 use crate::calls::with_aborted;
 use crate::calls::with_object;
-use crate::common::both;
-use crate::common::either;
 use crate::common::idle_with;
 use crate::common::pick;
-use crate::common::refuse;
 use crate::common::refused;
 use crate::objects::at_place;
 use crate::objects::is_ready;
 use crate::objects::place;
+use numbers::both;
+use numbers::either;
+use numbers::refuse;
 use wire::Entry;
 use wire::Rival;
 

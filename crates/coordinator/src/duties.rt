@@ -14,13 +14,13 @@ use crate::OPEN;
 use crate::VOTING;
 use crate::calls::OBJECTS_END;
 use crate::calls::awaited_by;
-use crate::common::both;
-use crate::common::either;
 use crate::common::pick;
-use crate::common::refuse;
 use crate::objects::at_place;
 use crate::objects::is_ready;
 use crate::objects::place;
+use numbers::both;
+use numbers::either;
+use numbers::refuse;
 
 // No kind: nothing is due.
 const NO_KIND: u8 = 0;

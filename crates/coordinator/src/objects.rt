@@ -6,8 +6,8 @@ ghost use Rattle.coordinator.specs.State.{noObject, placeIn, placeOf, ob
 use crate::Coordinator;
 use crate::OBJECTS;
 use crate::Object;
-use crate::common::both;
-use crate::common::either;
+use numbers::both;
+use numbers::either;
 use quorum::Kind;
 
 const HIGHEST: u32 = 4294967295;

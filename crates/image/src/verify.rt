@@ -24,13 +24,7 @@ use crate::read::owner_of;
 use crate::read::readers;
 use crate::read::state;
 use crate::read::writers;
-
-// Both tests hold.
-fn both(a: bool, b: bool) -> bool
-    ensures { λ r. ⌜ r ≡ (a && b) ⌝ }
-{
-    if a { b } else { false }
-}
+use numbers::both;
 
 // The two counts are 64 and 13.
 fn counts_ok(image: &[u8]) -> bool

@@ -1,4 +1,7 @@
-// Document 01's numbers, by their words. 0 is no refusal.
+// Document 01's numbers, by their words, and how a call's number is found. 0 is no refusal.
+ghost use mathlib.Core.Path.{_≡_};
+ghost use mathlib.Core.Bool.{cond, _&&_, _||_};
+
 pub const LENGTH: u8 = 1;
 
 pub const DAMAGED: u8 = 2;
@@ -22,3 +25,24 @@ pub const BUSY: u8 = 10;
 pub const NOT_READY: u8 = 11;
 
 pub const POOL_FULL: u8 = 12;
+
+// Both tests hold. Ruled out: either of them is enough; the second alone counts.
+pub fn both(a: bool, b: bool) -> bool
+    ensures { λ r. ⌜ r ≡ (a && b) ⌝ }
+{
+    if a { b } else { false }
+}
+
+// Either test holds. Ruled out: both are needed; the first alone counts.
+pub fn either(a: bool, b: bool) -> bool
+    ensures { λ r. ⌜ r ≡ (a || b) ⌝ }
+{
+    if a { true } else { b }
+}
+
+// One refusal before the rest of its list. Ruled out: the rest before it; its number where it does not fit.
+pub fn refuse(number: u8, fits: bool, rest: u8) -> u8
+    ensures { λ r. ⌜ r ≡ cond fits number rest ⌝ }
+{
+    if fits { number } else { rest }
+}

@@ -12,8 +12,8 @@ use crate::standing::standing;
 use crate::steps::ask;
 use crate::steps::fetch;
 use crate::steps::outcome;
-use crate::tests::both;
-use crate::tests::either;
+use numbers::both;
+use numbers::either;
 
 // A commit needs late or held; an abort anything but early.
 fn outcome_early(word: u8, s: u8) -> bool

@@ -4,8 +4,8 @@ ghost use mathlib.Core.Bool.{_||_};
 ghost use Rattle.wire.specs.Decode.{decode};
 ghost use Rattle.replica.specs.Judge.{otherHolds, heldByAnother, newer, newerHere, rivalsAt, rivalsOf, olderIn, olderAmong, votesNo};
 ghost use Rattle.replica.specs.Judge.{named, serialsOf};
-use crate::tests::both;
-use crate::tests::either;
+use numbers::both;
+use numbers::either;
 
 // Another than the owner o holds the entry's object.
 fn other_holds(image: &[u8], o: u8, e: wire::Entry) -> bool

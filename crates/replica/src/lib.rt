@@ -5,7 +5,6 @@ mod delivery;
 mod judge;
 mod standing;
 mod steps;
-mod tests;
 
 pub use delivery::answers;
 pub use delivery::receive;

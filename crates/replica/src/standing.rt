@@ -4,7 +4,7 @@ ghost use Rattle.wire.specs.Decode.{decode};
 ghost use Rattle.replica.specs.Standing.{aboveOf, standing, active, entered};
 use crate::EARLY;
 use crate::FRESH;
-use crate::tests::either;
+use numbers::either;
 
 // The number of a standing: over for late, the state of the last serial, fresh or early above it.
 pub(crate) fn standing(image: &[u8], message: &[u8]) -> u8

@@ -27,13 +27,7 @@ use crate::read::stamp;
 use crate::read::to;
 use crate::read::word;
 use crate::read::words;
-
-// Both tests hold.
-fn both(a: bool, b: bool) -> bool
-    ensures { λ r. ⌜ r ≡ (a && b) ⌝ }
-{
-    if a { b } else { false }
-}
+use numbers::both;
 
 // The counts of a vote: a no (word 0) names no rivals.
 fn vote_counts(entries: usize, rivals: usize, words: usize, word: u8) -> bool
