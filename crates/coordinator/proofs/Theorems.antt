@@ -15,8 +15,7 @@ use Rattle.coordinator.specs.declared.Coordinator.{Coordinator}
 use Rattle.coordinator.specs.declared.BeginWith.{BeginWith}
 use Rattle.coordinator.specs.declared.Step.{Step}
 use Rattle.coordinator.specs.System.{System}
-use Rattle.coordinator.specs.State.{votingPhase, finishingPhase, nothing, committed, finished, blankRecord, idleAfter, objectAt, ready, awaited, stepOf}
-use Rattle.coordinator.specs.Clauses.{clauses, meets}
+use Rattle.coordinator.specs.State.{votingPhase, finishingPhase, nothing, committed, finished, objectAt, ready, awaited, stepOf}
 use Rattle.coordinator.specs.Calls.{beginRefusals, begun, beginOf}
 use Rattle.coordinator.specs.Receive.{brought, answers, copyFits, copyTaken, withYes, voteTaken, withDone, doneTaken, receiveRefusals, receiveOf}
 
@@ -79,8 +78,3 @@ done-unfit c m h = simp (h)
 pub copy-unfit : (s : System) (c : Coordinator) (m : List ℕ) → copyFits s c m ≡ false → copyTaken s c m ≡ brought nothing c
 unfolding copyTaken
 copy-unfit s c m h = simp (h)
-
--- ---- the blank record meets the clauses
-pub blank-meets : meets blankRecord ≡ true
-unfolding clauses idleAfter
-blank-meets = refl

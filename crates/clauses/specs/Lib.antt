@@ -1,0 +1,2 @@
+-- The clauses that every record meets.
+pub mod Clauses

@@ -1,0 +1,1 @@
+// Whether a record meets its clauses.
