@@ -1,0 +1,14 @@
+-- How demand 3 is proved: the station's steps are transitions of crate protocol's abstract system.
+--   Quorums   the tree's quorums as the rules of that system
+--   Sim       what is kept: the station is read as an abstract state, and what records and waiting messages say is true there
+--   Carry     what one transition leaves true
+pub mod Quorums
+pub mod Sim
+pub mod Carry
+pub mod Quiet
+pub mod Decide
+pub mod Rows
+pub mod Objects
+pub mod Books
+pub mod Host
+pub mod Turns

@@ -1,0 +1,66 @@
+-- What is claimed of every list of station steps from a blank station, whichever nodes are on (DESIGN: demand 3). A list is newest first, so the
+-- lists that came before are its ends; what is claimed after every list is claimed after every one of those.
+use mathlib.Core.Path.{_≡_}
+use mathlib.Core.Logic.{_≢_, _⊎_}
+use mathlib.Core.Bool.{true}
+use mathlib.Core.List.{List, _∷_}
+use Prim.Native.Nat.{ℕ, _≤_, _<_}
+use Rattle.mask.specs.Mask.{contains}
+use Rattle.quorum.specs.declared.Kind.the-variants.{Read}
+use Rattle.quorum.specs.Quorum.{isQuorum}
+use Rattle.image.specs.Layout.{value, version}
+use Rattle.coordinator.specs.declared.Coordinator.{Coordinator}
+use Rattle.coordinator.specs.State.{idlePhase, objectAt, isOpen, ready}
+use Rattle.coordinator.specs.System.{tree}
+use Rattle.station.specs.Station.{Station, blankStation}
+use Rattle.station.specs.Step.{Call, found, step}
+use Rattle.station.specs.Run.{after, trace}
+use Rattle.protocol.specs.Table.{In, Suffix, times}
+use Rattle.protocol.specs.Rules.{unused, write}
+use Rattle.protocol.specs.State.{Tx, Tx-discrete}
+use Rattle.history.specs.Ledger.{Done, Ledger, ledger, current, fed, givenTo, lastValue}
+
+-- A record's present transaction has this serial, has the object open and ready, and found the value.
+pub record Shows (c : Coordinator) (serial t v : ℕ) : Type 0 where
+  pub begun : c .phase ≢ idlePhase
+  pub present : c .serial ≡ serial
+  pub opened : isOpen c t ≡ true
+  pub is-ready : ready tree (objectAt c t) ≡ true
+  pub value : objectAt c t .value ≡ v
+
+-- In the station the transaction is its owner's present one, and found the value for the object.
+abbrev pub Finds : Station → Tx → ℕ → ℕ → Type 0
+Finds st x t v = Shows (st .records (x .owner)) (x .serial) t v
+
+-- every participant of each committed transaction has put a done on a delivery of its commit
+abbrev pub Settled : Ledger → Type 0
+Settled L = (x : Tx) → In x (L .committed) → (n : ℕ) → contains (L .participants x) n ≡ true → In (record { node = n; tx = x }) (L .dones)
+
+-- no node of the mask has a newer copy
+abbrev pub Newest : Station → ℕ → ℕ → ℕ → Type 0
+Newest st q n t = (m : ℕ) → m < 13 → contains q m ≡ true → version (st .images m) t ≤ version (st .images n) t
+
+module _ (on : ℕ) where
+  abbrev pub reached : List Call → Station
+  reached cs = after (blankStation on) cs
+
+  abbrev pub told : List Call → Ledger
+  told cs = ledger (trace (blankStation on) cs)
+
+  pub record Demand3 (cs : List Call) : Type 0 where
+    -- (0) each committed transaction stands exactly once in the log, and so in what replay is fed
+    pub logged-once : (x : Tx) → In x (told cs .committed) → times Tx-discrete x (told cs .log) ≡ 1
+    pub fed-once : (x : Tx) → In x (told cs .committed) → times Tx-discrete x (fed (told cs)) ≡ 1
+    -- (a) some earlier list has each of its objects ready, and after every one in which it does, the value found is what replay gives it
+    pub was-ready : (x : Tx) (t : ℕ) → In x (told cs .committed) → told cs .mode x t ≢ unused
+        → (ds : List Call) × Suffix ds cs × Finds (reached ds) x t (givenTo (told cs) x t)
+    pub serial : (x : Tx) (t v : ℕ) (ds : List Call) → In x (told cs .committed) → Suffix ds cs → Finds (reached ds) x t v → v ≡ givenTo (told cs) x t
+    -- and every accepted found call for it answered that value
+    pub shown : (x : Tx) (n t : ℕ) (ds : List Call) → In x (told cs .committed) → Suffix (found n t ∷ ds) cs → current (told ds) n ≡ x
+        → step (reached ds) (found n t) .number ≡ 0 → step (reached ds) (found n t) .answer ≡ givenTo (told cs) x t
+    -- (b) whatever a transaction found is 0 or the new value that a transaction committed by now gave the object
+    pub sourced : (x : Tx) (t v : ℕ) → Finds (reached cs) x t v
+        → (v ≡ 0) ⊎ ((y : Tx) × In y (told cs .committed) × (told cs .mode y t ≡ write) × (v ≡ told cs .new y t))
+    -- (c) if it is settled, then in every read quorum, larger sets too, whichever nodes are on, every newest copy has replay's last value
+    pub newest : Settled (told cs) → (q : ℕ) → isQuorum Read q ≡ true → (n t : ℕ) → n < 13 → contains q n ≡ true → t < 64 → Newest (reached cs) q n t
+        → value (reached cs .images n) t ≡ lastValue (told cs) t

@@ -1,0 +1,51 @@
+-- A station: thirteen replicas and coordinators, the messages that wait, and which nodes are on.
+use mathlib.Core.Bool.{cond}
+use mathlib.Core.List.{List, [], _++_, _∷_}
+use Prim.Native.Nat.{ℕ, _+_}
+use lib.Dec.{eqb}
+use lib.ListN.{take, drop}
+use Rattle.image.specs.Layout.{shape}
+use Rattle.image.specs.Blank.{blankAs}
+use Rattle.coordinator.specs.declared.Coordinator.{Coordinator}
+use Rattle.coordinator.specs.State.{blankRecord}
+
+-- By node its image (the bytes) and its record; the pool, the waiting messages (the bytes) in sending order; the mask of the nodes that are on.
+-- A number above 12 is no node: what stands there is blank and stays so.
+pub record Station : Type 0 where
+  pub images : ℕ → List ℕ
+  pub records : ℕ → Coordinator
+  pub pool : List (List ℕ)
+  pub on : ℕ
+
+-- "The pool lists up to 128 messages in sending order."
+abbrev pub poolSize : ℕ
+poolSize = 128
+
+-- "A station is blank when its 13 images are, no message waits, and every booking end is idle with last serial and stamp 0." Any nodes may be on.
+abbrev pub blankStation : ℕ → Station
+blankStation on = record { images = λ n. blankAs shape; records = λ n. blankRecord; pool = []; on = on }
+
+-- ---- changes
+-- the table f with v for n
+unfoldable pub putAt : {A : Type 0} → (ℕ → A) → ℕ → A → ℕ → A
+putAt f n v i = cond (eqb i n) v (f i)
+
+abbrev pub withImage : Station → ℕ → List ℕ → Station
+withImage st n l = record { images = putAt (st .images) n l; records = st .records; pool = st .pool; on = st .on }
+
+abbrev pub withRecord : Station → ℕ → Coordinator → Station
+withRecord st n c = record { images = st .images; records = putAt (st .records) n c; pool = st .pool; on = st .on }
+
+abbrev pub withPool : Station → List (List ℕ) → Station
+withPool st pool = record { images = st .images; records = st .records; pool = pool; on = st .on }
+
+abbrev pub withOn : Station → ℕ → Station
+withOn st on = record { images = st .images; records = st .records; pool = st .pool; on = on }
+
+-- a message at the pool's end
+abbrev pub sent : Station → List ℕ → Station
+sent st b = withPool st (st .pool ++ (b ∷ []))
+
+-- the k-th message is gone
+abbrev pub without : {A : Type 0} → ℕ → List A → List A
+without k l = take k l ++ drop (k + 1) l
