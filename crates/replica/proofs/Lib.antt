@@ -3,5 +3,6 @@
 pub mod Passes
 pub mod Spoken
 pub mod Delivered
+pub mod Fields
 pub mod Kept
 pub mod Late
