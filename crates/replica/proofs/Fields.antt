@@ -270,7 +270,7 @@ module _ (l : List ℕ) (s : Sound l) (t : ℕ) (k : t < shape .objects) (o : �
 abbrev pub restated : ℕ → Owner → Owner
 restated st w = record { serial = w .serial; state = st; stamp = w .stamp }
 
-abbrev ownerWith : ℕ → ℕ → ℕ → Owner
+abbrev pub ownerWith : ℕ → ℕ → ℕ → Owner
 ownerWith n st sp = record { serial = n; state = st; stamp = sp }
 
 either-owner : (b : Bool) (n st sp : ℕ) (w : Owner)

@@ -6,3 +6,4 @@ pub mod Delivered
 pub mod Fields
 pub mod Kept
 pub mod Late
+pub mod After
