@@ -149,7 +149,7 @@ module _ (l : List ℕ) (m : Message) (s : Sound l) (small : m .owner < owners) 
   yes-owner a v p k = simp (a, v) (holding-owner (leaves n o 2) p o (m .entries) ∙ voted a 2 (omega arith) p k)
 
   -- ---- an outcome of the transaction that is here: the owner lets go of everything, over
-  settled : 1 ≤ standing l m → standing l m ≤ 3 → outcomeImage l m ≡ released (decided l m) o
+  pub settled : 1 ≤ standing l m → standing l m ≤ 3 → outcomeImage l m ≡ released (decided l m) o
   unfolding outcomeImage
   settled h k =
       let z : eqb (standing l m) 0 ≡ false = ne-eqb (standing l m) 0 (λ e. let w : ⊥ = omega arith in w) in
@@ -190,7 +190,7 @@ module _ (l : List ℕ) (m : Message) (s : Sound l) (small : m .owner < owners) 
       ∙ released-owner l (omega (arith, s .size)) p k o
 
   -- ---- an early abort: its serial is the last one, with its stamp, over
-  early : standing l m ≡ 4 → outcomeImage l m ≡ withOwner l o (m .serial) 0 (m .stamp)
+  pub early : standing l m ≡ 4 → outcomeImage l m ≡ withOwner l o (m .serial) 0 (m .stamp)
   unfolding outcomeImage
   early e = simp e
 

@@ -7,3 +7,4 @@ pub mod Fields
 pub mod Kept
 pub mod Late
 pub mod After
+pub mod Taken
