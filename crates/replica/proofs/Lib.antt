@@ -8,3 +8,4 @@ pub mod Kept
 pub mod Late
 pub mod After
 pub mod Taken
+pub mod Holders
