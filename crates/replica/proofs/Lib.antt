@@ -9,3 +9,5 @@ pub mod Late
 pub mod After
 pub mod Taken
 pub mod Holders
+pub mod Commits
+pub mod Repeat
