@@ -1,15 +1,14 @@
 -- What every copy and every owner is after a fetch, a vote, a commit, an abort and an early abort: one equation each. By the changes that each makes.
-use mathlib.Core.Path.{_≡_, refl, sym, ap, ap₂, subst, _∙_}
-use mathlib.Core.Bool.{Bool, true, false, cond, not, _||_}
+use mathlib.Core.Path.{_≡_, refl, sym, ap, _∙_}
+use mathlib.Core.Bool.{Bool, true, false, cond}
 use mathlib.Core.List.{List}
-use Prim.Native.Nat.{ℕ, _+_, _^_, _≤_, _<_}
+use Prim.Native.Nat.{ℕ, _≤_, _<_}
 use native.Mathlib.Omega.{arith}
 use borrow.Author.Tests.{ne-eqb, eqb-true}
 use lib.Dec.{eqb, ltb}
 use Rattle.wire.specs.Message.{Message}
 use Rattle.wire.specs.Formed.{wordOf}
 use Rattle.wire.specs.Encode.{Fits}
-use Rattle.image.specs.declared.Copy.{Copy}
 use Rattle.image.specs.declared.Owner.{Owner}
 use Rattle.image.specs.Layout.{shape, owners, serial, state, stamp, copyOf, ownerOf}
 use Rattle.image.specs.Change.{withOwner}
@@ -17,14 +16,14 @@ use Rattle.image.proofs.Made.{made-owner}
 use Rattle.image.proofs.Sound.{Sound}
 use Rattle.replica.specs.Standing.{aboveOf, standing, active, entered}
 use Rattle.replica.specs.Judge.{votesNo}
-use Rattle.replica.specs.Steps.{wanted, joins, fetchImage, holding, leaves, judgedImage, askImage, applied, decided, released, outcomeImage}
+use Rattle.replica.specs.Steps.{wanted, fetchImage, leaves, judgedImage, askImage, applied, decided, released, outcomeImage}
 use Rattle.replica.specs.Given.{Raisable}
 use Rattle.replica.specs.Receive.{step}
 use Rattle.replica.proofs.Delivered.{either-way}
 use Rattle.replica.proofs.Fields.{leftCopy, freedCopy, heldCopy, appliedCopy, listedCopy, restated, ownerWith}
 use Rattle.replica.proofs.Fields.{leaves-copy, owner-copy, released-copy, holding-copy, applied-copy, joins-copy}
 use Rattle.replica.proofs.Fields.{leaves-owner, owner-owner, released-owner, holding-owner, applied-owner, joins-owner}
-use Rattle.replica.proofs.Kept.{keeps-vote, keeps-applied, keeps-entered, or-split, on-true}
+use Rattle.replica.proofs.Kept.{keeps-vote, keeps-applied, keeps-entered, or-split}
 
 -- ---- the step of each kind
 pub step-fetch : (l : List ℕ) (me : ℕ) (m : Message) → m .kind ≡ 1 → step l me m .image ≡ fetchImage l m
@@ -171,23 +170,25 @@ module _ (l : List ℕ) (m : Message) (s : Sound l) (small : m .owner < owners) 
       ∙ released-copy (applied l (m .entries)) (keeps-applied l (m .entries) s) t k o
       ∙ ap (freedCopy o) (applied-copy t k l (m .entries) (omega (arith, s .size)) (f .entries) r)
 
-  pub commit-owner : standing l m ≡ 2 → wordOf m ≡ 1 → (p : ℕ) → p < owners
-      → ownerOf (outcomeImage l m) p ≡ cond (eqb p o) (restated 0 (ownerOf l p)) (ownerOf l p)
-  commit-owner h w p k =
-      ap (λ (x : List ℕ). ownerOf x p) (settled (omega arith) (omega arith) ∙ ap (λ (x : List ℕ). released x o) (decides w))
-      ∙ released-owner (applied l (m .entries)) (omega (arith, keeps-applied l (m .entries) s .size)) p k o
-      ∙ ap (λ (x : Owner). cond (eqb p o) (restated 0 x) x) (applied-owner l p (m .entries))
-
   pub abort-copy : 1 ≤ standing l m → standing l m ≤ 3 → wordOf m ≡ 0 → (t : ℕ) → t < shape .objects
       → copyOf (outcomeImage l m) t ≡ freedCopy o (copyOf l t)
   abort-copy h j w t k =
       ap (λ (x : List ℕ). copyOf x t) (settled h j ∙ ap (λ (x : List ℕ). released x o) (leaves-all w)) ∙ released-copy l s t k o
 
-  pub abort-owner : 1 ≤ standing l m → standing l m ≤ 3 → wordOf m ≡ 0 → (p : ℕ) → p < owners
+  pub decided-sound : Sound (decided l m)
+  unfolding decided
+  decided-sound = either-way Sound (eqb (wordOf m) 1) _ _ (keeps-applied l (m .entries) s) s
+
+  decided-owner : (p : ℕ) → ownerOf (decided l m) p ≡ ownerOf l p
+  unfolding decided
+  decided-owner p = either-way (λ (x : List ℕ). ownerOf x p ≡ ownerOf l p) (eqb (wordOf m) 1) _ _ (applied-owner l p (m .entries)) refl
+
+  -- of a commit and of an abort
+  pub outcome-owner : 1 ≤ standing l m → standing l m ≤ 3 → (p : ℕ) → p < owners
       → ownerOf (outcomeImage l m) p ≡ cond (eqb p o) (restated 0 (ownerOf l p)) (ownerOf l p)
-  abort-owner h j w p k =
-      ap (λ (x : List ℕ). ownerOf x p) (settled h j ∙ ap (λ (x : List ℕ). released x o) (leaves-all w))
-      ∙ released-owner l (omega (arith, s .size)) p k o
+  outcome-owner h j p k =
+      ap (λ (x : List ℕ). ownerOf x p) (settled h j) ∙ released-owner (decided l m) (omega (arith, decided-sound .size)) p k o
+      ∙ ap (λ (x : Owner). cond (eqb p o) (restated 0 x) x) (decided-owner p)
 
   -- ---- an early abort: its serial is the last one, with its stamp, over
   pub early : standing l m ≡ 4 → outcomeImage l m ≡ withOwner l o (m .serial) 0 (m .stamp)

@@ -1,6 +1,6 @@
 -- What a commit writes: each object that its message writes takes the entry's value and version plus 1, every other keeps both; and where the ask was voted
 -- yes, versions rise. Entries ascend strictly, so no object is written twice.
-use mathlib.Core.Path.{_≡_, refl, sym, ap, _∙_}
+use mathlib.Core.Path.{_≡_, refl, ap, _∙_}
 use mathlib.Core.Bool.{Bool, true, false, cond, not, _&&_, _||_}
 use mathlib.Core.List.{List, [], _∷_, map}
 use Prim.Native.Nat.{ℕ, _+_, _≤_, _<_}
@@ -29,8 +29,7 @@ unfolding some valueIn versionIn
 unwritten t [] e v w = (refl, refl)
 unwritten t (x ∷ xs) e v w =
     let n = or-neither (writesTo x t) (writesIn xs t) e in
-    let r = unwritten t xs (n .1) v w in
-    (
+    let r = unwritten t xs (n .1) v w in (
       ap (λ (b : Bool). valueIn xs t (cond b (x .value) v)) (n .0) ∙ r .0,
       ap (λ (b : Bool). versionIn xs t (cond b (x .version + 1) w)) (n .0) ∙ r .1,
     )
@@ -59,8 +58,7 @@ unfolding valueIn versionIn
 first-written x xs a ne v w =
     let y : writesTo x (x .object) ≡ true =
     ap (λ (b : Bool). not b && eqb (x .object) (x .object)) (ne-eqb (x .mode) 0 ne) ∙ eq-eqb (x .object) (x .object) refl in
-    let r = unwritten (x .object) xs (beyond (x .object) (x .object + 1) xs a (omega arith)) (x .value) (x .version + 1) in
-    (
+    let r = unwritten (x .object) xs (beyond (x .object) (x .object + 1) xs a (omega arith)) (x .value) (x .version + 1) in (
       ap (λ (b : Bool). valueIn xs (x .object) (cond b (x .value) v)) y ∙ r .0,
       ap (λ (b : Bool). versionIn xs (x .object) (cond b (x .version + 1) w)) y ∙ r .1,
     )
@@ -69,13 +67,12 @@ pub all-written : (lo : ℕ) (es : List Entry) → ascend lo (map (λ (e : Entry
 unfolding ascend valueIn versionIn
 all-written lo [] a = tt
 all-written lo (x ∷ xs) a =
-    let b = right-true (leb lo (x .object)) _ a in
-    (
+    let b = right-true (leb lo (x .object)) _ a in (
       first-written x xs b,
       all-then
-      (λ e f ne v w.
-      f ne (cond (writesTo x (e .object)) (x .value) v) (cond (writesTo x (e .object)) (x .version + 1) w))
-      xs (all-written (x .object + 1) xs b),
+          (λ e f ne v w.
+          f ne (cond (writesTo x (e .object)) (x .value) v) (cond (writesTo x (e .object)) (x .version + 1) w))
+          xs (all-written (x .object + 1) xs b),
     )
 
 -- ---- a commit of a held transaction

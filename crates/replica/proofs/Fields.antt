@@ -1,15 +1,14 @@
 -- What each change of a step leaves alone, and what it makes of each copy and each owner: one equation for all copies, one for all owners.
-use mathlib.Core.Path.{_≡_, refl, sym, ap, ap₂, subst, _∙_}
-use mathlib.Core.Bool.{Bool, true, false, cond, not, _&&_, _||_}
-use mathlib.Core.Logic.{_⊎_, inl, inr, ⊎-elim}
+use mathlib.Core.Path.{_≡_, refl, sym, ap, subst, _∙_}
+use mathlib.Core.Bool.{Bool, true, false, cond, not, _&&_}
 use mathlib.Core.List.{List, [], _∷_}
 use Prim.Native.Nat.{ℕ, _+_, _^_, _≤_, _<_}
 use native.Mathlib.Omega.{arith}
-use borrow.Author.Tests.{lt-ltb, eq-eqb, eqb-true, eqb-false, ltb-true}
-use lib.Dec.{T, eqb, ltb}
+use borrow.Author.Tests.{eqb-true, eqb-false}
+use lib.Dec.{T, eqb}
 use lib.ListN.{length}
 use Rattle.wire.specs.declared.Entry.{Entry}
-use Rattle.wire.specs.Formed.{every, entryOk}
+use Rattle.wire.specs.Formed.{every}
 use Rattle.wire.specs.Encode.{All, EntryFits}
 use Rattle.image.specs.declared.Copy.{Copy}
 use Rattle.image.specs.declared.Field.{Field}
@@ -21,7 +20,7 @@ use Rattle.image.specs.Change.{withValue, withVersion, withHolder, withSerial, 
 use Rattle.image.proofs.Made.{made-copy, made-owner}
 use Rattle.image.proofs.Lens.{apart, inside, Holds, length-with, of-with, of-with-other, of-with-apart}
 use Rattle.image.proofs.Sound.{Sound}
-use Rattle.image.proofs.Keep.{keeps-value, keeps-version, keeps-holder, listing-small}
+use Rattle.image.proofs.Keep.{listing-small}
 use Rattle.image.proofs.Whole.{length-free, length-unlist, free-apart, unlist-apart, freed-holder, left-readers, left-writers, keeps-free, list-small}
 use Rattle.replica.specs.Steps.{joins, holdingOne, holding, leaves, appliedOne, applied, released}
 use Rattle.replica.specs.Given.{raisable}
@@ -222,12 +221,11 @@ module _ (t : ℕ) (k : t < shape .objects) where
   applied-both l (e ∷ es) fit f r =
       let b = eqb (e .mode) 0 in
       let ih = applied-both (appliedOne l e) es (omega (arith, apply-length l (e .object) (e .value) (e .version + 1) b)) (f .1)
-      (right-true (raisable e) _ r) in
-      (
+      (right-true (raisable e) _ r) in (
         ih .0 ∙ ap (valueIn es t) (value-one l (e .object) (e .value) (e .version + 1) fit (f .0 .value) b),
         ih .1
-        ∙ ap (versionIn es t)
-        (version-one l (e .object) (e .value) (e .version + 1) fit b (raised-small e (left-true (raisable e) _ r))),
+            ∙ ap (versionIn es t)
+            (version-one l (e .object) (e .value) (e .version + 1) fit b (raised-small e (left-true (raisable e) _ r))),
       )
 
   pub applied-copy : (l : List ℕ) (es : List Entry) → imageSize shape ≤ length l → All EntryFits es → every raisable es ≡ true

@@ -1,11 +1,10 @@
 -- Who holds a copy: a holder stays until its own outcome, and an owner becomes one only by a yes to an ask that writes the copy. By the cases of a step.
-use mathlib.Core.Path.{_≡_, refl, sym, ap, subst, _∙_}
+use mathlib.Core.Path.{_≡_, refl, sym, ap, _∙_}
 use mathlib.Core.Bool.{Bool, true, false, cond, not, _&&_, _||_}
 use mathlib.Core.Logic.{_⊎_, inl, inr, ⊎-elim}
 use mathlib.Core.List.{List, [], _∷_}
 use Prim.Native.Nat.{ℕ, _≤_, _<_}
-use native.Mathlib.Omega.{arith}
-use borrow.Author.Tests.{eq-eqb, ne-eqb, eqb-true}
+use borrow.Author.Tests.{ne-eqb, eqb-true}
 use lib.Dec.{eqb}
 use Rattle.wire.specs.declared.Entry.{Entry}
 use Rattle.wire.specs.Message.{Message}
@@ -16,17 +15,15 @@ use Rattle.image.specs.Layout.{shape, holderField, holder, serial, copyOf}
 use Rattle.image.specs.Valid.{nobody}
 use Rattle.image.specs.Change.{freeing}
 use Rattle.image.proofs.Each.{same-or-not}
-use Rattle.image.proofs.Sound.{Sound}
 use Rattle.replica.specs.Standing.{standing, active, entered}
 use Rattle.replica.specs.Judge.{some, otherHolds, heldByAnother, newerHere, rivalsOf, olderAmong, votesNo}
-use Rattle.replica.specs.Steps.{fetchImage, askImage, decided, applied, outcomeImage}
+use Rattle.replica.specs.Steps.{fetchImage, askImage, decided, outcomeImage}
 use Rattle.replica.specs.Receive.{step}
 use Rattle.replica.proofs.Spoken.{false-true}
 use Rattle.replica.proofs.Delivered.{either-way, or-neither}
 use Rattle.replica.proofs.Fields.{writesTo, holderIn, owner-apart, applied-apart, released-copy}
-use Rattle.replica.proofs.Kept.{keeps-applied}
 use Rattle.replica.proofs.Late.{late-outcome}
-use Rattle.replica.proofs.After.{here-last, fetch-copy, no-copy, yes-copy, early-copy, settled}
+use Rattle.replica.proofs.After.{here-last, fetch-copy, no-copy, yes-copy, early-copy, settled, decided-sound}
 use Rattle.replica.proofs.Taken.{Taken, by-kind, fetch-still, ask-still, outcome-cases}
 
 -- ---- what a yes asks of the holders
@@ -122,17 +119,17 @@ module _ (l : List ℕ) (m : Message) (k : Taken l m) (t : ℕ) (small : t < sha
   unfolding copyOf
   no-holder a v = ap (λ (c : Copy). c .holder) (no-copy l m (k .sound) (k .owner) (k .serial) (k .stamp) (k .fits) a v t small)
 
-  decided-same : (holder (decided l m) t ≡ holder l t) × Sound (decided l m)
+  decided-holder : holder (decided l m) t ≡ holder l t
   unfolding decided
-  decided-same =
-      either-way (λ (x : List ℕ). (holder x t ≡ holder l t) × Sound x) (eqb (wordOf m) 1) _ _
-      (applied-apart (holderField shape) t tt tt l (m .entries), keeps-applied l (m .entries) (k .sound)) (refl, k .sound)
+  decided-holder =
+      either-way (λ (x : List ℕ). holder x t ≡ holder l t) (eqb (wordOf m) 1) _ _ (applied-apart (holderField shape) t tt tt l (m .entries)) refl
 
   here-holder : 1 ≤ standing l m → standing l m ≤ 3 → holder (outcomeImage l m) t ≡ freeing o (holder l t)
   unfolding copyOf
   here-holder a b =
+      let sound = decided-sound l m (k .sound) (k .owner) (k .serial) (k .stamp) (k .fits) in
       ap (λ (x : List ℕ). holder x t) (settled l m (k .sound) (k .owner) (k .serial) (k .stamp) (k .fits) a b)
-      ∙ ap (λ (c : Copy). c .holder) (released-copy (decided l m) (decided-same .1) t small o) ∙ ap (freeing o) (decided-same .0)
+      ∙ ap (λ (c : Copy). c .holder) (released-copy (decided l m) sound t small o) ∙ ap (freeing o) decided-holder
 
   early-holder : standing l m ≡ 4 → holder (outcomeImage l m) t ≡ holder l t
   unfolding copyOf
@@ -163,7 +160,7 @@ module _ (l : List ℕ) (m : Message) (k : Taken l m) (t : ℕ) (small : t < sha
 
     pub holder-stays : (me : ℕ) → (m .kind ≡ 5 → o ≡ h → m .serial ≡ serial l h → ⊥) → holder (step l me m .image) t ≡ h
     holder-stays me own =
-        by-kind (λ (x : List ℕ). holder x t ≡ h) l me m (λ e. fetch-holder ∙ q) (λ e. ask-keeps) (λ e. outcome-keeps e (own e)) q
+        by-kind (λ (x : List ℕ). holder x t ≡ h) l me m k (λ e. fetch-holder ∙ q) (λ e. ask-keeps) (λ e. outcome-keeps e (own e))
 
   -- ---- an owner p becomes the holder only by a yes to its ask, which writes the copy
   pub record VotedYes : Type 0 where
@@ -203,4 +200,4 @@ module _ (l : List ℕ) (m : Message) (k : Taken l m) (t : ℕ) (small : t < sha
 
     pub held-only-by-yes : (me : ℕ) → holder (step l me m .image) t ≡ p → (p ≡ o) × VotedYes
     held-only-by-yes me =
-        by-kind Claim l me m (λ e. unchanged (fetchImage l m) fetch-holder) ask-claim outcome-claim (unchanged l refl)
+        by-kind Claim l me m k (λ e. unchanged (fetchImage l m) fetch-holder) ask-claim outcome-claim

@@ -121,7 +121,7 @@ pub or-split : (P : Type 0) (a b : Bool) → (a ≡ true → P) → (b ≡ true 
 or-split P true b f g e = f refl
 or-split P false b f g e = g e
 
-pub on-true : (P : List ℕ → Type 0) (t : Bool) (x y : List ℕ) → (t ≡ true → P x) → (t ≡ false → P y) → P (cond t x y)
+on-true : (P : List ℕ → Type 0) (t : Bool) (x y : List ℕ) → (t ≡ true → P x) → (t ≡ false → P y) → P (cond t x y)
 on-true P true x y f g = f refl
 on-true P false x y f g = g refl
 

@@ -1,12 +1,12 @@
 -- What a delivery that nothing refuses has: a valid image, a message that is well formed and in turn. And the cases of its step.
-use mathlib.Core.Path.{_≡_, refl, sym, ap, subst, _∙_}
+use mathlib.Core.Path.{_≡_, refl, sym, subst, _∙_}
 use mathlib.Core.Bool.{Bool, true, false, cond, not, _||_}
-use mathlib.Core.Logic.{_⊎_, inl, inr, ⊎-elim}
+use mathlib.Core.Logic.{_⊎_, inl, inr}
 use mathlib.Core.List.{List}
 use Prim.Native.Nat.{ℕ, zero, suc, _≤_, _<_}
 use native.Mathlib.Omega.{arith}
 use borrow.Author.Tests.{ltb-true, leb-true, eqb-true}
-use lib.Dec.{T, eqb, ltb}
+use lib.Dec.{eqb, ltb}
 use lib.ListN.{length}
 use Rattle.octets.proofs.Laws.{Bytes}
 use Rattle.wire.specs.Message.{Message}
@@ -72,18 +72,22 @@ taken size l me b y e =
 
 -- ---- the cases of a step
 picked : (P : List ℕ → Type 0) (x y z : Bool) (f a c d : Delivered) → (x ≡ true → P (f .image)) → (y ≡ true → P (a .image))
-    → (z ≡ true → P (c .image)) → P (d .image) → P (cond x f (cond y a (cond z c d)) .image)
+    → (z ≡ true → P (c .image)) → (x ≡ false → y ≡ false → z ≡ false → P (d .image)) → P (cond x f (cond y a (cond z c d)) .image)
 picked P true y z f a c d p q r w = p refl
 picked P false true z f a c d p q r w = q refl
 picked P false false true f a c d p q r w = r refl
-picked P false false false f a c d p q r w = w
+picked P false false false f a c d p q r w = w refl refl refl
 
-pub by-kind : (P : List ℕ → Type 0) (l : List ℕ) (me : ℕ) (m : Message) → (m .kind ≡ 1 → P (fetchImage l m)) → (m .kind ≡ 3 → P (askImage l m))
-    → (m .kind ≡ 5 → P (outcomeImage l m)) → P l → P (step l me m .image)
+other-kind : (l : List ℕ) (m : Message) → eqb (m .kind) 1 ≡ false → eqb (m .kind) 3 ≡ false → eqb (m .kind) 5 ≡ false → wrongTurn l m ≡ true
+unfolding wrongTurn
+other-kind l m p q r = simp (p, q, r)
+
+pub by-kind : (P : List ℕ → Type 0) (l : List ℕ) (me : ℕ) (m : Message) → Taken l m → (m .kind ≡ 1 → P (fetchImage l m))
+    → (m .kind ≡ 3 → P (askImage l m)) → (m .kind ≡ 5 → P (outcomeImage l m)) → P (step l me m .image)
 unfolding step
-by-kind P l me m f a c d =
+by-kind P l me m k f a c =
     picked P (eqb (m .kind) 1) (eqb (m .kind) 3) (eqb (m .kind) 5) _ _ _ _ (λ e. f (eqb-true (m .kind) 1 e)) (λ e. a (eqb-true (m .kind) 3 e))
-    (λ e. c (eqb-true (m .kind) 5 e)) d
+    (λ e. c (eqb-true (m .kind) 5 e)) (λ p q r. false-true (sym (k .turn) ∙ other-kind l m p q r))
 
 -- fetches and asks that are not active change nothing
 pub fetch-still : (l : List ℕ) (m : Message) → active l m ≡ false → fetchImage l m ≡ l
