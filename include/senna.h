@@ -1,5 +1,6 @@
 /*
- * senna.h: replicated objects on a tree of thirteen nodes: the quorums, the messages between nodes, and a node's stored image.
+ * senna.h: replicated objects on a tree of thirteen nodes: the quorums, the messages between nodes, a node's stored image, and the
+ * replica that answers messages from it.
  *
  * Link with libhost.a, which `rt staticlib host` writes to target/staticlib/. Nothing else is needed.
  *
@@ -237,6 +238,54 @@ uint8_t senna_check_image(const uint8_t *image, size_t length);
  * written. Only writes to image; no heap; re-entrant.
  */
 uint8_t senna_blank_image(uint8_t *image, size_t length);
+
+/*
+ * The replica: it answers the messages that owners send to a node, and keeps the node's image. Of each owner it knows the last
+ * transaction. A message with a higher serial begins that owner's next one here; it needs the last one to be over. A message with a lower
+ * serial, or of the last one when it is over, is late.
+ */
+
+/* The answer of a delivery. length is 0 where nothing is answered, and on a refusal. */
+typedef struct senna_received {
+    uint8_t number; /* SENNA_OK, or why the call refuses */
+    uint8_t length; /* the bytes of the answer, SENNA_MESSAGE_MIN to SENNA_MESSAGE_MAX, or 0 */
+} senna_received;
+
+/*
+ * Delivers one message to the replica of node me: changes the image, and writes the answer to the front of the answer buffer.
+ *
+ *   fetch    listed: the owner joins the readers or writers of the object, and a copy is answered. Late, held or refused: nothing.
+ *   ask      listed: judged, and a vote is answered. No where another holds any of its objects, where a copy here has a higher version,
+ *            or where a rival is older. Yes holds what it writes and names the rivals. Held: yes again; refused: no again, both without
+ *            rivals. Late: nothing.
+ *   commit   held: each object that it writes takes its value and its version plus 1. Then the owner lets go of everything, its
+ *            transaction is over, and done is answered. Late: done only.
+ *   abort    the owner lets go of everything, its transaction is over, and done is answered; also before any other message of its
+ *            transaction came. Late: done only.
+ *
+ * image         the node's image, which is changed in place
+ * image_length  the bytes at image
+ * me            the node
+ * message       the message
+ * length        the bytes at message
+ * answer        where the answer goes; the bytes behind it stay as they were, and all of them where nothing is answered
+ * size          the bytes at answer, at least SENNA_MESSAGE_MAX whatever the answer
+ *
+ * Numbers, the lowest that fits: SENNA_LENGTH (image_length is not SENNA_IMAGE, length is not SENNA_MESSAGE_MIN to SENNA_MESSAGE_MAX, or
+ * size is under SENNA_MESSAGE_MAX), SENNA_DAMAGED (the image), SENNA_GARBLED (the message), SENNA_STRANGER (me above 12, or a message for
+ * another node), SENNA_OUT_OF_TURN (a higher serial while the owner's last transaction is not over, a commit that is neither held nor late,
+ * or a kind that is no fetch, ask or outcome).
+ * On a refusal image and answer stay as they were. Otherwise senna_check_image answers 0 for the image after. Only reads the bytes at
+ * message, only writes to image and answer, which must not overlap each other or the message; no heap; re-entrant.
+ */
+senna_received senna_replica_receive(uint8_t *image, size_t image_length, uint8_t me, const uint8_t *message, size_t length,
+                                     uint8_t *answer, size_t size);
+
+/*
+ * Whether senna_replica_receive with the same image, node and message, and an answer buffer that is long enough, will answer: 1 yes, 0 no.
+ * 0 also where it refuses. Never refuses itself. Only reads the bytes at image and message; no heap; re-entrant.
+ */
+uint8_t senna_replica_answers(const uint8_t *image, size_t image_length, uint8_t me, const uint8_t *message, size_t length);
 
 #ifdef __cplusplus
 }

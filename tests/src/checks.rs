@@ -4,3 +4,4 @@ pub mod image;
 pub mod message;
 pub mod program;
 pub mod quorum;
+pub mod replica;

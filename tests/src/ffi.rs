@@ -41,6 +41,13 @@ struct SennaWritten {
     length: u8,
 }
 
+/// `senna_received` of the header.
+#[repr(C)]
+struct SennaReceived {
+    number: u8,
+    length: u8,
+}
+
 extern "C" {
     fn senna_is_read_quorum(mask: u16) -> u8;
     fn senna_is_write_quorum(mask: u16) -> u8;
@@ -74,6 +81,16 @@ extern "C" {
     ) -> SennaWritten;
     fn senna_write_done(out: *mut u8, size: usize, from: u8, owner: u8, serial: u32, stamp: u32) -> SennaWritten;
     fn senna_write_yield(out: *mut u8, size: usize, owner: u8, serial: u32, stamp: u32, rival: u8, rival_serial: u32) -> SennaWritten;
+    fn senna_replica_receive(
+        image: *mut u8,
+        image_length: usize,
+        me: u8,
+        message: *const u8,
+        length: usize,
+        answer: *mut u8,
+        size: usize,
+    ) -> SennaReceived;
+    fn senna_replica_answers(image: *const u8, image_length: usize, me: u8, message: *const u8, length: usize) -> u8;
 }
 
 /// The library's membership test, its byte as it came: 1 yes, 0 no, and nothing else is right.
@@ -209,4 +226,19 @@ pub fn write_done(out: &mut [u8], from: u8, transaction: Transaction) -> Written
 pub fn write_yield(out: &mut [u8], transaction: Transaction, rival: Rival) -> Written {
     let Transaction { owner, serial, stamp } = transaction;
     unsafe { senna_write_yield(out.as_mut_ptr(), out.len(), owner, serial, stamp, rival.owner, rival.serial).into() }
+}
+
+/// The library's delivery of a message to the replica of node `me`; its number and the answer's length.
+pub fn replica_receive(image: &mut [u8], me: u8, message: &[u8], answer: &mut [u8]) -> (u8, u8) {
+    let (image_length, length, size) = (image.len(), message.len(), answer.len());
+    // SAFETY: the function reads and writes at most the given bytes at `image` and `answer` and reads those at `message`, all lent for the
+    // call and apart from each other.
+    let got = unsafe { senna_replica_receive(image.as_mut_ptr(), image_length, me, message.as_ptr(), length, answer.as_mut_ptr(), size) };
+    (got.number, got.length)
+}
+
+/// The library's word on whether a delivery is answered, its byte as it came: 1 yes, 0 no, and nothing else is right.
+pub fn replica_answers(image: &[u8], me: u8, message: &[u8]) -> u8 {
+    // SAFETY: the function reads at most the given bytes at `image` and `message`, which are lent for the call.
+    unsafe { senna_replica_answers(image.as_ptr(), image.len(), me, message.as_ptr(), message.len()) }
 }

@@ -43,6 +43,7 @@ fn main() -> ExitCode {
     checks::quorum::run(&mut runner);
     checks::message::run(&mut runner);
     checks::image::run(&mut runner);
+    checks::replica::run(&mut runner);
     checks::program::run(&mut runner, &program);
     if runner.close() {
         ExitCode::SUCCESS

@@ -7,6 +7,7 @@ pub mod image;
 pub mod message;
 pub mod program;
 pub mod quorum;
+pub mod replica;
 
 /// Objects (document 01: tallies) are 0 to 63.
 pub const OBJECTS: usize = 64;
@@ -18,5 +19,6 @@ pub mod number {
     pub const DAMAGED: u8 = 2;
     pub const GARBLED: u8 = 3;
     pub const STRANGER: u8 = 4;
+    pub const OUT_OF_TURN: u8 = 5;
     pub const NO_QUORUM: u8 = 8;
 }

@@ -129,13 +129,13 @@ module _ (l : List ℕ) (o : ℕ) (s : Sound l) where
   abbrev copy : (u : ℕ) → u < shape .objects → CopySound (state l) (holder l u) (readers l u) (writers l u)
   copy u k = s .clauses .copies-sound u k
 
-  freed-holder : (t : ℕ) → t < shape .objects → holder (free l o) t ≡ freeing o (holder l t)
+  pub freed-holder : (t : ℕ) → t < shape .objects → holder (free l o) t ≡ freeing o (holder l t)
   freed-holder t k = free-holder l o t (omega (arith, s .size)) k (holder-small (state l) (holder l t) (copy t k .holding))
 
-  left-readers : (t : ℕ) → t < shape .objects → readers (unlist l o) t ≡ leaving o (readers l t)
+  pub left-readers : (t : ℕ) → t < shape .objects → readers (unlist l o) t ≡ leaving o (readers l t)
   left-readers t k = unlist-readers l o t (omega (arith, s .size)) k (list-small (state l) (readers l t) (copy t k .reading))
 
-  left-writers : (t : ℕ) → t < shape .objects → writers (unlist l o) t ≡ leaving o (writers l t)
+  pub left-writers : (t : ℕ) → t < shape .objects → writers (unlist l o) t ≡ leaving o (writers l t)
   left-writers t k = unlist-writers l o t (omega (arith, s .size)) k (list-small (state l) (writers l t) (copy t k .writing))
 
   pub keeps-free : Sound (free l o)

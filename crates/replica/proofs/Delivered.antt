@@ -28,11 +28,11 @@ either-way P true x y p q = p
 either-way P false x y p q = q
 
 -- ---- nothing refuses
-past : (t : Bool) (n r : ℕ) → cond t (suc n) r ≡ 0 → (t ≡ false) × (r ≡ 0)
+pub past : (t : Bool) (n r : ℕ) → cond t (suc n) r ≡ 0 → (t ≡ false) × (r ≡ 0)
 past true n r e = absurd (let z : ⊥ = omega arith in z)
 past false n r e = (refl, e)
 
-or-neither : (a b : Bool) → (a || b) ≡ false → (a ≡ false) × (b ≡ false)
+pub or-neither : (a b : Bool) → (a || b) ≡ false → (a ≡ false) × (b ≡ false)
 or-neither true b e = (e, false-true (sym e))
 or-neither false b e = (refl, e)
 

@@ -117,7 +117,7 @@ keeps-applied l (x ∷ es) s =
     (keeps-version (withValue l (x .object) (x .value)) (x .object) (keeps-value l (x .object) s (x .value)) (x .version + 1)))
 
 -- ---- the steps
-or-split : (P : Type 0) (a b : Bool) → (a ≡ true → P) → (b ≡ true → P) → (a || b) ≡ true → P
+pub or-split : (P : Type 0) (a b : Bool) → (a ≡ true → P) → (b ≡ true → P) → (a || b) ≡ true → P
 or-split P true b f g e = f refl
 or-split P false b f g e = g e
 
@@ -138,7 +138,7 @@ module _ (l : List ℕ) (m : Message) (s : Sound l) (small : m .owner < owners) 
   keeps-begun st h e =
       keeps-owner l (m .owner) s small (idle-fresh e) (m .serial) st (m .stamp) (omega (arith, f .serial)) (omega (arith, f .stamp)) (begun st h)
 
-  keeps-entered : active l m ≡ true → Sound (entered l m) × (state (entered l m) (m .owner) ≡ 1)
+  pub keeps-entered : active l m ≡ true → Sound (entered l m) × (state (entered l m) (m .owner) ≡ 1)
   unfolding active entered
   keeps-entered =
       or-split (Sound (entered l m) × (state (entered l m) (m .owner) ≡ 1)) (eqb (standing l m) 1) (eqb (standing l m) 4)

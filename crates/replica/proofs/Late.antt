@@ -1,26 +1,24 @@
 -- A late fetch or ask changes nothing and gets no answer; and only a commit changes values and versions. By the fields that each change leaves alone.
-use mathlib.Core.Path.{_≡_, refl, sym, ap, _∙_}
-use mathlib.Core.Bool.{Bool, true, false, cond, _||_}
-use mathlib.Core.List.{List, [], _∷_}
+use mathlib.Core.Path.{_≡_, refl, ap, _∙_}
+use mathlib.Core.Bool.{false, cond, _||_}
+use mathlib.Core.List.{List}
 use Prim.Native.Nat.{ℕ}
 use lib.Dec.{T, eqb}
-use Rattle.wire.specs.declared.Entry.{Entry}
 use Rattle.wire.specs.Message.{Message}
 use Rattle.wire.specs.Formed.{wordOf}
 use Rattle.wire.specs.Decode.{decode}
 use Rattle.image.specs.declared.Field.{Field}
-use Rattle.image.specs.Field.{fieldOf, withField}
+use Rattle.image.specs.Field.{fieldOf}
 use Rattle.image.specs.Layout.{shape, valueField, versionField, holderField, readersField, writersField, serialField, stateField, stampField}
 use Rattle.image.specs.Layout.{value, version}
-use Rattle.image.specs.Change.{withOwner, withSerial, withState, free, unlist}
 use Rattle.image.proofs.Lens.{apart, of-with-apart}
-use Rattle.image.proofs.Whole.{free-apart, unlist-apart}
 use Rattle.replica.specs.Standing.{standing, active, entered}
 use Rattle.replica.specs.Judge.{votesNo}
-use Rattle.replica.specs.Steps.{silent, wanted, fetchImage, fetchAnswer, holdingOne, holding, leaves, judgedImage, askImage, askAnswer}
-use Rattle.replica.specs.Steps.{applied, decided, released, outcomeImage}
+use Rattle.replica.specs.Steps.{silent, wanted, fetchImage, fetchAnswer, leaves, judgedImage, askImage, askAnswer}
+use Rattle.replica.specs.Steps.{applied, decided, outcomeImage}
 use Rattle.replica.specs.Receive.{refusal, Delivered, step, deliver}
 use Rattle.replica.proofs.Delivered.{either-way}
+use Rattle.replica.proofs.Fields.{owner-apart, leaves-apart, released-apart, holding-apart}
 
 -- ---- late
 module _ (l : List ℕ) (m : Message) (late : standing l m ≡ 0) where
@@ -47,31 +45,14 @@ Apart f =
     × T (apart (stateField shape) f) × T (apart (stampField shape) f)
 
 module _ (f : Field) (a : Apart f) (t : ℕ) where
-  same-owner : (l : List ℕ) (o n st sp : ℕ) → fieldOf f (withOwner l o n st sp) t ≡ fieldOf f l t
-  same-owner l o n st sp =
-      of-with-apart (stampField shape) f (withState (withSerial l o n) o st) o t sp (a .5)
-      ∙ of-with-apart (stateField shape) f (withSerial l o n) o t st (a .4) ∙ of-with-apart (serialField shape) f l o t n (a .3)
-
   same-leaves : (l : List ℕ) (o st : ℕ) → fieldOf f (leaves l o st) t ≡ fieldOf f l t
-  unfolding leaves
-  same-leaves l o st = of-with-apart (stateField shape) f (unlist l o) o t st (a .4) ∙ unlist-apart l o f t (a .1) (a .2)
-
-  same-released : (l : List ℕ) (o : ℕ) → fieldOf f (released l o) t ≡ fieldOf f l t
-  unfolding released
-  same-released l o = same-leaves (free l o) o 0 ∙ free-apart l o f t (a .0)
-
-  same-holding : (l : List ℕ) (o : ℕ) (es : List Entry) → fieldOf f (holding l o es) t ≡ fieldOf f l t
-  unfolding holding
-  same-holding l o [] = refl
-  same-holding l o (e ∷ es) =
-      same-holding (holdingOne l o e) o es
-      ∙ either-way (λ (n : List ℕ). fieldOf f n t ≡ fieldOf f l t) (eqb (e .mode) 0) _ _ refl (of-with-apart (holderField shape) f l (e .object) t o (a .0))
+  same-leaves = leaves-apart f t (a .1) (a .2) (a .4)
 
   module _ (l : List ℕ) (m : Message) where
     same-entered : fieldOf f (entered l m) t ≡ fieldOf f l t
     unfolding entered
     same-entered =
-        either-way (λ (n : List ℕ). fieldOf f n t ≡ fieldOf f l t) (eqb (standing l m) 4) _ _ (same-owner l (m .owner) (m .serial) 1 (m .stamp)) refl
+        either-way (λ (n : List ℕ). fieldOf f n t ≡ fieldOf f l t) (eqb (standing l m) 4) _ _ (owner-apart f t (a .3) (a .4) (a .5) l (m .owner) (m .serial) 1 (m .stamp)) refl
 
     pub same-fetch : fieldOf f (fetchImage l m) t ≡ fieldOf f l t
     unfolding fetchImage
@@ -90,7 +71,7 @@ module _ (f : Field) (a : Apart f) (t : ℕ) where
         let n = entered l m in
         let o = m .owner in
         either-way P (active l m) _ _
-        (either-way P (votesNo n m) _ _ (same-leaves n o 3 ∙ same-entered) (same-holding (leaves n o 2) o (m .entries) ∙ same-leaves n o 2 ∙ same-entered))
+        (either-way P (votesNo n m) _ _ (same-leaves n o 3 ∙ same-entered) (holding-apart f t (a .0) (leaves n o 2) o (m .entries) ∙ same-leaves n o 2 ∙ same-entered))
         refl
 
     -- an abort
@@ -100,8 +81,8 @@ module _ (f : Field) (a : Apart f) (t : ℕ) where
         let P : List ℕ → Type 0 = λ n. fieldOf f n t ≡ fieldOf f l t in
         let d : decided l m ≡ l = ap (λ (k : ℕ). cond (eqb k 1) (applied l (m .entries)) l) w in
         either-way P (eqb (standing l m) 0) _ _ refl
-        (either-way P (eqb (standing l m) 4) _ _ (same-owner l (m .owner) (m .serial) 0 (m .stamp))
-        (same-released (decided l m) (m .owner) ∙ ap (λ (n : List ℕ). fieldOf f n t) d))
+        (either-way P (eqb (standing l m) 4) _ _ (owner-apart f t (a .3) (a .4) (a .5) l (m .owner) (m .serial) 0 (m .stamp))
+        (released-apart f t (a .0) (a .1) (a .2) (a .4) (decided l m) (m .owner) ∙ ap (λ (n : List ℕ). fieldOf f n t) d))
 
 -- ---- the value and the version are such fields
 pub value-apart : Apart (valueField shape)

@@ -3,5 +3,11 @@
 pub mod Passes
 pub mod Spoken
 pub mod Delivered
+pub mod Fields
 pub mod Kept
 pub mod Late
+pub mod After
+pub mod Taken
+pub mod Holders
+pub mod Commits
+pub mod Repeat

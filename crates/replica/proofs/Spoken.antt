@@ -39,7 +39,7 @@ pub right-true : (a b : Bool) → (a && b) ≡ true → b ≡ true
 right-true true b e = e
 right-true false b e = false-true e
 
-and-false : (a : Bool) → (a && false) ≡ false
+pub and-false : (a : Bool) → (a && false) ≡ false
 and-false true = refl
 and-false false = refl
 

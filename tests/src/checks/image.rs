@@ -1,7 +1,7 @@
 //! Stored images: the check of bytes and the blank image, against the model.
 
-mod damages;
-mod records;
+pub mod damages;
+pub mod records;
 
 use crate::ffi;
 use crate::model::image::{self as model, state, Image, Rule, IMAGE, NOBODY};
