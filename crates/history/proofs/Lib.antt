@@ -12,3 +12,8 @@ pub mod Objects
 pub mod Books
 pub mod Host
 pub mod Turns
+pub mod Words
+pub mod Images
+pub mod Acts
+pub mod Answers
+pub mod Replies

@@ -68,6 +68,11 @@ pub record OneOwner (l k : List ℕ) (o s u : ℕ) : Type 0 where
   pub serials : (w : ℕ) → (w ≡ o → ⊥) → serial k w ≡ serial l w
   pub states : (w : ℕ) → (w ≡ o → ⊥) → state k w ≡ state l w
 
+-- what owner w held is free
+pub record FreedHolders (l k : List ℕ) (w : ℕ) : Type 0 where
+  pub its : (t : ℕ) → holderOf l t ≡ some w → holderOf k t ≡ none
+  pub other : (t : ℕ) → (holderOf l t ≡ some w → ⊥) → holderOf k t ≡ holderOf l t
+
 holder-as : (l k : List ℕ) → SameHolders l k → (t : ℕ) → holderOf k t ≡ holderOf l t
 holder-as l k same t = ap (λ (h : ℕ). cond (ltb t 64) (cond (eqb h 255) none (some h)) none) (same t)
 
@@ -151,17 +156,12 @@ module _ (st : Station) (σ : State ℕ) (l : List Tx) (sim : Sim st σ l) (n : 
       (row-putRow (λ m t. holderOf m t) (holders st) (st .images) n k (λ i t. refl) (writes? (σ .history .contents x)) (λ t. some (x .owner)) here else)
       (owners-on (voteYes n x g) (λ y. refl) (λ y. refl)) (λ y i. inl i)
 
-  -- what owner w held is free
-  pub record Freed (w : ℕ) : Type 0 where
-    pub its : (t : ℕ) → holderOf old t ≡ some w → holderOf k t ≡ none
-    pub other : (t : ℕ) → (holderOf old t ≡ some w → ⊥) → holderOf k t ≡ holderOf old t
-
-  holders-freed : (w : ℕ) → Freed w → (i j : ℕ) → freed (holders st) n w i j ≡ holders next i j
+  holders-freed : (w : ℕ) → FreedHolders old k w → (i j : ℕ) → freed (holders st) n w i j ≡ holders next i j
   holders-freed w f =
       row-putRow (λ m t. holderOf m t) (holders st) (st .images) n k (λ i t. refl) (λ t. holds? (holderOf old t) w) (λ t. none) (f .its) (f .other)
 
   -- a commit applied
-  pub sim-applied : (x : Tx) → CanApply σ n x → OneOwner old k (x .owner) (serial old (x .owner)) 0 → Freed (x .owner)
+  pub sim-applied : (x : Tx) → CanApply σ n x → OneOwner old k (x .owner) (serial old (x .owner)) 0 → FreedHolders old k (x .owner)
       → ((t : ℕ) → Writes (σ .history .contents) x t → (version k t ≡ suc (σ .history .contents x .version t)) × (value k t ≡ σ .history .contents x .new t))
       → ((t : ℕ) → (Writes (σ .history .contents) x t → ⊥) → (version k t ≡ version old t) × (value k t ≡ value old t))
       → Sim next (doApply σ n x) l
@@ -177,7 +177,7 @@ module _ (st : Station) (σ : State ℕ) (l : List Tx) (sim : Sim st σ l) (n : 
       (holders-freed (x .owner) f) (owners-on (apply n x g) (λ y. refl) (λ y. refl)) (λ y i. inl i)
 
   -- an abort taken
-  pub sim-dropped : (x : Tx) → CanDrop σ n x → SameCopies old k → OneOwner old k (x .owner) (x .serial) 0 → Freed (x .owner) → Sim next (doDrop σ n x) l
+  pub sim-dropped : (x : Tx) → CanDrop σ n x → SameCopies old k → OneOwner old k (x .owner) (x .serial) 0 → FreedHolders old k (x .owner) → Sim next (doDrop σ n x) l
   sim-dropped x g a c f = by-one st next l sim (drop n x g)
       (record { r-version = versions-same a; r-value = values-same a; r-last = serial-put _ _ _ c; r-state = state-put _ _ _ c })
       (holders-freed (x .owner) f) (owners-on (drop n x g) (λ y. refl) (λ y. refl)) (λ y i. inl i)

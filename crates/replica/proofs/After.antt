@@ -69,7 +69,7 @@ module _ (l : List ℕ) (m : Message) (s : Sound l) (small : m .owner < owners) 
   abbrev n : List ℕ
   n = entered l m
 
-  entered-copy : (t : ℕ) → t < shape .objects → copyOf n t ≡ copyOf l t
+  pub entered-copy : (t : ℕ) → t < shape .objects → copyOf n t ≡ copyOf l t
   unfolding entered
   entered-copy t k =
       either-way (λ (x : List ℕ). copyOf x t ≡ copyOf l t) (eqb (standing l m) 4) _ _ (owner-copy l s t k o (m .serial) 1 (m .stamp)) refl
@@ -85,7 +85,7 @@ module _ (l : List ℕ) (m : Message) (s : Sound l) (small : m .owner < owners) 
           made-owner (ap (serial l) r ∙ w .0) (ap (state l) r ∙ sym (w .1) ∙ e) (ap (stamp l) r)
       by false q = refl
 
-  entered-owner : active l m ≡ true → (p : ℕ) → p < owners → ownerOf n p ≡ cond (eqb p o) (listedOwner l m) (ownerOf l p)
+  pub entered-owner : active l m ≡ true → (p : ℕ) → p < owners → ownerOf n p ≡ cond (eqb p o) (listedOwner l m) (ownerOf l p)
   unfolding active entered
   entered-owner a p k =
       or-split (ownerOf n p ≡ cond (eqb p o) (listedOwner l m) (ownerOf l p)) (eqb (standing l m) 1) (eqb (standing l m) 4)

@@ -133,7 +133,7 @@ number-cases (suc (suc (suc (suc zero)))) h n = inr (inl refl)
 number-cases (suc (suc (suc (suc (suc zero))))) h n = absurd (n refl)
 number-cases (suc (suc (suc (suc (suc (suc s)))))) h n = absurd (let z : ⊥ = omega arith in z)
 
-turn-outcome : (l : List ℕ) (m : Message) → m .kind ≡ 5 → wrongTurn l m ≡ false → outcomeEarly (wordOf m) (standing l m) ≡ false
+pub turn-outcome : (l : List ℕ) (m : Message) → m .kind ≡ 5 → wrongTurn l m ≡ false → outcomeEarly (wordOf m) (standing l m) ≡ false
 unfolding wrongTurn standing
 turn-outcome l m e w = rw e at w
 
