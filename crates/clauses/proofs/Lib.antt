@@ -4,3 +4,6 @@ pub mod Parts
 pub mod Sets
 pub mod Places
 pub mod Facts
+pub mod Quorums
+pub mod Keep
+pub mod Deliver

@@ -42,3 +42,7 @@ cond-in false a b f g = g (λ s. s)
 pub by-test : (P : Type 0) (b : Bool) → (b ≡ true → P) → (b ≡ false → P) → P
 by-test P true f g = f refl
 by-test P false f g = g refl
+
+pub on-cond : {A : Type 0} (P : A → Type 0) (b : Bool) (x y : A) → (b ≡ true → P x) → (b ≡ false → P y) → P (cond b x y)
+on-cond P true x y f g = f refl
+on-cond P false x y f g = g refl
