@@ -462,3 +462,7 @@ module _ (s : System) (c : Coordinator) where
       → meets s c ≡ (numbersMeet c && (objectsMeet c && (nodesMeet s c && (partyMeets s c && (votesMeet c && donesMeet c)))))
   unfolding meets
   sized-meets a b d = simp (T-true (sizesMeet c) (sizes-in c (record { distances-13 = a; objects-8 = b; rivals-13 = d })))
+
+-- what keeps the facts keeps the test
+pub keeps-meeting : (s : System) (c d : Coordinator) → (Meets s c → Meets s d) → meets s c ≡ true → meets s d ≡ true
+keeps-meeting s c d f e = facts-meet s d (f (meets-facts s c e))

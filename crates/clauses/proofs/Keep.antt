@@ -10,7 +10,7 @@ use lib.ListN.{length, set, replicate, length-set, length-replicate}
 use borrow.Author.Tests.{eqb-true, eqb-false, ltb-true, ltb-false, leb-false, not-false, not-true}
 use Rattle.mask.specs.Mask.{joined, within}
 use Rattle.mask.proofs.Laws.{within-self, within-trans}
-use Rattle.numbers.specs.Refusal.{Refusal, firstOf}
+use Rattle.numbers.specs.Refusal.{firstOf}
 use Rattle.quorum.specs.Nearest.{maskOf}
 use Rattle.coordinator.specs.declared.Object.{Object}
 use Rattle.coordinator.specs.declared.Coordinator.{Coordinator}
@@ -22,39 +22,14 @@ use Rattle.coordinator.specs.State.{noObject, idleAfter, blankRecord, placeOf, 
 use Rattle.coordinator.specs.Calls.{withObjects, withPhase}
 use Rattle.coordinator.specs.Calls.{noNode, tooWide, isNone, fresh, renewed, beginRefusals, begun, beginOf, openRefusals, opened, openOf}
 use Rattle.coordinator.specs.Calls.{setRefusals, withNew, setOf, foundRefusals, foundOf, reselectRefusals, reselected, reselectOf}
-use Rattle.coordinator.specs.Calls.{requestCommitRefusals, requested, requestCommitOf, endedAborted, abortRefusals, abortOf}
-use Rattle.coordinator.proofs.Refusals.{Clear, numbered, clear}
+use Rattle.coordinator.specs.Calls.{requestCommitRefusals, requested, requestCommitOf, abortOf}
 use Rattle.clauses.proofs.Parts.{by-test, on-cond, true-T, T-false}
+use Rattle.clauses.proofs.Cases.{step-keeps, neither-left, neither-right}
+use Rattle.clauses.proofs.Deliveries.{OpenOrVoting, Endings, abort-cases}
 use Rattle.clauses.proofs.Sets.{none-within, within-none, within-left, within-right, joined-within, joined-known}
 use Rattle.clauses.proofs.Places.{at, Once, place-open, place-shut, at-set, at-blank}
 use Rattle.clauses.proofs.Facts.{Sizes, Numbers, Opened, Objects, Nodes, NoNodes, Full, Party, Votes, Dones, Agreed, waited, Meets}
 use Rattle.clauses.proofs.Quorums.{Quorums}
-
--- ---- a call: what holds of the record before it, and of the record after it where nothing refuses, holds of what the call leaves
-pub step-keeps : (P : Coordinator → Type 0) (rs : List Refusal) (answer : ℕ) (c d : Coordinator) → T (numbered rs) → P c → (Clear rs → P d)
-    → P (stepOf (firstOf rs) answer c d .coordinator)
-unfolding stepOf
-step-keeps P rs answer c d t p f = by (eqb (firstOf rs) 0) refl
-  where
-    by : (b : Bool) → eqb (firstOf rs) 0 ≡ b
-        → P (cond {A = Step} b (record { number = 0; answer = answer; coordinator = d })
-        (record { number = firstOf rs; answer = 0; coordinator = c }) .coordinator)
-    by true e = f (clear rs t (eqb-true (firstOf rs) 0 e))
-    by false e = p
-
--- neither of two tests holds
-pub neither-left : (a b : Bool) → (a || b) ≡ false → a ≡ false
-neither-left true b e = e
-neither-left false b e = refl
-
-pub neither-right : (a b : Bool) → (a || b) ≡ false → b ≡ false
-neither-right true b e = absurd (subst T e tt)
-neither-right false b e = e
-
--- one of two tests does
-pub either-of : {P Q : Type 0} (a b : Bool) → (a ≡ true → P) → (b ≡ true → Q) → (a || b) ≡ true → P ⊎ Q
-either-of true b f g e = inl (f refl)
-either-of false b f g e = inr (g e)
 
 -- ---- an idle record, and the blank one
 blank-objects : (contacted : ℕ) → Objects contacted 0 (replicate eight noObject)
@@ -460,36 +435,39 @@ module _ (s : System) (c : Coordinator) (m : Meets s c) (busy : c .phase ≡ idl
 
 -- ---- the end: aborted while open or voting
 module _ (s : System) (c : Coordinator) (m : Meets s c) where
+  pub awaited-known : awaited c ≤ everyNode
+  awaited-known =
+      on-cond (λ (w : ℕ). w ≤ everyNode) (eqb (c .participants) 0) (c .contacted) (c .participants) (λ e. m .nodes .contacted-known)
+      (λ e. m .party .participants-known)
+
   -- not every participant has voted yes
-  pub not-agreed : (c .phase ≡ openPhase) ⊎ (c .phase ≡ votingPhase) → Agreed (c .participants) (c .yes) → ⊥
+  pub not-agreed : OpenOrVoting c → Agreed (c .participants) (c .yes) → ⊥
   not-agreed p a = ⊎-elim (λ e. a .0 (open-party s c m e)) (λ e. m .votes .vote-missing e a) p
 
-  pub aborted-meets : (c .phase ≡ openPhase) ⊎ (c .phase ≡ votingPhase) → Meets s (endedAborted c)
-  unfolding endedAborted
-  aborted-meets p =
-      let busy : c .phase ≡ idlePhase → ⊥ = λ e. ⊎-elim (λ d. let z : ⊥ = omega arith in z) (λ d. let z : ⊥ = omega arith in z) p in
-      let early : c .phase ≡ finishingPhase → ⊥ = λ e. ⊎-elim (λ d. let z : ⊥ = omega arith in z) (λ d. let z : ⊥ = omega arith in z) p in
-      on-cond (Meets s) (eqb (awaited c) 0) (idleAfter (c .serial) (c .timestamp) aborted)
-      (withPhase c finishingPhase aborted (c .participants) (c .yes) (c .done) (c .rivals))
-      (λ e. ended-meets s c m busy aborted (omega arith))
-      (λ e. phase-meets s c m busy finishingPhase aborted (c .participants) (c .yes) (c .done) (c .rivals) (λ d. let z : ⊥ = omega arith in z)
-      (omega arith) (omega arith) (m .sizes .rivals-13) (last-party s c m busy (c .rivals) (m .party .no-rivals))
-      (record {
-        of-participants = m .votes .of-participants;
-        vote-missing = λ d. absurd (let z : ⊥ = omega arith in z);
-        agreed-commits = λ d a. absurd (not-agreed p a);
-        else-aborted = λ d f. refl;
-      })
-      (first-dones s c m busy early (eqb-false (awaited c) 0 e)))
+  pub not-idle : OpenOrVoting c → c .phase ≡ idlePhase → ⊥
+  not-idle p e = ⊎-elim (λ d. let z : ⊥ = omega arith in z) (λ d. let z : ⊥ = omega arith in z) p
+
+  not-finishing : OpenOrVoting c → c .phase ≡ finishingPhase → ⊥
+  not-finishing p e = ⊎-elim (λ d. let z : ⊥ = omega arith in z) (λ d. let z : ⊥ = omega arith in z) p
+
+  pub endings-meet : Endings (Meets s) c
+  endings-meet =
+      record {
+        gone = λ p e. ended-meets s c m (not-idle p) aborted (omega arith);
+        aborting = λ p n. phase-meets s c m (not-idle p) finishingPhase aborted (c .participants) (c .yes) (c .done) (c .rivals)
+            (λ d. let z : ⊥ = omega arith in z) (omega arith) (omega arith) (m .sizes .rivals-13)
+            (last-party s c m (not-idle p) (c .rivals) (m .party .no-rivals))
+            (record {
+              of-participants = m .votes .of-participants;
+              vote-missing = λ d. absurd (let z : ⊥ = omega arith in z);
+              agreed-commits = λ d a. absurd (not-agreed p a);
+              else-aborted = λ d f. refl;
+            })
+            (first-dones s c m (not-idle p) (not-finishing p) n);
+      }
 
   pub abort-keeps : (me : ℕ) → Meets s (abortOf c me .coordinator)
-  unfolding abortOf abortRefusals
-  abort-keeps me =
-      step-keeps (Meets s) (abortRefusals c me) 0 c (endedAborted c) tt m
-      (λ k. aborted-meets (one-of (not-false (eqb (c .phase) openPhase || eqb (c .phase) votingPhase) (k .1 .0))))
-    where
-      one-of : (eqb (c .phase) openPhase || eqb (c .phase) votingPhase) ≡ true → (c .phase ≡ openPhase) ⊎ (c .phase ≡ votingPhase)
-      one-of e = either-of (eqb (c .phase) openPhase) (eqb (c .phase) votingPhase) (eqb-true (c .phase) openPhase) (eqb-true (c .phase) votingPhase) e
+  abort-keeps me = abort-cases (Meets s) c me m endings-meet
 
 -- ---- asking for votes
 module _ (s : System) (q : Quorums s) (c : Coordinator) (me : ℕ) (m : Meets s c) where

@@ -1,9 +1,15 @@
--- What the proofs of the functions share, and the laws of the clauses.
-pub mod Zeros
+-- What the proofs of the functions share, and the laws of the clauses: as facts (Facts), kept by every call (Keep) and delivery (Deliver); the
+-- widths (Fits) and the own place among the rivals (Own), kept too. Cases and Deliveries take a call apart; the rest are small laws that they use.
 pub mod Parts
+pub mod Zeros
 pub mod Sets
 pub mod Places
 pub mod Facts
 pub mod Quorums
+pub mod Cases
+pub mod Messages
+pub mod Deliveries
 pub mod Keep
 pub mod Deliver
+pub mod Own
+pub mod Fits
