@@ -13,6 +13,7 @@ use Rattle.wire.specs.Decode.{fromOf, rivalCount}
 use Rattle.wire.specs.Items.{entryOf, rivalOf}
 use Rattle.coordinator.specs.declared.Object.{Object}
 use Rattle.coordinator.specs.declared.Coordinator.{Coordinator}
+use Rattle.coordinator.specs.declared.Step.{Step}
 use Rattle.coordinator.specs.System.{System}
 use Rattle.coordinator.specs.State.{everyNode, idlePhase, votingPhase, finishingPhase, committed, placeOf, objectAt, awaited}
 use Rattle.coordinator.specs.Calls.{withPhase}
@@ -133,9 +134,9 @@ module _ (s : System) (c : Coordinator) (me : ℕ) (m : List ℕ) (h : Meets s c
 
   pub receive-keeps : Meets s (receiveOf s c me m .coordinator)
   receive-keeps =
-      receive-cases (Meets s) s c me m
+      receive-cases (λ (x : Step). Meets s (x .coordinator)) s c me m
       (record {
-        as-before = h;
+        as-before = λ n. h;
         copied = copy-meets;
         endings = endings-meet s c h;
         last-yes = last-yes-meets;

@@ -13,13 +13,15 @@ use Rattle.numbers.specs.Refusal.{firstOf}
 use Rattle.wire.specs.Message.{copy, vote, done, yield}
 use Rattle.wire.specs.Decode.{kindOf, fromOf, serialOf, stampOf, rivalCount}
 use Rattle.wire.specs.Items.{entryOf, rivalOf, wordOf}
+use Rattle.coordinator.specs.declared.Object.{Object}
 use Rattle.coordinator.specs.declared.Coordinator.{Coordinator}
 use Rattle.coordinator.specs.declared.Step.{Step}
 use Rattle.coordinator.specs.System.{System}
-use Rattle.coordinator.specs.State.{eight, openPhase, votingPhase, finishingPhase, committed, aborted, idleAfter, placeOf, objectAt, isOpen, ready, awaited}
+use Rattle.coordinator.specs.State.{eight, openPhase, votingPhase, finishingPhase, nothing, committed, aborted, becameReady, finished}
+use Rattle.coordinator.specs.State.{idleAfter, placeOf, objectAt, isOpen, ready, awaited}
 use Rattle.coordinator.specs.Calls.{withObjects, withPhase, endedAborted, abortRefusals, abortOf}
-use Rattle.coordinator.specs.Receive.{answers, withCopy, copyFits, copyTaken, raiseFrom, withYes, voteTaken, withDone, doneTaken, yieldTaken, delivered}
-use Rattle.coordinator.specs.Receive.{receiveRefusals, receiveOf}
+use Rattle.coordinator.specs.Receive.{brought, answers, withCopy, copyFits, copyTaken, raiseFrom, withYes, voteTaken, withDone, doneTaken, yieldTaken}
+use Rattle.coordinator.specs.Receive.{delivered, receiveRefusals, receiveOf}
 use Rattle.coordinator.proofs.Refusals.{Clear, clear}
 use Rattle.clauses.proofs.Parts.{on-cond, true-T, false-T}
 use Rattle.clauses.proofs.Cases.{step-keeps, either-of}
@@ -77,6 +79,9 @@ pub record Endings (P : Coordinator → Type 0) (c : Coordinator) : Type 0 where
   pub gone : OpenOrVoting c → awaited c ≡ 0 → P (idleAfter (c .serial) (c .timestamp) aborted)
   pub aborting : OpenOrVoting c → (awaited c ≡ 0 → ⊥) → P (withPhase c finishingPhase aborted (c .participants) (c .yes) (c .done) (c .rivals))
 
+one-of : (c : Coordinator) → (eqb (c .phase) openPhase || eqb (c .phase) votingPhase) ≡ true → OpenOrVoting c
+one-of c e = either-of (eqb (c .phase) openPhase) (eqb (c .phase) votingPhase) (eqb-true (c .phase) openPhase) (eqb-true (c .phase) votingPhase) e
+
 module _ (P : Coordinator → Type 0) (c : Coordinator) where
   ended : Endings P c → OpenOrVoting c → P (endedAborted c)
   unfolding endedAborted
@@ -85,21 +90,19 @@ module _ (P : Coordinator → Type 0) (c : Coordinator) where
       (withPhase c finishingPhase aborted (c .participants) (c .yes) (c .done) (c .rivals)) (λ k. e .gone p (eqb-true (awaited c) 0 k))
       (λ k. e .aborting p (eqb-false (awaited c) 0 k))
 
-  one-of : (eqb (c .phase) openPhase || eqb (c .phase) votingPhase) ≡ true → OpenOrVoting c
-  one-of e = either-of (eqb (c .phase) openPhase) (eqb (c .phase) votingPhase) (eqb-true (c .phase) openPhase) (eqb-true (c .phase) votingPhase) e
-
   pub abort-cases : (me : ℕ) → P c → Endings P c → P (abortOf c me .coordinator)
   unfolding abortOf abortRefusals
   abort-cases me p e =
       step-keeps P (abortRefusals c me) 0 c (endedAborted c) tt p
-      (λ k. ended e (one-of (not-false (eqb (c .phase) openPhase || eqb (c .phase) votingPhase) (k .1 .0))))
+      (λ k. ended e (one-of c (not-false (eqb (c .phase) openPhase || eqb (c .phase) votingPhase) (k .1 .0))))
 
 -- ---- a delivery
 -- the copies, the votes, the rivals and the dones with this message
+abbrev pub copiedObject : Coordinator → List ℕ → Object
+copiedObject c m = withCopy (objectAt c (entryOf m 0 .object)) (fromOf m) (entryOf m 0)
+
 abbrev pub afterCopy : Coordinator → List ℕ → Coordinator
-afterCopy c m =
-    let e = entryOf m 0 in
-    withObjects c (c .contacted) (c .count) (set (c .objects) (placeOf c (e .object)) (withCopy (objectAt c (e .object)) (fromOf m) e))
+afterCopy c m = withObjects c (c .contacted) (c .count) (set (c .objects) (placeOf c (entryOf m 0 .object)) (copiedObject c m))
 
 abbrev pub saidYes : Coordinator → List ℕ → ℕ
 saidYes c m = joined (c .yes) (only (fromOf m))
@@ -116,63 +119,67 @@ pub record VoteFitting (c : Coordinator) (me : ℕ) (m : List ℕ) : Type 0 wher
   pub a-vote : kindOf m ≡ vote
   pub answer : Fitting c votingPhase (c .participants) m
 
-pub record Deliveries (P : Coordinator → Type 0) (s : System) (c : Coordinator) (me : ℕ) (m : List ℕ) : Type 0 where
-  pub as-before : P c
-  pub copied : CopyFitting s c m → P (afterCopy c m)
-  pub endings : Endings P c
+-- what holds of each step that a delivery can be
+pub record Deliveries (P : Step → Type 0) (s : System) (c : Coordinator) (me : ℕ) (m : List ℕ) : Type 0 where
+  pub as-before : (number : ℕ) → P (record { number = number; answer = nothing; coordinator = c })
+  pub copied : CopyFitting s c m → P (brought (cond (ready s (copiedObject c m)) becameReady nothing) (afterCopy c m))
+  pub endings : Endings (λ (d : Coordinator). P (brought aborted d)) c
   pub last-yes : VoteFitting c me m → T (within (c .participants) (saidYes c m))
-      → P (withPhase c finishingPhase committed (c .participants) (saidYes c m) (c .done) (named c m))
+      → P (brought committed (withPhase c finishingPhase committed (c .participants) (saidYes c m) (c .done) (named c m)))
   pub one-yes : VoteFitting c me m → (T (within (c .participants) (saidYes c m)) → ⊥)
-      → P (withPhase c votingPhase (c .outcome) (c .participants) (saidYes c m) (c .done) (named c m))
-  pub last-done : Fitting c finishingPhase (awaited c) m → T (within (awaited c) (saidDone c m)) → P (idleAfter (c .serial) (c .timestamp) (c .outcome))
+      → P (brought nothing (withPhase c votingPhase (c .outcome) (c .participants) (saidYes c m) (c .done) (named c m)))
+  pub last-done : Fitting c finishingPhase (awaited c) m → T (within (awaited c) (saidDone c m))
+      → P (brought finished (idleAfter (c .serial) (c .timestamp) (c .outcome)))
   pub one-done : Fitting c finishingPhase (awaited c) m → (T (within (awaited c) (saidDone c m)) → ⊥)
-      → P (withPhase c (c .phase) (c .outcome) (c .participants) (c .yes) (saidDone c m) (c .rivals))
+      → P (brought nothing (withPhase c (c .phase) (c .outcome) (c .participants) (c .yes) (saidDone c m) (c .rivals)))
 
-module _ (P : Coordinator → Type 0) (s : System) (c : Coordinator) (me : ℕ) (m : List ℕ) (d : Deliveries P s c me m) where
-  abbrev After : Step → Type 0
-  After x = P (x .coordinator)
+module _ (P : Step → Type 0) (s : System) (c : Coordinator) (me : ℕ) (m : List ℕ) (d : Deliveries P s c me m) where
+  abbrev unfit : P (brought nothing c)
+  unfit = d .as-before 0
 
-  copy-case : P (copyTaken s c m .coordinator)
+  abbrev over : OpenOrVoting c → P (brought aborted (endedAborted c))
+  over = ended (λ (x : Coordinator). P (brought aborted x)) c (d .endings)
+
+  copy-case : P (copyTaken s c m)
   unfolding copyTaken
-  copy-case = on-cond After (copyFits s c m) _ _ (λ k. d .copied (copy-fitting s c m k)) (λ k. d .as-before)
+  copy-case = on-cond P (copyFits s c m) _ _ (λ k. d .copied (copy-fitting s c m k)) (λ k. unfit)
 
-  vote-case : Taken me m → kindOf m ≡ vote → P (voteTaken c m .coordinator)
+  vote-case : Taken me m → kindOf m ≡ vote → P (voteTaken c m)
   unfolding voteTaken withYes
   vote-case g e =
       let b = within (c .participants) (saidYes c m) in
-      on-cond After (answers c votingPhase (c .participants) m) _ _
+      on-cond P (answers c votingPhase (c .participants) m) _ _
       (λ k. let f : Fitting c votingPhase (c .participants) m = fitting c votingPhase (c .participants) m k in
       let v : VoteFitting c me m = record { taken = g; a-vote = e; answer = f } in
-      on-cond After (eqb (wordOf m) 0) _ _ (λ z. ended P c (d .endings) (inr (f .in-phase)))
-      (λ z. on-cond After b _ _ (λ y. d .last-yes v (true-T b y)) (λ y. d .one-yes v (false-T b y))))
-      (λ k. d .as-before)
+      on-cond P (eqb (wordOf m) 0) _ _ (λ z. over (inr (f .in-phase)))
+      (λ z. on-cond P b _ _ (λ y. d .last-yes v (true-T b y)) (λ y. d .one-yes v (false-T b y))))
+      (λ k. unfit)
 
-  done-case : P (doneTaken c m .coordinator)
+  done-case : P (doneTaken c m)
   unfolding doneTaken withDone
   done-case =
       let b = within (awaited c) (saidDone c m) in
-      on-cond After (answers c finishingPhase (awaited c) m) _ _
+      on-cond P (answers c finishingPhase (awaited c) m) _ _
       (λ k. let f : Fitting c finishingPhase (awaited c) m = fitting c finishingPhase (awaited c) m k in
-      on-cond After b _ _ (λ y. d .last-done f (true-T b y)) (λ y. d .one-done f (false-T b y)))
-      (λ k. d .as-before)
+      on-cond P b _ _ (λ y. d .last-done f (true-T b y)) (λ y. d .one-done f (false-T b y)))
+      (λ k. unfit)
 
-  yield-case : P (yieldTaken c m .coordinator)
+  yield-case : P (yieldTaken c m)
   unfolding yieldTaken
   yield-case =
       let a = eqb (c .phase) openPhase || eqb (c .phase) votingPhase in
       let n = eqb (rivalOf m 0 .serial) (c .serial) in
-      on-cond After (a && n) _ _ (λ k. ended P c (d .endings) (one-of P c (T-true a (and-left a n (true-T (a && n) k))))) (λ k. d .as-before)
+      on-cond P (a && n) _ _ (λ k. over (one-of c (T-true a (and-left a n (true-T (a && n) k))))) (λ k. unfit)
 
-  delivered-case : Taken me m → P (delivered s c m .coordinator)
+  delivered-case : Taken me m → P (delivered s c m)
   unfolding delivered
   delivered-case g =
-      on-cond After (eqb (kindOf m) copy) _ _ (λ k. copy-case)
-      (λ k. on-cond After (eqb (kindOf m) vote) _ _ (λ k. vote-case g (eqb-true (kindOf m) vote k))
-      (λ k. on-cond After (eqb (kindOf m) done) _ _ (λ k. done-case)
-      (λ k. on-cond After (eqb (kindOf m) yield) _ _ (λ k. yield-case) (λ k. d .as-before))))
+      on-cond P (eqb (kindOf m) copy) _ _ (λ k. copy-case)
+      (λ k. on-cond P (eqb (kindOf m) vote) _ _ (λ k. vote-case g (eqb-true (kindOf m) vote k))
+      (λ k. on-cond P (eqb (kindOf m) done) _ _ (λ k. done-case) (λ k. on-cond P (eqb (kindOf m) yield) _ _ (λ k. yield-case) (λ k. unfit))))
 
-  pub receive-cases : P (receiveOf s c me m .coordinator)
+  pub receive-cases : P (receiveOf s c me m)
   unfolding receiveOf receiveRefusals
   receive-cases =
       let rs = receiveRefusals c me m in
-      on-cond After (eqb (firstOf rs) 0) _ _ (λ k. delivered-case (taken-of c me m (clear rs tt (eqb-true (firstOf rs) 0 k)))) (λ k. d .as-before)
+      on-cond P (eqb (firstOf rs) 0) _ _ (λ k. delivered-case (taken-of c me m (clear rs tt (eqb-true (firstOf rs) 0 k)))) (λ k. d .as-before (firstOf rs))

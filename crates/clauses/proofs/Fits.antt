@@ -295,9 +295,9 @@ module _ (s : System) (c : Coordinator) (me : ℕ) (w : Widths c) where
 
     receive-widths : Widths (receiveOf s c me m .coordinator)
     receive-widths =
-        receive-cases Widths s c me m
+        receive-cases (λ (x : Step). Widths (x .coordinator)) s c me m
         (record {
-          as-before = w;
+          as-before = λ n. w;
           copied = λ f. copy-widths;
           endings = endings-widths;
           last-yes = λ f t. same-widths _ refl refl refl refl named-small;

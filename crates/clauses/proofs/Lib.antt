@@ -13,3 +13,5 @@ pub mod Keep
 pub mod Deliver
 pub mod Own
 pub mod Fits
+pub mod Found
+pub mod Laws

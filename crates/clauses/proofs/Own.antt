@@ -81,8 +81,8 @@ module _ (s : System) (me : ℕ) (c : Coordinator) (p : OwnFree me c) where
   abort-own = abort-cases (OwnFree me) c me p endings-own
 
   pub receive-own : (m : List ℕ) → OwnFree me (receiveOf s c me m .coordinator)
-  receive-own m = receive-cases (OwnFree me) s c me m (record {
-    as-before = p;
+  receive-own m = receive-cases (λ (x : Step). OwnFree me (x .coordinator)) s c me m (record {
+    as-before = λ n. p;
     copied = λ f. p;
     endings = endings-own;
     last-yes = λ f t. named-other f;
