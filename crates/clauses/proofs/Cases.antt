@@ -24,15 +24,6 @@ step-keeps P rs answer c d t p f = by (eqb (firstOf rs) 0) refl
     by true e = f (clear rs t (eqb-true (firstOf rs) 0 e))
     by false e = p
 
--- neither of two tests holds
-pub neither-left : (a b : Bool) → (a || b) ≡ false → a ≡ false
-neither-left true b e = e
-neither-left false b e = refl
-
-pub neither-right : (a b : Bool) → (a || b) ≡ false → b ≡ false
-neither-right true b e = absurd (subst T e tt)
-neither-right false b e = e
-
 -- one of two tests does
 pub either-of : {P Q : Type 0} (a b : Bool) → (a ≡ true → P) → (b ≡ true → Q) → (a || b) ≡ true → P ⊎ Q
 either-of true b f g e = inl (f refl)

@@ -1,8 +1,7 @@
 -- Every delivery keeps the clauses, refused or not: by the cases of a delivery.
 use mathlib.Core.Path.{_≡_, refl, _∙_}
-use mathlib.Core.Bool.{Bool, true, false, cond}
 use mathlib.Core.List.{List}
-use Prim.Native.Nat.{ℕ, zero, suc, _+_, _≤_}
+use Prim.Native.Nat.{ℕ, zero, suc, _+_}
 use native.Mathlib.Omega.{arith}
 use lib.Dec.{T, eqb}
 use lib.ListN.{length, length-set}
@@ -15,14 +14,14 @@ use Rattle.coordinator.specs.declared.Object.{Object}
 use Rattle.coordinator.specs.declared.Coordinator.{Coordinator}
 use Rattle.coordinator.specs.declared.Step.{Step}
 use Rattle.coordinator.specs.System.{System}
-use Rattle.coordinator.specs.State.{everyNode, idlePhase, votingPhase, finishingPhase, committed, placeOf, objectAt, awaited}
+use Rattle.coordinator.specs.State.{idlePhase, votingPhase, finishingPhase, committed, placeOf, objectAt, awaited}
 use Rattle.coordinator.specs.Calls.{withPhase}
 use Rattle.coordinator.specs.Receive.{withCopy, raise, raiseFrom, receiveOf}
 use Rattle.clauses.proofs.Parts.{on-cond}
 use Rattle.clauses.proofs.Sets.{only-within, joined-some, joined-within}
 use Rattle.clauses.proofs.Places.{place-open}
-use Rattle.clauses.proofs.Facts.{Opened, Agreed, Meets}
-use Rattle.clauses.proofs.Deliveries.{Fitting, CopyFitting, VoteFitting, afterCopy, saidYes, named, saidDone, Deliveries, receive-cases}
+use Rattle.clauses.proofs.Facts.{Opened, Meets}
+use Rattle.clauses.proofs.Deliveries.{Fitting, CopyFitting, VoteFitting, afterCopy, saidYes, named, saidDone, receive-cases}
 use Rattle.clauses.proofs.Keep.{object-keeps, phase-meets, ended-meets, last-party, first-dones, awaited-known, endings-meet}
 
 -- the rivals named in a vote: as many places as before

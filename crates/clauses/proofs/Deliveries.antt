@@ -1,8 +1,8 @@
 -- A delivery by its cases: the record as before, or what a message that fits makes of it. An abort too, which ends a transaction the same way.
-use mathlib.Core.Path.{_≡_, refl, sym, subst}
-use mathlib.Core.Bool.{Bool, true, false, cond, not, _&&_, _||_}
+use mathlib.Core.Path.{_≡_}
+use mathlib.Core.Bool.{true, cond, not, _&&_, _||_}
 use mathlib.Core.List.{List}
-use mathlib.Core.Logic.{_⊎_, inl, inr}
+use mathlib.Core.Logic.{_⊎_, inr}
 use Prim.Native.Nat.{ℕ, _<_}
 use lib.Dec.{T, eqb, T-not}
 use lib.ListN.{set}
@@ -22,7 +22,7 @@ use Rattle.coordinator.specs.State.{idleAfter, placeOf, objectAt, isOpen, ready
 use Rattle.coordinator.specs.Calls.{withObjects, withPhase, endedAborted, abortRefusals, abortOf}
 use Rattle.coordinator.specs.Receive.{brought, answers, withCopy, copyFits, copyTaken, raiseFrom, withYes, voteTaken, withDone, doneTaken, yieldTaken}
 use Rattle.coordinator.specs.Receive.{delivered, receiveRefusals, receiveOf}
-use Rattle.coordinator.proofs.Refusals.{Clear, clear}
+use Rattle.coordinator.proofs.Refusals.{clear}
 use Rattle.clauses.proofs.Parts.{on-cond, true-T, false-T}
 use Rattle.clauses.proofs.Cases.{step-keeps, either-of}
 use Rattle.clauses.proofs.Messages.{Taken, taken-of}

@@ -1,5 +1,5 @@
 -- The clauses as facts, a record for each part, over the fields that it reads. `meets` computes exactly them: by the parts of the tests.
-use mathlib.Core.Path.{_≡_, refl, sym, ap, _∙_, subst}
+use mathlib.Core.Path.{_≡_, sym, ap, _∙_, subst}
 use mathlib.Core.Bool.{Bool, true, false, cond, not, _&&_}
 use mathlib.Core.List.{List}
 use Prim.Native.Nat.{ℕ, _<_, _≤_}
@@ -18,7 +18,7 @@ use Rattle.clauses.specs.Clauses.{implies, zeros, objectMeets, objectBla
 use Rattle.clauses.specs.Clauses.{noNodes, nodesMeet, partyFull, partyMeets, agreed, votesMeet, donesMeet, meets}
 use Rattle.clauses.proofs.Zeros.{zeros-are, are-zeros}
 use Rattle.clauses.proofs.Parts.{eq-T, true-T, T-false, false-T, implies-out, implies-in, cond-first, cond-second, cond-in, by-test}
-use Rattle.clauses.proofs.Places.{at, everyPlace, across-at, across-all, Once, place-at, at-place}
+use Rattle.clauses.proofs.Places.{at, across-at, across-all, Once, place-at, at-place}
 
 -- ---- the facts
 pub record Sizes (distances : List ℕ) (objects : List Object) (rivals : List ℕ) : Type 0 where

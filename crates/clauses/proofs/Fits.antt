@@ -1,20 +1,19 @@
 -- The widths: every field of a record fits the bytes that it has. The clauses bound phase, masks and objects; the rest is kept call by call.
-use mathlib.Core.Path.{_≡_, refl, sym, ap, _∙_, subst}
-use mathlib.Core.Bool.{Bool, true, false, cond, not}
+use mathlib.Core.Path.{_≡_, refl, sym, subst}
 use mathlib.Core.List.{List, [], _∷_}
 use Prim.Native.Nat.{ℕ, zero, suc, _+_, _*_, _^_, _<_, _≤_}
 use native.Mathlib.Omega.{arith}
 use lib.Dec.{eqb, ltb, lit<}
 use lib.ListN.{length, getD, set, replicate}
 use borrow.Author.Tests.{eqb-true, eqb-false, ltb-true, ltb-false, not-false}
-use Rattle.mask.specs.Mask.{only, joined, within}
+use Rattle.mask.specs.Mask.{joined}
 use Rattle.quorum.specs.Nearest.{maskOf}
 use Rattle.octets.proofs.Laws.{Bytes, get-small}
 use Rattle.wire.specs.declared.Entry.{Entry}
 use Rattle.wire.specs.declared.Rival.{Rival}
 use Rattle.wire.specs.Decode.{fromOf, entryCount, entriesPlace, entryAt, rivalCount, rivalsPlace, rivalAt}
 use Rattle.wire.specs.Encode.{entrySize, rivalSize}
-use Rattle.wire.specs.Items.{noEntry, noRival, entryOf, rivalOf, wordOf}
+use Rattle.wire.specs.Items.{noEntry, noRival, entryOf, rivalOf}
 use Rattle.coordinator.specs.declared.Object.{Object}
 use Rattle.coordinator.specs.declared.Coordinator.{Coordinator}
 use Rattle.coordinator.specs.declared.BeginWith.{BeginWith}

@@ -1,17 +1,16 @@
 -- Found never changes once ready: an object that is open and ready stays so, in its mode, with the version and value found, over every call and
 -- delivery, until the transaction is over. A record that meets its clauses has it at one place, and that place is left alone or keeps what was found.
 use mathlib.Core.Path.{_≡_, refl, sym, ap, _∙_, subst}
-use mathlib.Core.Bool.{Bool, true, false, cond, not}
+use mathlib.Core.Bool.{not}
 use mathlib.Core.List.{List}
 use mathlib.Core.Logic.{_⊎_, inl, inr}
-use Prim.Native.Nat.{ℕ, _+_, _<_, _≤_}
+use Prim.Native.Nat.{ℕ, _<_, _≤_}
 use native.Mathlib.Omega.{arith}
 use lib.Dec.{T, eqb, ltb}
 use lib.ListN.{length, set}
 use borrow.Author.Tests.{eqb-true, ltb-true, not-false}
 use Rattle.mask.specs.Mask.{joined}
 use Rattle.quorum.specs.Nearest.{maskOf}
-use Rattle.wire.specs.Decode.{fromOf}
 use Rattle.wire.specs.Items.{entryOf}
 use Rattle.coordinator.specs.declared.Object.{Object}
 use Rattle.coordinator.specs.declared.Coordinator.{Coordinator}
@@ -21,11 +20,12 @@ use Rattle.coordinator.specs.System.{System}
 use Rattle.coordinator.specs.State.{eight, idlePhase, aborted, idleAfter, placeIn, placeOf, objectAt, isOpen, ready}
 use Rattle.coordinator.specs.Calls.{fresh, renewed, beginRefusals, begun, beginOf, openRefusals, opened, openOf, setRefusals, withNew, setOf}
 use Rattle.coordinator.specs.Calls.{reselectRefusals, reselected, reselectOf, requestCommitRefusals, requested, requestCommitOf, abortOf}
-use Rattle.coordinator.specs.Receive.{withCopy, receiveOf}
+use Rattle.coordinator.specs.Receive.{receiveOf}
+use Rattle.clauses.proofs.Parts.{neither-left}
 use Rattle.clauses.proofs.Places.{at, place-open, place-at, at-set}
 use Rattle.clauses.proofs.Facts.{Meets}
 use Rattle.clauses.proofs.Quorums.{Quorums}
-use Rattle.clauses.proofs.Cases.{step-keeps, neither-left}
+use Rattle.clauses.proofs.Cases.{step-keeps}
 use Rattle.clauses.proofs.Deliveries.{CopyFitting, copiedObject, afterCopy, Endings, abort-cases, receive-cases}
 use Rattle.clauses.proofs.Keep.{open-keeps, set-keeps}
 use Rattle.clauses.proofs.Deliver.{receive-keeps}

@@ -1,34 +1,32 @@
 -- Every call of the host keeps the clauses, refused or not: each part of a record that the call changes, the rest as it was.
 use mathlib.Core.Path.{_≡_, refl, sym, ap, _∙_, subst}
-use mathlib.Core.Bool.{Bool, true, false, cond, not, _||_}
+use mathlib.Core.Bool.{true, false, cond, not}
 use mathlib.Core.List.{List}
-use mathlib.Core.Logic.{_⊎_, inl, inr, ⊎-elim}
+use mathlib.Core.Logic.{⊎-elim}
 use Prim.Native.Nat.{ℕ, _+_, _<_, _≤_}
 use native.Mathlib.Omega.{arith}
-use lib.Dec.{T, eqb, ltb, leb}
-use lib.ListN.{length, set, replicate, length-set, length-replicate}
-use borrow.Author.Tests.{eqb-true, eqb-false, ltb-true, ltb-false, leb-false, not-false, not-true}
+use lib.Dec.{T, eqb, ltb}
+use lib.ListN.{length, set, replicate, length-set}
+use borrow.Author.Tests.{eqb-true, eqb-false, ltb-true, ltb-false, leb-false, not-false}
 use Rattle.mask.specs.Mask.{joined, within}
 use Rattle.mask.proofs.Laws.{within-self, within-trans}
-use Rattle.numbers.specs.Refusal.{firstOf}
 use Rattle.quorum.specs.Nearest.{maskOf}
 use Rattle.coordinator.specs.declared.Object.{Object}
 use Rattle.coordinator.specs.declared.Coordinator.{Coordinator}
 use Rattle.coordinator.specs.declared.BeginWith.{BeginWith}
-use Rattle.coordinator.specs.declared.Step.{Step}
 use Rattle.coordinator.specs.System.{System}
 use Rattle.coordinator.specs.State.{eight, thirteen, everyNode, objectsEnd, idlePhase, openPhase, votingPhase, finishingPhase, aborted}
-use Rattle.coordinator.specs.State.{noObject, idleAfter, blankRecord, placeOf, objectAt, isOpen, allSettled, anyUsedUp, awaited, stepOf}
+use Rattle.coordinator.specs.State.{noObject, idleAfter, blankRecord, placeOf, objectAt, isOpen, allSettled, anyUsedUp, awaited}
 use Rattle.coordinator.specs.Calls.{withObjects, withPhase}
-use Rattle.coordinator.specs.Calls.{noNode, tooWide, isNone, fresh, renewed, beginRefusals, begun, beginOf, openRefusals, opened, openOf}
-use Rattle.coordinator.specs.Calls.{setRefusals, withNew, setOf, foundRefusals, foundOf, reselectRefusals, reselected, reselectOf}
+use Rattle.coordinator.specs.Calls.{noNode, tooWide, fresh, renewed, beginRefusals, begun, beginOf, openRefusals, opened, openOf}
+use Rattle.coordinator.specs.Calls.{setRefusals, withNew, setOf, reselectRefusals, reselected, reselectOf}
 use Rattle.coordinator.specs.Calls.{requestCommitRefusals, requested, requestCommitOf, abortOf}
-use Rattle.clauses.proofs.Parts.{by-test, on-cond, true-T, T-false}
-use Rattle.clauses.proofs.Cases.{step-keeps, neither-left, neither-right}
+use Rattle.clauses.proofs.Parts.{on-cond, neither-left, neither-right}
+use Rattle.clauses.proofs.Cases.{step-keeps}
 use Rattle.clauses.proofs.Deliveries.{OpenOrVoting, Endings, abort-cases}
-use Rattle.clauses.proofs.Sets.{none-within, within-none, within-left, within-right, joined-within, joined-known}
-use Rattle.clauses.proofs.Places.{at, Once, place-open, place-shut, at-set, at-blank}
-use Rattle.clauses.proofs.Facts.{Sizes, Numbers, Opened, Objects, Nodes, NoNodes, Full, Party, Votes, Dones, Agreed, waited, Meets}
+use Rattle.clauses.proofs.Sets.{none-within, within-none, within-left, within-right, joined-known}
+use Rattle.clauses.proofs.Places.{at, place-open, place-shut, at-set, at-blank}
+use Rattle.clauses.proofs.Facts.{Sizes, Numbers, Opened, Objects, Nodes, Party, Votes, Dones, Agreed, waited, Meets}
 use Rattle.clauses.proofs.Quorums.{Quorums}
 
 -- ---- an idle record, and the blank one
@@ -359,16 +357,6 @@ module _ (s : System) (q : Quorums s) (c : Coordinator) (me : ℕ) (m : Meets s 
       let good = q .read-chosen live distances small (k .1 .1 .0) in
       reselected-meets live distances (maskOf chosen) n (eqb-true (c .phase) openPhase (not-false (eqb (c .phase) openPhase) (k .1 .0))) small (good .0)
       (good .1))
-
-  -- found changes nothing
-  pub found-keeps : (object : ℕ) → Meets s (foundOf s c me object .coordinator)
-  unfolding foundOf stepOf
-  found-keeps object = by (eqb (firstOf (foundRefusals s c me object)) 0)
-    where
-      by : (b : Bool) → Meets s (cond {A = Step} b (record { number = 0; answer = objectAt c object .value; coordinator = c })
-          (record { number = firstOf (foundRefusals s c me object); answer = 0; coordinator = c }) .coordinator)
-      by true = m
-      by false = m
 
 -- ---- another phase of the same transaction: what changes of a record that is not idle
 module _ (s : System) (c : Coordinator) (m : Meets s c) (busy : c .phase ≡ idlePhase → ⊥) where

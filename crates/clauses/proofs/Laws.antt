@@ -1,16 +1,17 @@
 -- What the clauses and the cases of the calls imply of every record: who the participants are, when a transaction commits, when it is over, and that
 -- serials rise by one at an accepted begin and change at no other call.
-use mathlib.Core.Path.{_≡_, refl, sym, ap, _∙_, subst}
-use mathlib.Core.Bool.{Bool, true, false, cond, not}
+use mathlib.Core.Path.{_≡_, refl, sym, _∙_, subst}
+use mathlib.Core.Bool.{true, false, not, _&&_, _||_}
 use mathlib.Core.List.{List}
 use mathlib.Core.Logic.{_⊎_, inl, inr}
-use Prim.Native.Nat.{ℕ, _+_, _<_, _≤_}
+use Prim.Native.Nat.{ℕ, _<_}
 use native.Mathlib.Omega.{arith}
-use lib.Dec.{T, eqb}
-use lib.ListN.{length, replicate, length-replicate}
+use lib.Dec.{T, eqb, ltb, eqb→eq, lt→ltb, T-not, not-T}
+use lib.ListN.{length, replicate}
 use lib.Seq.{ext-getD}
-use borrow.Author.Tests.{eqb-true, eqb-false, not-false}
+use borrow.Author.Tests.{eqb-true, eqb-false}
 use Rattle.mask.specs.Mask.{contains, joined, within}
+use Rattle.mask.proofs.Tests.{and-both, and-left, and-right, or-cases, T-true}
 use Rattle.quorum.specs.declared.Kind.the-variants.{Write}
 use Rattle.quorum.specs.Tree.{root}
 use Rattle.quorum.specs.Quorum.{isQuorum}
@@ -21,15 +22,16 @@ use Rattle.coordinator.specs.declared.Coordinator.{Coordinator}
 use Rattle.coordinator.specs.declared.BeginWith.{BeginWith}
 use Rattle.coordinator.specs.declared.Step.{Step}
 use Rattle.coordinator.specs.System.{System, tree}
-use Rattle.coordinator.specs.State.{eight, thirteen, idlePhase, openPhase, votingPhase, finishingPhase, committed, aborted, becameReady, nothing, noObject}
-use Rattle.coordinator.specs.State.{idleAfter, ready, objectAt, awaited}
+use Rattle.coordinator.specs.State.{eight, idlePhase, finishingPhase, committed, aborted, becameReady, nothing, noObject}
+use Rattle.coordinator.specs.State.{highest, idleAfter, ready, settled, allSettled, anyUsedUp, awaited}
 use Rattle.coordinator.specs.Calls.{beginRefusals, begun, beginOf, openRefusals, opened, openOf, setRefusals, withNew, setOf}
 use Rattle.coordinator.specs.Calls.{reselectRefusals, reselected, reselectOf, requestCommitRefusals, requested, requestCommitOf, abortOf}
 use Rattle.coordinator.specs.Receive.{receiveOf}
-use Rattle.clauses.proofs.Parts.{on-cond, by-test}
+use Rattle.clauses.proofs.Parts.{eq-T, true-T, false-T, on-cond}
 use Rattle.clauses.proofs.Sets.{within-none}
-use Rattle.clauses.proofs.Places.{at, at-blank}
+use Rattle.clauses.proofs.Places.{at, at-blank, across-at, across-none}
 use Rattle.clauses.proofs.Facts.{Meets}
+use Rattle.clauses.proofs.Quorums.{Quorums}
 use Rattle.clauses.proofs.Cases.{step-keeps}
 use Rattle.clauses.proofs.Deliveries.{Fitting, VoteFitting, copiedObject, saidYes, saidDone, Endings, abort-cases, receive-cases}
 
@@ -207,3 +209,32 @@ idle-blank s c m e =
     (λ i h. m .objects .past i (let k = n .no-object in omega arith) ∙ sym (at-blank eight i)) in
     made c (idleAfter (c .serial) (c .timestamp) (c .outcome)) refl refl refl e (n .no-live) (n .no-distance) (n .no-quorum)
     (m .nodes .nobody (n .no-object)) (n .no-object) objects none voted done (m .party .no-rivals none)
+
+-- ---- what votes are asked for: every object ready, with its new value and a next version where it is written
+module _ (s : System) (l : List Object) (n i : ℕ) (h : i < n) (k : i < length l) where
+  pub settled-each : allSettled s l n ≡ true → T (ready s (at l i)) × ((at l i .mode ≡ 0) ⊎ (at l i .given ≡ true))
+  unfolding allSettled
+  settled-each e =
+      let x = at l i in
+      let a = across-at (λ (j : ℕ) (y : Object). not (ltb j n) || settled s y) l (true-T (allSettled s l n) e) i k in
+      let b = or-cases (T (settled s x)) (not (ltb i n)) (settled s x) (λ f. absurd (T-not (ltb i n) f (lt→ltb i n h))) (λ t. t) a in (
+        and-left (ready s x) (eqb (x .mode) 0 || x .given) b,
+        or-cases ((x .mode ≡ 0) ⊎ (x .given ≡ true)) (eqb (x .mode) 0) (x .given) (λ t. inl (eqb→eq (x .mode) 0 t)) (λ t. inr (T-true (x .given) t))
+            (and-right (ready s x) (eqb (x .mode) 0 || x .given) b),
+      )
+
+  pub next-each : anyUsedUp l n ≡ false → (at l i .mode ≡ 0 → ⊥) → at l i .version ≡ highest → ⊥
+  unfolding anyUsedUp
+  next-each e written last =
+      let x = at l i in
+      let g = ltb i n && (not (eqb (x .mode) 0) && eqb (x .version) highest) in
+      false-T g (across-none (λ (j : ℕ) (y : Object). ltb j n && (not (eqb (y .mode) 0) && eqb (y .version) highest)) l e i k)
+      (and-both (ltb i n) _ (lt→ltb i n h)
+      (and-both (not (eqb (x .mode) 0)) (eqb (x .version) highest) (not-T (eqb (x .mode) 0) (λ t. written (eqb→eq (x .mode) 0 t)))
+      (eq-T (x .version) highest last)))
+
+-- nobody is contacted only while no object is open
+pub some-contacted : (s : System) → Quorums s → (c : Coordinator) → Meets s c → (c .count ≡ 0 → ⊥) → c .contacted ≡ 0 → ⊥
+some-contacted s q c m n e =
+    q .read-some (c .quorum) (m .nodes .present (λ d. n (m .nodes .at-idle d .no-object)))
+    (within-none (c .quorum) (subst (λ (w : ℕ). T (within (c .quorum) w)) e (m .nodes .asked n)))

@@ -1,13 +1,13 @@
 -- What a delivered message is, from the call's own checks: well formed, to this node, and a vote's rivals are others.
-use mathlib.Core.Path.{_≡_, refl, sym, ap, _∙_, subst}
+use mathlib.Core.Path.{_≡_, refl, sym, _∙_, subst}
 use mathlib.Core.Bool.{Bool, true, false, cond, not, _&&_, _||_}
-use mathlib.Core.List.{List, [], _∷_, map}
-use Prim.Native.Nat.{ℕ, zero, suc, _+_, _*_, _%_, _<_, _≤_}
+use mathlib.Core.List.{List, map}
+use Prim.Native.Nat.{ℕ, zero, suc, _+_, _*_, _%_, _<_}
 use native.Mathlib.Omega.{arith}
-use lib.Dec.{T, eqb, ltb, leb, eqb→eq, ltb→lt, T-not, lt→ltb}
+use lib.Dec.{T, eqb, ltb, eqb→eq, ltb→lt, T-not}
 use lib.ListN.{length}
-use borrow.Author.Tests.{eqb-true, eqb-false, lt-ltb, not-false}
-use Rattle.mask.proofs.Tests.{and-left, and-right, T-true}
+use borrow.Author.Tests.{eqb-true, lt-ltb, not-false}
+use Rattle.mask.proofs.Tests.{and-left, and-right}
 use Rattle.numbers.specs.Numbers.{wrongLength, garbled}
 use Rattle.wire.specs.declared.Rival.{Rival}
 use Rattle.wire.specs.Message.{vote}
@@ -21,8 +21,7 @@ use Rattle.coordinator.specs.State.{thirteen}
 use Rattle.coordinator.specs.Calls.{noNode}
 use Rattle.coordinator.specs.Receive.{receiveRefusals}
 use Rattle.coordinator.proofs.Refusals.{Clear}
-use Rattle.clauses.proofs.Parts.{eq-T, true-T, on-cond}
-use Rattle.clauses.proofs.Cases.{neither-left, neither-right}
+use Rattle.clauses.proofs.Parts.{eq-T, true-T, on-cond, neither-left, neither-right}
 
 -- ---- what is true of every item is true of each
 item-ok : {A : Type 0} (p : A → Bool) (at : List ℕ → ℕ → A) (size : ℕ) (l : List ℕ) (n i j : ℕ) → T (every p (itemsFrom at size n l i)) → j < n

@@ -1,24 +1,21 @@
 -- A transaction is no rival of its own: at node me the place of me among the rivals stays 0, since a vote's owner is me and no rival is the owner.
-use mathlib.Core.Path.{_≡_, refl, sym, ap, _∙_, subst}
-use mathlib.Core.Bool.{Bool, true, false}
+use mathlib.Core.Path.{_≡_, refl, sym, _∙_}
 use mathlib.Core.List.{List}
 use Prim.Native.Nat.{ℕ, zero, suc, _+_, _<_, _≤_}
 use native.Mathlib.Omega.{arith}
-use lib.Dec.{eqb}
-use lib.ListN.{length, getD, replicate}
+use lib.ListN.{getD, replicate}
 use lib.Seq.{getD-set-other}
-use Rattle.mask.specs.Mask.{only, joined, within}
+use Rattle.mask.specs.Mask.{joined}
 use Rattle.quorum.specs.Nearest.{maskOf}
-use Rattle.wire.specs.Message.{vote}
-use Rattle.wire.specs.Decode.{kindOf, fromOf, rivalCount}
-use Rattle.wire.specs.Items.{rivalOf, wordOf}
+use Rattle.wire.specs.Decode.{rivalCount}
+use Rattle.wire.specs.Items.{rivalOf}
 use Rattle.coordinator.specs.declared.Coordinator.{Coordinator}
 use Rattle.coordinator.specs.declared.BeginWith.{BeginWith}
 use Rattle.coordinator.specs.declared.Step.{Step}
 use Rattle.coordinator.specs.System.{System}
 use Rattle.coordinator.specs.State.{thirteen, aborted, idleAfter}
 use Rattle.coordinator.specs.Calls.{beginRefusals, begun, beginOf, openRefusals, opened, openOf, setRefusals, withNew, setOf, reselectRefusals, reselected}
-use Rattle.coordinator.specs.Calls.{reselectOf, foundRefusals, foundOf, requestCommitRefusals, requested, requestCommitOf, endedAborted, abortRefusals, abortOf}
+use Rattle.coordinator.specs.Calls.{reselectOf, requestCommitRefusals, requested, requestCommitOf, abortOf}
 use Rattle.coordinator.specs.Receive.{raise, raiseFrom, receiveOf}
 use Rattle.clauses.proofs.Cases.{step-keeps}
 use Rattle.clauses.proofs.Messages.{rival-other}
