@@ -78,11 +78,11 @@ module _ (s : System) (c : Coordinator) (me : ℕ) (m : List ℕ) (h : Meets s c
     last-yes-meets : T (within (c .participants) (saidYes c m))
         → Meets s (withPhase c finishingPhase committed (c .participants) (saidYes c m) (c .done) (named c m))
     last-yes-meets t =
-        phase-meets s c h busy finishingPhase committed (c .participants) (saidYes c m) (c .done) (named c m) (λ d. let z : ⊥ = omega arith in z)
+        phase-meets s c h busy finishingPhase committed (c .participants) (saidYes c m) (c .done) (named c m) (λ d. omega arith)
         (omega arith) (omega arith) long (last-party s c h busy (named c m) (λ z. absurd (there z)))
         (record {
           of-participants = of-party;
-          vote-missing = λ d. absurd (let z : ⊥ = omega arith in z);
+          vote-missing = λ d. absurd (omega arith);
           agreed-commits = λ d a. refl;
           else-aborted = λ d n. absurd (n (there, t));
         })
@@ -93,24 +93,24 @@ module _ (s : System) (c : Coordinator) (me : ℕ) (m : List ℕ) (h : Meets s c
     one-yes-meets : (T (within (c .participants) (saidYes c m)) → ⊥)
         → Meets s (withPhase c votingPhase (c .outcome) (c .participants) (saidYes c m) (c .done) (named c m))
     one-yes-meets n =
-        phase-meets s c h busy votingPhase (c .outcome) (c .participants) (saidYes c m) (c .done) (named c m) (λ d. let z : ⊥ = omega arith in z)
+        phase-meets s c h busy votingPhase (c .outcome) (c .participants) (saidYes c m) (c .done) (named c m) (λ d. omega arith)
         (omega arith) (h .numbers .outcome-known) long
         (record {
           participants-known = h .party .participants-known;
           no-rivals = λ z. absurd (there z);
           full = h .party .full;
-          not-asked = λ d. absurd (let z : ⊥ = omega arith in z);
+          not-asked = λ d. absurd (omega arith);
           asked-for = λ d. there;
         })
         (record {
           of-participants = of-party;
           vote-missing = λ d a. n (a .1);
-          agreed-commits = λ d. absurd (let z : ⊥ = omega arith in z);
-          else-aborted = λ d. absurd (let z : ⊥ = omega arith in z);
+          agreed-commits = λ d. absurd (omega arith);
+          else-aborted = λ d. absurd (omega arith);
         })
         (record {
-          of-awaited = λ d. absurd (let z : ⊥ = omega arith in z);
-          done-missing = λ d. absurd (let z : ⊥ = omega arith in z);
+          of-awaited = λ d. absurd (omega arith);
+          done-missing = λ d. absurd (omega arith);
           no-done = λ d. h .dones .no-done early;
         })
 

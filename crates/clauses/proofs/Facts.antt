@@ -300,7 +300,8 @@ module _ (s : System) (c : Coordinator) (sized : Sizes (c .distances) (c .object
       (λ p. let g = f .at-idle (eqb→eq (c .phase) idlePhase p) in
       and-both (eqb (c .live) 0) _ (eq-T (c .live) 0 (g .no-live))
       (and-both (eqb (c .quorum) 0) _ (eq-T (c .quorum) 0 (g .no-quorum))
-      (and-both (zeros (c .distances)) _ (subst (λ (l : List ℕ). T (zeros l)) (sym (g .no-distance)) (are-zeros thirteen)) (eq-T (c .count) 0 (g .no-object)))))
+      (and-both (zeros (c .distances)) _ (subst (λ (l : List ℕ). T (zeros l)) (sym (g .no-distance)) (are-zeros thirteen))
+      (eq-T (c .count) 0 (g .no-object)))))
       (λ n. f .present (λ p. n (eq-T (c .phase) idlePhase p))))
       (cond-in (eqb (c .count) 0) (eqb (c .contacted) 0) (within (c .quorum) (c .contacted))
       (λ p. eq-T (c .contacted) 0 (f .nobody (eqb→eq (c .count) 0 p))) (λ n. f .asked (λ p. n (eq-T (c .count) 0 p)))))))

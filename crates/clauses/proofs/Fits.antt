@@ -29,7 +29,7 @@ use Rattle.clauses.proofs.Places.{at, at-blank}
 use Rattle.clauses.proofs.Facts.{Meets}
 use Rattle.clauses.proofs.Quorums.{Quorums}
 use Rattle.clauses.proofs.Cases.{step-keeps}
-use Rattle.clauses.proofs.Deliveries.{afterCopy, named, Endings, abort-cases, receive-cases}
+use Rattle.clauses.proofs.Deliveries.{copiedObject, afterCopy, named, Endings, abort-cases, receive-cases}
 use Rattle.clauses.proofs.Keep.{awaited-known, begin-keeps, open-keeps, set-keeps, reselect-keeps, request-keeps, abort-keeps}
 use Rattle.clauses.proofs.Deliver.{receive-keeps}
 
@@ -285,7 +285,7 @@ module _ (s : System) (c : Coordinator) (me : ℕ) (w : Widths c) where
           serial-32 = w .serial-32;
           timestamp-32 = w .timestamp-32;
           distances-16 = w .distances-16;
-          objects-fit = λ i. after-set Valued noObject (c .objects) p i (withCopy x (fromOf m) (entryOf m 0)) (copied-valued x (w .objects-fit p)) (w .objects-fit);
+          objects-fit = λ i. after-set Valued noObject (c .objects) p i (copiedObject c m) (copied-valued x (w .objects-fit p)) (w .objects-fit);
           rivals-32 = w .rivals-32;
         }
 

@@ -56,8 +56,10 @@ module _ (s : System) (q : Quorums s) (c : Coordinator) (me : ℕ) (m : Meets s 
   shows : (d : Coordinator) → c .count ≤ d .count → at (d .objects) p .object ≡ t → Looks s mode version value (at (d .objects) p) → Meets s d → S d
   shows d more same look md =
       let k : p < d .count = let a = place .0 in omega arith in
-      let e : p ≡ placeOf d t = sym (ap (placeOf d) (sym same) ∙ place-at (d .objects) (d .count) (md .sizes .objects-8) (md .objects .eight-at-most) (md .objects .once) p k) in
-      let n = md .objects .eight-at-most in
+      let o = md .objects in
+      let found = place-at (d .objects) (d .count) (md .sizes .objects-8) (o .eight-at-most) (o .once) p k in
+      let e : p ≡ placeOf d t = sym (ap (placeOf d) (sym same) ∙ found) in
+      let n = o .eight-at-most in
       record {
         is-open = subst (λ (i : ℕ). i < eight) e (omega arith);
         looks = subst (λ (i : ℕ). Looks s mode version value (at (d .objects) i)) e look;
@@ -79,7 +81,7 @@ module _ (s : System) (q : Quorums s) (c : Coordinator) (me : ℕ) (m : Meets s 
       step-keeps S (beginRefusals c me w chosen) (maskOf chosen) c (begun c w (maskOf chosen)) tt h
       (λ k. let e : c .phase ≡ idlePhase = eqb-true (c .phase) idlePhase (not-false (eqb (c .phase) idlePhase) (k .1 .0)) in
       let n : c .count ≡ 0 = m .nodes .at-idle e .no-object in
-      absurd (let a = place .0 in let z : ⊥ = omega arith in z))
+      absurd (let a = place .0 in omega arith))
 
   pub open-shows : (object mode' : ℕ) → mode' < 2 → S (openOf c me object mode' .coordinator)
   unfolding openOf openRefusals opened
@@ -87,7 +89,7 @@ module _ (s : System) (q : Quorums s) (c : Coordinator) (me : ℕ) (m : Meets s 
       step-keeps (λ (d : Coordinator). Meets s d → S d) (openRefusals c me object) 0 c (opened c object mode') tt (λ z. h)
       (λ k. let room : c .count < eight = ltb-true (c .count) eight (not-false (ltb (c .count) eight) (k .1 .1 .1 .0)) in
       put-shows (opened c object mode') (c .count) (fresh object mode') refl (omega arith) (let n = m .sizes .objects-8 in omega arith)
-      (λ e. absurd (let a = place .0 in let z : ⊥ = omega arith in z)))
+      (λ e. absurd (let a = place .0 in omega arith)))
       (open-keeps s q c me m object mode' b)
 
   pub set-shows : (object new : ℕ) → S (setOf c me object new .coordinator)

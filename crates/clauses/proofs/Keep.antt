@@ -34,8 +34,8 @@ blank-objects : (contacted : ℕ) → Objects contacted 0 (replicate eight noObj
 blank-objects contacted =
     record {
       eight-at-most = omega arith;
-      opened = λ i h. absurd (let z : ⊥ = omega arith in z);
-      once = λ i j h k e. absurd (let z : ⊥ = omega arith in z);
+      opened = λ i h. absurd (omega arith);
+      once = λ i j h k e. absurd (omega arith);
       past = λ i h. at-blank eight i;
     }
 
@@ -58,9 +58,9 @@ no-votes : (phase outcome : ℕ) → phase ≤ openPhase → Votes phase outcome
 no-votes phase outcome h =
     record {
       of-participants = none-within 0;
-      vote-missing = λ e. absurd (let z : ⊥ = omega arith in z);
-      agreed-commits = λ e. absurd (let z : ⊥ = omega arith in z);
-      else-aborted = λ e. absurd (let z : ⊥ = omega arith in z);
+      vote-missing = λ e. absurd (omega arith);
+      agreed-commits = λ e. absurd (omega arith);
+      else-aborted = λ e. absurd (omega arith);
     }
 
 no-dones : (phase contacted participants : ℕ) → (phase ≡ finishingPhase → ⊥) → Dones phase contacted participants 0
@@ -84,9 +84,9 @@ module _ (s : System) where
           nobody = λ e. refl;
           asked = λ f. absurd (f refl);
         };
-        party = no-party s idlePhase 0 0 (replicate eight noObject) (λ e. let z : ⊥ = omega arith in z);
+        party = no-party s idlePhase 0 0 (replicate eight noObject) (λ e. omega arith);
         votes = no-votes idlePhase outcome (omega arith);
-        dones = no-dones idlePhase 0 0 (λ e. let z : ⊥ = omega arith in z);
+        dones = no-dones idlePhase 0 0 (λ e. omega arith);
       }
 
   pub blank-meets : Meets s blankRecord
@@ -129,7 +129,7 @@ module _ (contacted count : ℕ) (l : List Object) (p : ℕ) (x : Object) (f : O
         eight-at-most = f .eight-at-most;
         opened = λ i k. at-set (Opened contacted) l p i x inside (λ e. o) (λ n. f .opened i k);
         once = λ i j a b e. f .once i j a b (sym (same-numbers i) ∙ e ∙ same-numbers j);
-        past = λ i k. at-set (λ (y : Object). y ≡ noObject) l p i x inside (λ e. absurd (let z : ⊥ = omega arith in z)) (λ n. f .past i k);
+        past = λ i k. at-set (λ (y : Object). y ≡ noObject) l p i x inside (λ e. absurd (omega arith)) (λ n. f .past i k);
       }
 
 -- one object more
@@ -145,7 +145,7 @@ added-objects contacted count l x f eights h new o =
           (λ d g. absurd (new j (omega arith) (sym g))))
           (λ e. at-set (λ (y : Object). at l i .object ≡ y .object → i ≡ j) l count j x (omega arith) (λ d g. absurd (new i (omega arith) g))
           (λ d g. f .once i j (omega arith) (omega arith) g));
-      past = λ i k. at-set (λ (y : Object). y ≡ noObject) l count i x (omega arith) (λ e. absurd (let z : ⊥ = omega arith in z))
+      past = λ i k. at-set (λ (y : Object). y ≡ noObject) l count i x (omega arith) (λ e. absurd (omega arith))
           (λ n. f .past i (omega arith));
     }
 
@@ -192,8 +192,8 @@ module _ (s : System) (c : Coordinator) (m : Meets s c) (e : c .phase ≡ openPh
         };
         votes = m .votes;
         dones = record {
-          of-awaited = λ d. absurd (let z : ⊥ = omega arith in z);
-          done-missing = λ d. absurd (let z : ⊥ = omega arith in z);
+          of-awaited = λ d. absurd (omega arith);
+          done-missing = λ d. absurd (omega arith);
           no-done = m .dones .no-done;
         };
       }
@@ -209,7 +209,7 @@ module _ (s : System) (c : Coordinator) (m : Meets s c) (e : c .phase ≡ openPh
         live-known = m .nodes .live-known;
         quorum-known = m .nodes .quorum-known;
         contacted-known = known;
-        at-idle = λ d. absurd (let z : ⊥ = omega arith in z);
+        at-idle = λ d. absurd (omega arith);
         present = m .nodes .present;
         nobody = none;
         asked = some;
@@ -235,7 +235,7 @@ module _ (s : System) (q : Quorums s) (c : Coordinator) (me : ℕ) (m : Meets s 
         numbers = record {
           phase-known = omega arith;
           outcome-known = m .numbers .outcome-known;
-          unused = λ e. absurd (let z : ⊥ = omega arith in z);
+          unused = λ e. absurd (omega arith);
           used = λ f e. omega arith;
         };
         objects = blank-objects 0;
@@ -243,14 +243,14 @@ module _ (s : System) (q : Quorums s) (c : Coordinator) (me : ℕ) (m : Meets s 
           live-known = live;
           quorum-known = known;
           contacted-known = omega arith;
-          at-idle = λ e. absurd (let z : ⊥ = omega arith in z);
+          at-idle = λ e. absurd (omega arith);
           present = λ f. read;
           nobody = λ e. refl;
           asked = λ f. absurd (f refl);
         };
-        party = no-party s openPhase 0 0 (replicate eight noObject) (λ e. let z : ⊥ = omega arith in z);
+        party = no-party s openPhase 0 0 (replicate eight noObject) (λ e. omega arith);
         votes = no-votes openPhase (c .outcome) (omega arith);
-        dones = no-dones openPhase 0 0 (λ e. let z : ⊥ = omega arith in z);
+        dones = no-dones openPhase 0 0 (λ e. omega arith);
       }
 
   pub begin-keeps : (w : BeginWith) → length (w .distances) ≡ thirteen → Meets s (beginOf s c me w .coordinator)
@@ -286,7 +286,7 @@ module _ (s : System) (q : Quorums s) (c : Coordinator) (me : ℕ) (m : Meets s 
       (more-contacted (c .contacted) asked (c .count) (c .objects) (within-left (c .contacted) (c .quorum)) (m .objects)) n room
       (λ j a. place-shut (c .objects) (c .count) object shut (omega arith) j a (omega arith)) (fresh-opened asked object mode h k))
       (joined-known (c .contacted) (c .quorum) (m .nodes .contacted-known) (m .nodes .quorum-known))
-      (λ z. absurd (let y : ⊥ = omega arith in y)) (λ f. within-right (c .contacted) (c .quorum))
+      (λ z. absurd (omega arith)) (λ f. within-right (c .contacted) (c .quorum))
 
   pub open-keeps : (object mode : ℕ) → mode < 2 → Meets s (openOf c me object mode .coordinator)
   unfolding openOf openRefusals
@@ -342,7 +342,7 @@ module _ (s : System) (q : Quorums s) (c : Coordinator) (me : ℕ) (m : Meets s 
         quorum-known = known;
         contacted-known = on-cond (λ (x : ℕ). x ≤ everyNode) b old all (λ d. m .nodes .contacted-known)
             (λ d. joined-known old quorum (m .nodes .contacted-known) known);
-        at-idle = λ d. absurd (let z : ⊥ = omega arith in z);
+        at-idle = λ d. absurd (omega arith);
         present = λ d. read;
         nobody = λ z. on-cond (λ (x : ℕ). x ≡ 0) b old all (λ d. m .nodes .nobody z) (λ d. absurd (eqb-false (c .count) 0 d z));
         asked = λ z. on-cond (λ (x : ℕ). T (within quorum x)) b old all (λ d. absurd (z (eqb-true (c .count) 0 d))) (λ d. within-right old quorum);
@@ -405,8 +405,8 @@ module _ (s : System) (c : Coordinator) (m : Meets s c) (busy : c .phase ≡ idl
         participants-known = m .party .participants-known;
         no-rivals = none;
         full = m .party .full;
-        not-asked = λ h. absurd (let z : ⊥ = omega arith in z);
-        asked-for = λ e. absurd (let z : ⊥ = omega arith in z);
+        not-asked = λ h. absurd (omega arith);
+        asked-for = λ e. absurd (omega arith);
       }
 
   -- finishing begins: nobody has said done
@@ -433,21 +433,21 @@ module _ (s : System) (c : Coordinator) (m : Meets s c) where
   not-agreed p a = ⊎-elim (λ e. a .0 (open-party s c m e)) (λ e. m .votes .vote-missing e a) p
 
   pub not-idle : OpenOrVoting c → c .phase ≡ idlePhase → ⊥
-  not-idle p e = ⊎-elim (λ d. let z : ⊥ = omega arith in z) (λ d. let z : ⊥ = omega arith in z) p
+  not-idle p e = ⊎-elim (λ d. omega arith) (λ d. omega arith) p
 
   not-finishing : OpenOrVoting c → c .phase ≡ finishingPhase → ⊥
-  not-finishing p e = ⊎-elim (λ d. let z : ⊥ = omega arith in z) (λ d. let z : ⊥ = omega arith in z) p
+  not-finishing p e = ⊎-elim (λ d. omega arith) (λ d. omega arith) p
 
   pub endings-meet : Endings (Meets s) c
   endings-meet =
       record {
         gone = λ p e. ended-meets s c m (not-idle p) aborted (omega arith);
         aborting = λ p n. phase-meets s c m (not-idle p) finishingPhase aborted (c .participants) (c .yes) (c .done) (c .rivals)
-            (λ d. let z : ⊥ = omega arith in z) (omega arith) (omega arith) (m .sizes .rivals-13)
+            (λ d. omega arith) (omega arith) (omega arith) (m .sizes .rivals-13)
             (last-party s c m (not-idle p) (c .rivals) (m .party .no-rivals))
             (record {
               of-participants = m .votes .of-participants;
-              vote-missing = λ d. absurd (let z : ⊥ = omega arith in z);
+              vote-missing = λ d. absurd (omega arith);
               agreed-commits = λ d a. absurd (not-agreed p a);
               else-aborted = λ d f. refl;
             })
@@ -467,8 +467,8 @@ module _ (s : System) (q : Quorums s) (c : Coordinator) (me : ℕ) (m : Meets s 
       let large = q .write-larger quorum all (within-left quorum (c .contacted)) write in
       let there : all ≡ 0 → ⊥ = q .write-some all large in
       let said : c .yes ≡ 0 = within-none (c .yes) (subst (λ (n : ℕ). T (within (c .yes) n)) (open-party s c m e) (m .votes .of-participants)) in
-      phase-meets s c m (λ d. let z : ⊥ = omega arith in z) votingPhase (c .outcome) all (c .yes) (c .done) (c .rivals)
-      (λ d. let z : ⊥ = omega arith in z) (omega arith) (m .numbers .outcome-known) (m .sizes .rivals-13)
+      phase-meets s c m (λ d. omega arith) votingPhase (c .outcome) all (c .yes) (c .done) (c .rivals)
+      (λ d. omega arith) (omega arith) (m .numbers .outcome-known) (m .sizes .rivals-13)
       (record {
         participants-known = joined-known quorum (c .contacted) known (m .nodes .contacted-known);
         no-rivals = λ d. absurd (there d);
@@ -479,17 +479,17 @@ module _ (s : System) (q : Quorums s) (c : Coordinator) (me : ℕ) (m : Meets s 
           all-settled = settled;
           none-used-up = next;
         };
-        not-asked = λ d. absurd (let z : ⊥ = omega arith in z);
+        not-asked = λ d. absurd (omega arith);
         asked-for = λ d. there;
       })
       (record {
         of-participants = subst (λ (n : ℕ). T (within n all)) (sym said) (none-within all);
         vote-missing = λ d a. there (within-none all (subst (λ (n : ℕ). T (within all n)) said (a .1)));
-        agreed-commits = λ d. absurd (let z : ⊥ = omega arith in z);
-        else-aborted = λ d. absurd (let z : ⊥ = omega arith in z);
+        agreed-commits = λ d. absurd (omega arith);
+        else-aborted = λ d. absurd (omega arith);
       })
-      (subst (Dones votingPhase (c .contacted) all) (sym (m .dones .no-done (λ d. let z : ⊥ = omega arith in z)))
-      (no-dones votingPhase (c .contacted) all (λ d. let z : ⊥ = omega arith in z)))
+      (subst (Dones votingPhase (c .contacted) all) (sym (m .dones .no-done (λ d. omega arith)))
+      (no-dones votingPhase (c .contacted) all (λ d. omega arith)))
 
   pub request-keeps : Meets s (requestCommitOf s c me .coordinator)
   unfolding requestCommitOf requestCommitRefusals

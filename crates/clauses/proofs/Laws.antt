@@ -55,14 +55,14 @@ pub commit-needs-every-yes : (s : System) (c : Coordinator) (me : ℕ) (m : List
 commit-needs-every-yes s c me m =
     receive-cases (λ (x : Step). x .answer ≡ committed → Commits c me m) s c me m
     (record {
-      as-before = λ n e. absurd (let z : ⊥ = omega arith in z);
-      copied = λ f. on-cond (λ (a : ℕ). a ≡ committed → Commits c me m) (ready s (copiedObject c m)) becameReady nothing (λ k e. absurd (let z : ⊥ = omega arith in z))
-          (λ k e. absurd (let z : ⊥ = omega arith in z));
-      endings = record { gone = λ a b e. absurd (let z : ⊥ = omega arith in z); aborting = λ a b e. absurd (let z : ⊥ = omega arith in z) };
+      as-before = λ n e. absurd (omega arith);
+      copied = λ f. on-cond (λ (a : ℕ). a ≡ committed → Commits c me m) (ready s (copiedObject c m)) becameReady nothing (λ k e. absurd (omega arith))
+          (λ k e. absurd (omega arith));
+      endings = record { gone = λ a b e. absurd (omega arith); aborting = λ a b e. absurd (omega arith) };
       last-yes = λ f t e. record { a-yes = f; everyone = t };
-      one-yes = λ f t e. absurd (let z : ⊥ = omega arith in z);
-      last-done = λ f t e. absurd (let z : ⊥ = omega arith in z);
-      one-done = λ f t e. absurd (let z : ⊥ = omega arith in z);
+      one-yes = λ f t e. absurd (omega arith);
+      last-done = λ f t e. absurd (omega arith);
+      one-done = λ f t e. absurd (omega arith);
     })
 
 -- ---- a transaction is over only when every awaited node has said done, or nobody was contacted
@@ -86,7 +86,7 @@ module _ (s : System) (c : Coordinator) (me : ℕ) (busy : c .phase ≡ idlePhas
   unfolding beginOf beginRefusals begun
   begin-goes-on w =
       let chosen = s .nearestRead (w .live) (w .distances) in
-      step-keeps Goes (beginRefusals c me w chosen) (maskOf chosen) c (begun c w (maskOf chosen)) tt busy (λ k e. let z : ⊥ = omega arith in z)
+      step-keeps Goes (beginRefusals c me w chosen) (maskOf chosen) c (begun c w (maskOf chosen)) tt busy (λ k e. omega arith)
 
   pub open-goes-on : (object mode : ℕ) → Goes (openOf c me object mode .coordinator)
   unfolding openOf openRefusals opened
@@ -107,12 +107,12 @@ module _ (s : System) (c : Coordinator) (me : ℕ) (busy : c .phase ≡ idlePhas
   request-goes-on =
       let chosen = s .nearestWrite (c .live) (c .distances) in
       let all = joined (maskOf chosen) (c .contacted) in
-      step-keeps Goes (requestCommitRefusals s c me chosen) all c (requested c all) tt busy (λ k e. let z : ⊥ = omega arith in z)
+      step-keeps Goes (requestCommitRefusals s c me chosen) all c (requested c all) tt busy (λ k e. omega arith)
 
   pub abort-over : abortOf c me .coordinator .phase ≡ idlePhase → awaited c ≡ 0
   abort-over =
       abort-cases (λ (d : Coordinator). d .phase ≡ idlePhase → awaited c ≡ 0) c me (λ e. absurd (busy e))
-      (record { gone = λ a b e. b; aborting = λ a b e. absurd (let z : ⊥ = omega arith in z) })
+      (record { gone = λ a b e. b; aborting = λ a b e. absurd (omega arith) })
 
   pub receive-over : (m : List ℕ) → receiveOf s c me m .coordinator .phase ≡ idlePhase → LastDone c m ⊎ (awaited c ≡ 0)
   receive-over m =
@@ -120,9 +120,9 @@ module _ (s : System) (c : Coordinator) (me : ℕ) (busy : c .phase ≡ idlePhas
       (record {
         as-before = λ n e. absurd (busy e);
         copied = λ f e. absurd (busy e);
-        endings = record { gone = λ a b e. inr b; aborting = λ a b e. absurd (let z : ⊥ = omega arith in z) };
-        last-yes = λ f t e. absurd (let z : ⊥ = omega arith in z);
-        one-yes = λ f t e. absurd (let z : ⊥ = omega arith in z);
+        endings = record { gone = λ a b e. inr b; aborting = λ a b e. absurd (omega arith) };
+        last-yes = λ f t e. absurd (omega arith);
+        one-yes = λ f t e. absurd (omega arith);
         last-done = λ f t e. inl (record { a-done = f; everyone = t });
         one-done = λ f t e. absurd (busy e);
       })
@@ -203,7 +203,7 @@ idle-blank s c m e =
     let n = m .nodes .at-idle e in
     let none : c .participants ≡ 0 = m .party .not-asked (omega arith) in
     let voted : c .yes ≡ 0 = within-none (c .yes) (subst (λ (w : ℕ). T (within (c .yes) w)) none (m .votes .of-participants)) in
-    let done : c .done ≡ 0 = m .dones .no-done (λ f. let z : ⊥ = omega arith in z) in
+    let done : c .done ≡ 0 = m .dones .no-done (λ f. omega arith) in
     let objects : c .objects ≡ replicate eight noObject =
     ext-getD noObject (c .objects) (replicate eight noObject) (m .sizes .objects-8)
     (λ i h. m .objects .past i (let k = n .no-object in omega arith) ∙ sym (at-blank eight i)) in

@@ -27,7 +27,7 @@ use Rattle.clauses.proofs.Parts.{eq-T, true-T, on-cond, neither-left, n
 item-ok : {A : Type 0} (p : A → Bool) (at : List ℕ → ℕ → A) (size : ℕ) (l : List ℕ) (n i j : ℕ) → T (every p (itemsFrom at size n l i)) → j < n
     → T (p (at l (i + size * j)))
 unfolding itemsFrom
-item-ok p at size l zero i j t h = absurd (let z : ⊥ = omega arith in z)
+item-ok p at size l zero i j t h = absurd (omega arith)
 item-ok p at size l (suc n) i zero t h =
     subst (λ (k : ℕ). T (p (at l k))) (omega arith) (and-left (p (at l i)) (every p (itemsFrom at size n l (i + size))) t)
 item-ok p at size l (suc n) i (suc j) t h =

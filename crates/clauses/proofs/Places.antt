@@ -24,7 +24,7 @@ everyPlace f i x rest = f i x && rest
 
 each-from : (f : ℕ → Object → Bool) (k : ℕ) (l : List Object) → T (across (everyPlace f) true k l)
     → (i : ℕ) → i < length l → T (f (k + i) (at l i))
-each-from f k [] t i h = absurd (let z : ⊥ = omega arith in z)
+each-from f k [] t i h = absurd (omega arith)
 each-from f k (x ∷ l) t zero h = subst (λ (n : ℕ). T (f n x)) (omega arith) (and-left (f k x) (across (everyPlace f) true (k + 1) l) t)
 each-from f k (x ∷ l) t (suc i) h =
     subst (λ (n : ℕ). T (f n (at l i))) (omega arith)
@@ -50,7 +50,7 @@ somePlace f i x rest = f i x || rest
 
 none-from : (f : ℕ → Object → Bool) (k : ℕ) (l : List Object) → across (somePlace f) false k l ≡ false
     → (i : ℕ) → i < length l → f (k + i) (at l i) ≡ false
-none-from f k [] e i h = absurd (let z : ⊥ = omega arith in z)
+none-from f k [] e i h = absurd (omega arith)
 none-from f k (x ∷ l) e zero h = subst (λ (n : ℕ). f n x ≡ false) (omega arith) (neither-left (f k x) (across (somePlace f) false (k + 1) l) e)
 none-from f k (x ∷ l) e (suc i) h =
     subst (λ (n : ℕ). f n (at l i) ≡ false) (omega arith)
@@ -74,7 +74,7 @@ later x l n t k p h = ⊎-elim (λ a. inl (suc (a .0), omega (arith, a .1), omeg
     none f (suc j) a b e = f j (omega arith) (omega arith) e
 
 placed : (l : List Object) (n t k : ℕ) → Placed l n t k (across (hereElse t n) eight k l)
-placed [] n t k = inr (refl, λ j a b e. let z : ⊥ = omega arith in z)
+placed [] n t k = inr (refl, λ j a b e. omega arith)
 placed (x ∷ l) n t k = by (placed l n t (k + 1)) (ltb k n && eqb (x .object) t) refl
   where
     by : {p : ℕ} → Placed l n t (k + 1) p → (b : Bool) → (ltb k n && eqb (x .object) t) ≡ b → Placed (x ∷ l) n t k (cond b k p)
