@@ -21,7 +21,7 @@ use Rattle.clauses.proofs.Parts.{on-cond}
 use Rattle.clauses.proofs.Sets.{only-within, joined-some, joined-within}
 use Rattle.clauses.proofs.Places.{place-open}
 use Rattle.clauses.proofs.Facts.{Opened, Meets}
-use Rattle.clauses.proofs.Deliveries.{Fitting, CopyFitting, VoteFitting, afterCopy, saidYes, named, saidDone, receive-cases}
+use Rattle.clauses.proofs.Deliveries.{DoneFitting, CopyFitting, YesFitting, afterCopy, saidYes, named, saidDone, receive-cases}
 use Rattle.clauses.proofs.Keep.{object-keeps, phase-meets, ended-meets, last-party, first-dones, awaited-known, endings-meet}
 
 -- the rivals named in a vote: as many places as before
@@ -45,7 +45,7 @@ module _ (s : System) (c : Coordinator) (me : ℕ) (m : List ℕ) (h : Meets s c
         not-given = o .not-given;
       }
 
-  copy-meets : CopyFitting s c m → Meets s (afterCopy c m)
+  copy-meets : CopyFitting s c me m → Meets s (afterCopy c m)
   unfolding withCopy
   copy-meets f =
       let t = entryOf m 0 .object in
@@ -54,7 +54,7 @@ module _ (s : System) (c : Coordinator) (me : ℕ) (m : List ℕ) (h : Meets s c
       (copied-opened (objectAt c t) (entryOf m 0) (h .objects .opened (placeOf c t) (p .0)) (f .answer .from-node))
 
   -- a yes of a participant
-  module _ (f : VoteFitting c me m) where
+  module _ (f : YesFitting c me m) where
     abbrev voting : c .phase ≡ votingPhase
     voting = f .answer .in-phase
 
@@ -115,7 +115,7 @@ module _ (s : System) (c : Coordinator) (me : ℕ) (m : List ℕ) (h : Meets s c
         })
 
   -- a done of an awaited node
-  module _ (f : Fitting c finishingPhase (awaited c) m) where
+  module _ (f : DoneFitting c me m) where
     not-idle : c .phase ≡ idlePhase → ⊥
     not-idle d = let e = f .in-phase in omega arith
 
@@ -137,7 +137,7 @@ module _ (s : System) (c : Coordinator) (me : ℕ) (m : List ℕ) (h : Meets s c
       (record {
         as-before = λ n. h;
         copied = copy-meets;
-        endings = endings-meet s c h;
+        endings = λ r. endings-meet s c h;
         last-yes = last-yes-meets;
         one-yes = one-yes-meets;
         last-done = λ f t. ended-meets s c h (not-idle f) (c .outcome) (h .numbers .outcome-known);

@@ -2,9 +2,9 @@
 use mathlib.Core.Path.{_≡_}
 use mathlib.Core.Bool.{true, cond, not, _&&_, _||_}
 use mathlib.Core.List.{List}
-use mathlib.Core.Logic.{_⊎_, inr}
+use mathlib.Core.Logic.{_⊎_, inl, inr}
 use Prim.Native.Nat.{ℕ, _<_}
-use lib.Dec.{T, eqb, T-not}
+use lib.Dec.{T, eqb, eqb→eq, ltb→lt, T-not}
 use lib.ListN.{set}
 use borrow.Author.Tests.{eqb-true, eqb-false, ltb-true, not-false}
 use Rattle.mask.specs.Mask.{contains, only, joined, within}
@@ -27,35 +27,40 @@ use Rattle.clauses.proofs.Parts.{on-cond, true-T, false-T}
 use Rattle.clauses.proofs.Cases.{step-keeps, either-of}
 use Rattle.clauses.proofs.Messages.{Taken, taken-of}
 
--- ---- an answer that fits
-pub record Fitting (c : Coordinator) (phase nodes : ℕ) (m : List ℕ) : Type 0 where
+-- ---- an answer that fits: a well-formed message of its kind to this node, in this phase, with the transaction's serial and timestamp, from one of these nodes
+pub record Fitting (c : Coordinator) (me kind phase nodes : ℕ) (m : List ℕ) : Type 0 where
+  pub taken : Taken me m
+  pub its-kind : kindOf m ≡ kind
   pub in-phase : c .phase ≡ phase
   pub its-serial : serialOf m ≡ c .serial
   pub its-stamp : stampOf m ≡ c .timestamp
   pub from-node : T (contains nodes (fromOf m))
 
-pub fitting : (c : Coordinator) (phase nodes : ℕ) (m : List ℕ) → answers c phase nodes m ≡ true → Fitting c phase nodes m
-fitting c phase nodes m e =
+fitting : (c : Coordinator) (me kind phase nodes : ℕ) (m : List ℕ) → Taken me m → kindOf m ≡ kind → answers c phase nodes m ≡ true
+    → Fitting c me kind phase nodes m
+fitting c me kind phase nodes m g k e =
     let t = true-T (answers c phase nodes m) e in
     let a = and-right (eqb (c .phase) phase) _ t in
     let b = and-right (eqb (serialOf m) (c .serial)) _ a in
     record {
-      in-phase = eqb-true (c .phase) phase (T-true (eqb (c .phase) phase) (and-left (eqb (c .phase) phase) _ t));
-      its-serial = eqb-true (serialOf m) (c .serial) (T-true _ (and-left (eqb (serialOf m) (c .serial)) _ a));
-      its-stamp = eqb-true (stampOf m) (c .timestamp) (T-true _ (and-left (eqb (stampOf m) (c .timestamp)) (contains nodes (fromOf m)) b));
+      taken = g;
+      its-kind = k;
+      in-phase = eqb→eq (c .phase) phase (and-left (eqb (c .phase) phase) _ t);
+      its-serial = eqb→eq (serialOf m) (c .serial) (and-left (eqb (serialOf m) (c .serial)) _ a);
+      its-stamp = eqb→eq (stampOf m) (c .timestamp) (and-left (eqb (stampOf m) (c .timestamp)) (contains nodes (fromOf m)) b);
       from-node = and-right (eqb (stampOf m) (c .timestamp)) (contains nodes (fromOf m)) b;
     }
 
--- a copy that fits: its object is open, in its mode, and not ready
-pub record CopyFitting (s : System) (c : Coordinator) (m : List ℕ) : Type 0 where
-  pub answer : Fitting c openPhase (c .contacted) m
+-- a copy: its object is open, in its mode, and not ready
+pub record CopyFitting (s : System) (c : Coordinator) (me : ℕ) (m : List ℕ) : Type 0 where
+  pub answer : Fitting c me copy openPhase (c .contacted) m
   pub is-open : placeOf c (entryOf m 0 .object) < eight
   pub its-mode : entryOf m 0 .mode ≡ objectAt c (entryOf m 0 .object) .mode
   pub not-ready : T (ready s (objectAt c (entryOf m 0 .object))) → ⊥
 
-pub copy-fitting : (s : System) (c : Coordinator) (m : List ℕ) → copyFits s c m ≡ true → CopyFitting s c m
+copy-fitting : (s : System) (c : Coordinator) (me : ℕ) (m : List ℕ) → Taken me m → kindOf m ≡ copy → copyFits s c m ≡ true → CopyFitting s c me m
 unfolding copyFits
-copy-fitting s c m e =
+copy-fitting s c me m g k e =
     let x = objectAt c (entryOf m 0 .object) in
     let f = answers c openPhase (c .contacted) m in
     let o = isOpen c (entryOf m 0 .object) in
@@ -64,15 +69,39 @@ copy-fitting s c m e =
     let a = and-right f (o && (d && not (ready s x))) t in
     let b = and-right o (d && not (ready s x)) a in
     record {
-      answer = fitting c openPhase (c .contacted) m (T-true f (and-left f (o && (d && not (ready s x))) t));
-      is-open = ltb-true (placeOf c (entryOf m 0 .object)) eight (T-true o (and-left o (d && not (ready s x)) a));
-      its-mode = eqb-true (entryOf m 0 .mode) (x .mode) (T-true d (and-left d (not (ready s x)) b));
+      answer = fitting c me copy openPhase (c .contacted) m g k (T-true f (and-left f (o && (d && not (ready s x))) t));
+      is-open = ltb→lt (placeOf c (entryOf m 0 .object)) eight (and-left o (d && not (ready s x)) a);
+      its-mode = eqb→eq (entryOf m 0 .mode) (x .mode) (and-left d (not (ready s x)) b);
       not-ready = T-not (ready s x) (and-right d (not (ready s x)) b);
     }
+
+-- a vote of a participant, yes or no
+pub record YesFitting (c : Coordinator) (me : ℕ) (m : List ℕ) : Type 0 where
+  pub answer : Fitting c me vote votingPhase (c .participants) m
+  pub says-yes : wordOf m ≡ 0 → ⊥
+
+pub record NoFitting (c : Coordinator) (me : ℕ) (m : List ℕ) : Type 0 where
+  pub answer : Fitting c me vote votingPhase (c .participants) m
+  pub says-no : wordOf m ≡ 0
+
+-- a done of an awaited node
+abbrev pub DoneFitting : Coordinator → ℕ → List ℕ → Type 0
+DoneFitting c me m = Fitting c me done finishingPhase (awaited c) m
 
 -- ---- a transaction that ends aborted
 abbrev pub OpenOrVoting : Coordinator → Type 0
 OpenOrVoting c = (c .phase ≡ openPhase) ⊎ (c .phase ≡ votingPhase)
+
+-- a yield that names it
+pub record YieldFitting (c : Coordinator) (me : ℕ) (m : List ℕ) : Type 0 where
+  pub taken : Taken me m
+  pub its-kind : kindOf m ≡ yield
+  pub in-phase : OpenOrVoting c
+  pub its-serial : rivalOf m 0 .serial ≡ c .serial
+
+-- why a delivery aborts: a participant's no, or a yield
+abbrev pub Aborts : Coordinator → ℕ → List ℕ → Type 0
+Aborts c me m = NoFitting c me m ⊎ YieldFitting c me m
 
 -- idle where nobody is awaited, else finishing
 pub record Endings (P : Coordinator → Type 0) (c : Coordinator) : Type 0 where
@@ -113,70 +142,70 @@ named c m = raiseFrom m (rivalCount m) 0 (c .rivals)
 abbrev pub saidDone : Coordinator → List ℕ → ℕ
 saidDone c m = joined (c .done) (only (fromOf m))
 
--- a vote that fits: a well-formed message to this node
-pub record VoteFitting (c : Coordinator) (me : ℕ) (m : List ℕ) : Type 0 where
-  pub taken : Taken me m
-  pub a-vote : kindOf m ≡ vote
-  pub answer : Fitting c votingPhase (c .participants) m
-
 -- what holds of each step that a delivery can be
 pub record Deliveries (P : Step → Type 0) (s : System) (c : Coordinator) (me : ℕ) (m : List ℕ) : Type 0 where
   pub as-before : (number : ℕ) → P (record { number = number; answer = nothing; coordinator = c })
-  pub copied : CopyFitting s c m → P (brought (cond (ready s (copiedObject c m)) becameReady nothing) (afterCopy c m))
-  pub endings : Endings (λ (d : Coordinator). P (brought aborted d)) c
-  pub last-yes : VoteFitting c me m → T (within (c .participants) (saidYes c m))
+  pub copied : CopyFitting s c me m → P (brought (cond (ready s (copiedObject c m)) becameReady nothing) (afterCopy c m))
+  pub endings : Aborts c me m → Endings (λ (d : Coordinator). P (brought aborted d)) c
+  pub last-yes : YesFitting c me m → T (within (c .participants) (saidYes c m))
       → P (brought committed (withPhase c finishingPhase committed (c .participants) (saidYes c m) (c .done) (named c m)))
-  pub one-yes : VoteFitting c me m → (T (within (c .participants) (saidYes c m)) → ⊥)
+  pub one-yes : YesFitting c me m → (T (within (c .participants) (saidYes c m)) → ⊥)
       → P (brought nothing (withPhase c votingPhase (c .outcome) (c .participants) (saidYes c m) (c .done) (named c m)))
-  pub last-done : Fitting c finishingPhase (awaited c) m → T (within (awaited c) (saidDone c m))
+  pub last-done : DoneFitting c me m → T (within (awaited c) (saidDone c m))
       → P (brought finished (idleAfter (c .serial) (c .timestamp) (c .outcome)))
-  pub one-done : Fitting c finishingPhase (awaited c) m → (T (within (awaited c) (saidDone c m)) → ⊥)
+  pub one-done : DoneFitting c me m → (T (within (awaited c) (saidDone c m)) → ⊥)
       → P (brought nothing (withPhase c (c .phase) (c .outcome) (c .participants) (c .yes) (saidDone c m) (c .rivals)))
 
 module _ (P : Step → Type 0) (s : System) (c : Coordinator) (me : ℕ) (m : List ℕ) (d : Deliveries P s c me m) where
   abbrev unfit : P (brought nothing c)
   unfit = d .as-before 0
 
-  abbrev over : OpenOrVoting c → P (brought aborted (endedAborted c))
-  over = ended (λ (x : Coordinator). P (brought aborted x)) c (d .endings)
+  over : Aborts c me m → OpenOrVoting c → P (brought aborted (endedAborted c))
+  over r = ended (λ (x : Coordinator). P (brought aborted x)) c (d .endings r)
 
-  copy-case : P (copyTaken s c m)
-  unfolding copyTaken
-  copy-case = on-cond P (copyFits s c m) _ _ (λ k. d .copied (copy-fitting s c m k)) (λ k. unfit)
+  module _ (g : Taken me m) where
+    copy-case : kindOf m ≡ copy → P (copyTaken s c m)
+    unfolding copyTaken
+    copy-case e = on-cond P (copyFits s c m) _ _ (λ k. d .copied (copy-fitting s c me m g e k)) (λ k. unfit)
 
-  vote-case : Taken me m → kindOf m ≡ vote → P (voteTaken c m)
-  unfolding voteTaken withYes
-  vote-case g e =
-      let b = within (c .participants) (saidYes c m) in
-      on-cond P (answers c votingPhase (c .participants) m) _ _
-      (λ k. let f : Fitting c votingPhase (c .participants) m = fitting c votingPhase (c .participants) m k in
-      let v : VoteFitting c me m = record { taken = g; a-vote = e; answer = f } in
-      on-cond P (eqb (wordOf m) 0) _ _ (λ z. over (inr (f .in-phase)))
-      (λ z. on-cond P b _ _ (λ y. d .last-yes v (true-T b y)) (λ y. d .one-yes v (false-T b y))))
-      (λ k. unfit)
+    vote-case : kindOf m ≡ vote → P (voteTaken c m)
+    unfolding voteTaken withYes
+    vote-case e =
+        let b = within (c .participants) (saidYes c m) in
+        on-cond P (answers c votingPhase (c .participants) m) _ _
+        (λ k. let f = fitting c me vote votingPhase (c .participants) m g e k in
+        on-cond P (eqb (wordOf m) 0) _ _ (λ z. over (inl (record { answer = f; says-no = eqb-true (wordOf m) 0 z })) (inr (f .in-phase)))
+        (λ z. let y : YesFitting c me m = record { answer = f; says-yes = eqb-false (wordOf m) 0 z } in
+        on-cond P b _ _ (λ t. d .last-yes y (true-T b t)) (λ t. d .one-yes y (false-T b t))))
+        (λ k. unfit)
 
-  done-case : P (doneTaken c m)
-  unfolding doneTaken withDone
-  done-case =
-      let b = within (awaited c) (saidDone c m) in
-      on-cond P (answers c finishingPhase (awaited c) m) _ _
-      (λ k. let f : Fitting c finishingPhase (awaited c) m = fitting c finishingPhase (awaited c) m k in
-      on-cond P b _ _ (λ y. d .last-done f (true-T b y)) (λ y. d .one-done f (false-T b y)))
-      (λ k. unfit)
+    done-case : kindOf m ≡ done → P (doneTaken c m)
+    unfolding doneTaken withDone
+    done-case e =
+        let b = within (awaited c) (saidDone c m) in
+        on-cond P (answers c finishingPhase (awaited c) m) _ _
+        (λ k. let f = fitting c me done finishingPhase (awaited c) m g e k in
+        on-cond P b _ _ (λ t. d .last-done f (true-T b t)) (λ t. d .one-done f (false-T b t)))
+        (λ k. unfit)
 
-  yield-case : P (yieldTaken c m)
-  unfolding yieldTaken
-  yield-case =
-      let a = eqb (c .phase) openPhase || eqb (c .phase) votingPhase in
-      let n = eqb (rivalOf m 0 .serial) (c .serial) in
-      on-cond P (a && n) _ _ (λ k. over (one-of c (T-true a (and-left a n (true-T (a && n) k))))) (λ k. unfit)
+    yield-case : kindOf m ≡ yield → P (yieldTaken c m)
+    unfolding yieldTaken
+    yield-case e =
+        let a = eqb (c .phase) openPhase || eqb (c .phase) votingPhase in
+        let n = eqb (rivalOf m 0 .serial) (c .serial) in
+        on-cond P (a && n) _ _
+        (λ k. let t = true-T (a && n) k in
+        let p = one-of c (T-true a (and-left a n t)) in
+        over (inr (record { taken = g; its-kind = e; in-phase = p; its-serial = eqb→eq (rivalOf m 0 .serial) (c .serial) (and-right a n t) })) p)
+        (λ k. unfit)
 
-  delivered-case : Taken me m → P (delivered s c m)
-  unfolding delivered
-  delivered-case g =
-      on-cond P (eqb (kindOf m) copy) _ _ (λ k. copy-case)
-      (λ k. on-cond P (eqb (kindOf m) vote) _ _ (λ k. vote-case g (eqb-true (kindOf m) vote k))
-      (λ k. on-cond P (eqb (kindOf m) done) _ _ (λ k. done-case) (λ k. on-cond P (eqb (kindOf m) yield) _ _ (λ k. yield-case) (λ k. unfit))))
+    delivered-case : P (delivered s c m)
+    unfolding delivered
+    delivered-case =
+        on-cond P (eqb (kindOf m) copy) _ _ (λ k. copy-case (eqb-true (kindOf m) copy k))
+        (λ k. on-cond P (eqb (kindOf m) vote) _ _ (λ k. vote-case (eqb-true (kindOf m) vote k))
+        (λ k. on-cond P (eqb (kindOf m) done) _ _ (λ k. done-case (eqb-true (kindOf m) done k))
+        (λ k. on-cond P (eqb (kindOf m) yield) _ _ (λ k. yield-case (eqb-true (kindOf m) yield k)) (λ k. unfit))))
 
   pub receive-cases : P (receiveOf s c me m)
   unfolding receiveOf receiveRefusals

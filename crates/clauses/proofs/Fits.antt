@@ -298,7 +298,7 @@ module _ (s : System) (c : Coordinator) (me : ℕ) (w : Widths c) where
         (record {
           as-before = λ n. w;
           copied = λ f. copy-widths;
-          endings = endings-widths;
+          endings = λ r. endings-widths;
           last-yes = λ f t. same-widths _ refl refl refl refl named-small;
           one-yes = λ f t. same-widths _ refl refl refl refl named-small;
           last-done = λ f t. idle-widths (c .outcome);

@@ -140,7 +140,7 @@ module _ (s : System) (q : Quorums s) (c : Coordinator) (me : ℕ) (m : Meets s 
   abort-shows = abort-cases OverOr c me (inr h) endings-show
 
   -- a copy that fits is of another object, since this one is ready
-  copy-shows : (b : List ℕ) → CopyFitting s c b → Meets s (afterCopy c b) → S (afterCopy c b)
+  copy-shows : (b : List ℕ) → CopyFitting s c me b → Meets s (afterCopy c b) → S (afterCopy c b)
   copy-shows b f =
       let u = entryOf b 0 .object in
       let r = place-open (c .objects) (c .count) u (f .is-open) in
@@ -153,7 +153,7 @@ module _ (s : System) (q : Quorums s) (c : Coordinator) (me : ℕ) (m : Meets s 
       (record {
         as-before = λ n z. inr h;
         copied = λ f z. inr (copy-shows b f z);
-        endings = record { gone = λ a e z. idle-over aborted; aborting = λ a e z. inr (same-shows _ refl refl) };
+        endings = λ r. record { gone = λ a e z. idle-over aborted; aborting = λ a e z. inr (same-shows _ refl refl) };
         last-yes = λ f e z. inr (same-shows _ refl refl);
         one-yes = λ f e z. inr (same-shows _ refl refl);
         last-done = λ f e z. idle-over (c .outcome);

@@ -33,7 +33,7 @@ use Rattle.clauses.proofs.Places.{at, at-blank, across-at, across-none}
 use Rattle.clauses.proofs.Facts.{Meets}
 use Rattle.clauses.proofs.Quorums.{Quorums}
 use Rattle.clauses.proofs.Cases.{step-keeps}
-use Rattle.clauses.proofs.Deliveries.{Fitting, VoteFitting, copiedObject, saidYes, saidDone, Endings, abort-cases, receive-cases}
+use Rattle.clauses.proofs.Deliveries.{DoneFitting, YesFitting, copiedObject, saidYes, saidDone, Endings, abort-cases, receive-cases}
 
 -- ---- the participants: a write quorum, node 0 in it, and every contacted node
 pub record Participants (c : Coordinator) : Type 0 where
@@ -48,7 +48,7 @@ participants-contain c m n =
 
 -- ---- a commit needs a yes from every participant, the message's sender the last of them
 pub record Commits (c : Coordinator) (me : ℕ) (m : List ℕ) : Type 0 where
-  pub a-yes : VoteFitting c me m
+  pub a-yes : YesFitting c me m
   pub everyone : T (within (c .participants) (saidYes c m))
 
 pub commit-needs-every-yes : (s : System) (c : Coordinator) (me : ℕ) (m : List ℕ) → receiveOf s c me m .answer ≡ committed → Commits c me m
@@ -58,7 +58,7 @@ commit-needs-every-yes s c me m =
       as-before = λ n e. absurd (omega arith);
       copied = λ f. on-cond (λ (a : ℕ). a ≡ committed → Commits c me m) (ready s (copiedObject c m)) becameReady nothing (λ k e. absurd (omega arith))
           (λ k e. absurd (omega arith));
-      endings = record { gone = λ a b e. absurd (omega arith); aborting = λ a b e. absurd (omega arith) };
+      endings = λ r. record { gone = λ a b e. absurd (omega arith); aborting = λ a b e. absurd (omega arith) };
       last-yes = λ f t e. record { a-yes = f; everyone = t };
       one-yes = λ f t e. absurd (omega arith);
       last-done = λ f t e. absurd (omega arith);
@@ -73,8 +73,8 @@ nobody-awaited c =
     (λ k e. (e, eqb-true (c .participants) 0 k)) (λ k e. absurd (eqb-false (c .participants) 0 k e))
 
 -- the done that was awaited last
-pub record LastDone (c : Coordinator) (m : List ℕ) : Type 0 where
-  pub a-done : Fitting c finishingPhase (awaited c) m
+pub record LastDone (c : Coordinator) (me : ℕ) (m : List ℕ) : Type 0 where
+  pub a-done : DoneFitting c me m
   pub everyone : T (within (awaited c) (saidDone c m))
 
 module _ (s : System) (c : Coordinator) (me : ℕ) (busy : c .phase ≡ idlePhase → ⊥) where
@@ -114,13 +114,13 @@ module _ (s : System) (c : Coordinator) (me : ℕ) (busy : c .phase ≡ idlePhas
       abort-cases (λ (d : Coordinator). d .phase ≡ idlePhase → awaited c ≡ 0) c me (λ e. absurd (busy e))
       (record { gone = λ a b e. b; aborting = λ a b e. absurd (omega arith) })
 
-  pub receive-over : (m : List ℕ) → receiveOf s c me m .coordinator .phase ≡ idlePhase → LastDone c m ⊎ (awaited c ≡ 0)
+  pub receive-over : (m : List ℕ) → receiveOf s c me m .coordinator .phase ≡ idlePhase → LastDone c me m ⊎ (awaited c ≡ 0)
   receive-over m =
-      receive-cases (λ (x : Step). x .coordinator .phase ≡ idlePhase → LastDone c m ⊎ (awaited c ≡ 0)) s c me m
+      receive-cases (λ (x : Step). x .coordinator .phase ≡ idlePhase → LastDone c me m ⊎ (awaited c ≡ 0)) s c me m
       (record {
         as-before = λ n e. absurd (busy e);
         copied = λ f e. absurd (busy e);
-        endings = record { gone = λ a b e. inr b; aborting = λ a b e. absurd (omega arith) };
+        endings = λ r. record { gone = λ a b e. inr b; aborting = λ a b e. absurd (omega arith) };
         last-yes = λ f t e. absurd (omega arith);
         one-yes = λ f t e. absurd (omega arith);
         last-done = λ f t e. inl (record { a-done = f; everyone = t });
@@ -169,7 +169,7 @@ module _ (s : System) (c : Coordinator) (me : ℕ) where
       (record {
         as-before = λ n. refl;
         copied = λ f. refl;
-        endings = endings-serial;
+        endings = λ r. endings-serial;
         last-yes = λ f t. refl;
         one-yes = λ f t. refl;
         last-done = λ f t. idle-serial (c .outcome);

@@ -19,7 +19,7 @@ use Rattle.coordinator.specs.Calls.{reselectOf, requestCommitRefusals, requeste
 use Rattle.coordinator.specs.Receive.{raise, raiseFrom, receiveOf}
 use Rattle.clauses.proofs.Cases.{step-keeps}
 use Rattle.clauses.proofs.Messages.{rival-other}
-use Rattle.clauses.proofs.Deliveries.{VoteFitting, named, Endings, abort-cases, receive-cases}
+use Rattle.clauses.proofs.Deliveries.{YesFitting, named, Endings, abort-cases, receive-cases}
 
 -- node me is not named among the rivals
 abbrev pub OwnFree : ℕ → Coordinator → Type 0
@@ -81,13 +81,13 @@ module _ (s : System) (me : ℕ) (c : Coordinator) (p : OwnFree me c) where
   receive-own m = receive-cases (λ (x : Step). OwnFree me (x .coordinator)) s c me m (record {
     as-before = λ n. p;
     copied = λ f. p;
-    endings = endings-own;
+    endings = λ r. endings-own;
     last-yes = λ f t. named-other f;
     one-yes = λ f t. named-other f;
     last-done = λ f t. idle-free me (c .serial) (c .timestamp) (c .outcome);
     one-done = λ f t. p;
   })
     where
-      named-other : VoteFitting c me m → getD (named c m) me 0 ≡ 0
+      named-other : YesFitting c me m → getD (named c m) me 0 ≡ 0
       named-other f =
-          raised-other me m (rivalCount m) 0 (c .rivals) (λ j a b. rival-other me m (f .taken) (f .a-vote) j (omega arith)) ∙ p
+          raised-other me m (rivalCount m) 0 (c .rivals) (λ j a b. rival-other me m (f .answer .taken) (f .answer .its-kind) j (omega arith)) ∙ p
