@@ -6,7 +6,7 @@ use mathlib.Core.Logic.{_⊎_, inl, inr}
 use Prim.Native.Nat.{ℕ, _<_}
 use lib.Dec.{T, eqb, eqb→eq, ltb→lt, T-not}
 use lib.ListN.{set}
-use borrow.Author.Tests.{eqb-true, eqb-false, ltb-true, not-false}
+use borrow.Author.Tests.{eqb-true, eqb-false, not-false}
 use Rattle.mask.specs.Mask.{contains, only, joined, within}
 use Rattle.mask.proofs.Tests.{and-left, and-right, T-true}
 use Rattle.numbers.specs.Refusal.{firstOf}
@@ -27,7 +27,7 @@ use Rattle.clauses.proofs.Parts.{on-cond, true-T, false-T}
 use Rattle.clauses.proofs.Cases.{step-keeps, either-of}
 use Rattle.clauses.proofs.Messages.{Taken, taken-of}
 
--- ---- an answer that fits: a well-formed message of its kind to this node, in this phase, with the transaction's serial and timestamp, from one of these nodes
+-- ---- an answer that fits: a well-formed message of its kind to this node, in this phase, with the serial and timestamp, from one of these nodes
 pub record Fitting (c : Coordinator) (me kind phase nodes : ℕ) (m : List ℕ) : Type 0 where
   pub taken : Taken me m
   pub its-kind : kindOf m ≡ kind

@@ -19,7 +19,7 @@ use Rattle.coordinator.specs.declared.Coordinator.{Coordinator}
 use Rattle.coordinator.specs.declared.BeginWith.{BeginWith}
 use Rattle.coordinator.specs.declared.Step.{Step}
 use Rattle.coordinator.specs.System.{System}
-use Rattle.coordinator.specs.State.{eight, thirteen, highest, everyNode, finishingPhase, aborted, noObject, idleAfter, objectAt, placeOf, awaited}
+use Rattle.coordinator.specs.State.{eight, thirteen, highest, everyNode, finishingPhase, aborted, noObject, idleAfter, blankRecord, objectAt, placeOf, awaited}
 use Rattle.coordinator.specs.Calls.{fresh, renewed, beginRefusals, begun, beginOf, openRefusals, opened, openOf, setRefusals, withNew, setOf}
 use Rattle.coordinator.specs.Calls.{reselectRefusals, reselected, reselectOf, requestCommitRefusals, requested, requestCommitOf, abortOf}
 use Rattle.coordinator.specs.Receive.{better, withCopy, raise, raiseFrom, receiveOf}
@@ -30,7 +30,7 @@ use Rattle.clauses.proofs.Facts.{Meets}
 use Rattle.clauses.proofs.Quorums.{Quorums}
 use Rattle.clauses.proofs.Cases.{step-keeps}
 use Rattle.clauses.proofs.Deliveries.{copiedObject, afterCopy, named, Endings, abort-cases, receive-cases}
-use Rattle.clauses.proofs.Keep.{awaited-known, begin-keeps, open-keeps, set-keeps, reselect-keeps, request-keeps, abort-keeps}
+use Rattle.clauses.proofs.Keep.{blank-meets, awaited-known, begin-keeps, open-keeps, set-keeps, reselect-keeps, request-keeps, abort-keeps}
 use Rattle.clauses.proofs.Deliver.{receive-keeps}
 
 -- ---- the facts
@@ -149,18 +149,25 @@ none-valued = record { version-32 = lit< tt; value-64 = lit< tt; new-64 = lit< t
 blank-valued : (i : ℕ) → Valued (at (replicate eight noObject) i)
 blank-valued i = subst Valued (sym (at-blank eight i)) none-valued
 
+-- ---- an idle record, and the blank one
+idle-widths : (serial timestamp outcome : ℕ) → serial < 2 ^ 32 → timestamp < 2 ^ 32 → Widths (idleAfter serial timestamp outcome)
+unfolding idleAfter
+idle-widths serial timestamp outcome a b =
+    record {
+      serial-32 = a;
+      timestamp-32 = b;
+      distances-16 = λ i. all-zero (2 ^ 16) thirteen i (lit< tt);
+      objects-fit = blank-valued;
+      rivals-32 = λ i. all-zero (2 ^ 32) thirteen i (lit< tt);
+    }
+
+pub blank-fits : (s : System) → Fits blankRecord
+blank-fits s = widths-fit s blankRecord (blank-meets s) (idle-widths 0 0 0 (lit< tt) (lit< tt))
+
 -- ---- the calls keep what no clause bounds
 module _ (s : System) (c : Coordinator) (me : ℕ) (w : Widths c) where
-  idle-widths : (outcome : ℕ) → Widths (idleAfter (c .serial) (c .timestamp) outcome)
-  unfolding idleAfter
-  idle-widths outcome =
-      record {
-        serial-32 = w .serial-32;
-        timestamp-32 = w .timestamp-32;
-        distances-16 = λ i. all-zero (2 ^ 16) thirteen i (lit< tt);
-        objects-fit = blank-valued;
-        rivals-32 = λ i. all-zero (2 ^ 32) thirteen i (lit< tt);
-      }
+  over-widths : (outcome : ℕ) → Widths (idleAfter (c .serial) (c .timestamp) outcome)
+  over-widths outcome = idle-widths (c .serial) (c .timestamp) outcome (w .serial-32) (w .timestamp-32)
 
   begin-widths : (b : BeginWith) → b .timestamp < 2 ^ 32 → AllBelow (2 ^ 16) (b .distances) → Widths (beginOf s c me b .coordinator)
   unfolding beginOf beginRefusals begun
@@ -236,7 +243,7 @@ module _ (s : System) (c : Coordinator) (me : ℕ) (w : Widths c) where
       (λ k. same-widths (requested c all) refl refl refl refl (w .rivals-32))
 
   endings-widths : Endings Widths c
-  endings-widths = record { gone = λ a e. idle-widths aborted; aborting = λ a e. same-widths _ refl refl refl refl (w .rivals-32) }
+  endings-widths = record { gone = λ a e. over-widths aborted; aborting = λ a e. same-widths _ refl refl refl refl (w .rivals-32) }
 
   abort-widths : Widths (abortOf c me .coordinator)
   abort-widths = abort-cases Widths c me w endings-widths
@@ -301,7 +308,7 @@ module _ (s : System) (c : Coordinator) (me : ℕ) (w : Widths c) where
           endings = λ r. endings-widths;
           last-yes = λ f t. same-widths _ refl refl refl refl named-small;
           one-yes = λ f t. same-widths _ refl refl refl refl named-small;
-          last-done = λ f t. idle-widths (c .outcome);
+          last-done = λ f t. over-widths (c .outcome);
           one-done = λ f t. same-widths _ refl refl refl refl (w .rivals-32);
         })
 

@@ -9,7 +9,7 @@ use native.Mathlib.Omega.{arith}
 use lib.Dec.{T, eqb, ltb, eqb→eq, lt→ltb, T-not, not-T}
 use lib.ListN.{length, replicate}
 use lib.Seq.{ext-getD}
-use borrow.Author.Tests.{eqb-true, eqb-false}
+use borrow.Author.Tests.{eqb-true, eqb-false, eq-eqb, ne-eqb, lt-ltb}
 use Rattle.mask.specs.Mask.{contains, joined, within}
 use Rattle.mask.proofs.Tests.{and-both, and-left, and-right, or-cases, T-true}
 use Rattle.quorum.specs.declared.Kind.the-variants.{Write}
@@ -17,23 +17,25 @@ use Rattle.quorum.specs.Tree.{root}
 use Rattle.quorum.specs.Quorum.{isQuorum}
 use Rattle.quorum.specs.Nearest.{maskOf}
 use Rattle.quorum.proofs.Theorems.{root-in-write}
+use Rattle.wire.specs.Decode.{fromOf, toOf, serialOf, stampOf}
+use Rattle.wire.specs.Items.{wordOf}
 use Rattle.coordinator.specs.declared.Object.{Object}
 use Rattle.coordinator.specs.declared.Coordinator.{Coordinator}
 use Rattle.coordinator.specs.declared.BeginWith.{BeginWith}
 use Rattle.coordinator.specs.declared.Step.{Step}
 use Rattle.coordinator.specs.System.{System, tree}
-use Rattle.coordinator.specs.State.{eight, idlePhase, finishingPhase, committed, aborted, becameReady, nothing, noObject}
+use Rattle.coordinator.specs.State.{eight, thirteen, idlePhase, votingPhase, committed, aborted, becameReady, nothing, noObject}
 use Rattle.coordinator.specs.State.{highest, idleAfter, ready, settled, allSettled, anyUsedUp, awaited}
 use Rattle.coordinator.specs.Calls.{beginRefusals, begun, beginOf, openRefusals, opened, openOf, setRefusals, withNew, setOf}
 use Rattle.coordinator.specs.Calls.{reselectRefusals, reselected, reselectOf, requestCommitRefusals, requested, requestCommitOf, abortOf}
-use Rattle.coordinator.specs.Receive.{receiveOf}
+use Rattle.coordinator.specs.Receive.{withYes, voteTaken, delivered, receiveRefusals, receiveOf}
 use Rattle.clauses.proofs.Parts.{eq-T, true-T, false-T, on-cond}
 use Rattle.clauses.proofs.Sets.{within-none}
 use Rattle.clauses.proofs.Places.{at, at-blank, across-at, across-none}
 use Rattle.clauses.proofs.Facts.{Meets}
 use Rattle.clauses.proofs.Quorums.{Quorums}
 use Rattle.clauses.proofs.Cases.{step-keeps}
-use Rattle.clauses.proofs.Deliveries.{DoneFitting, YesFitting, copiedObject, saidYes, saidDone, Endings, abort-cases, receive-cases}
+use Rattle.clauses.proofs.Deliveries.{DoneFitting, YesFitting, Aborts, copiedObject, saidYes, saidDone, Endings, abort-cases, receive-cases}
 
 -- ---- the participants: a write quorum, node 0 in it, and every contacted node
 pub record Participants (c : Coordinator) : Type 0 where
@@ -60,6 +62,39 @@ commit-needs-every-yes s c me m =
           (λ k e. absurd (omega arith));
       endings = λ r. record { gone = λ a b e. absurd (omega arith); aborting = λ a b e. absurd (omega arith) };
       last-yes = λ f t e. record { a-yes = f; everyone = t };
+      one-yes = λ f t e. absurd (omega arith);
+      last-done = λ f t e. absurd (omega arith);
+      one-done = λ f t e. absurd (omega arith);
+    })
+
+-- and that is enough
+pub every-yes-commits : (s : System) (c : Coordinator) (me : ℕ) (m : List ℕ) → Commits c me m → receiveOf s c me m .answer ≡ committed
+unfolding receiveOf receiveRefusals delivered voteTaken withYes
+every-yes-commits s c me m h =
+    let f = h .a-yes .answer in
+    simp (
+      f .taken .checked,
+      lt-ltb me thirteen (f .taken .a-node),
+      eq-eqb (toOf m) me (f .taken .to-me),
+      f .its-kind,
+      eq-eqb (c .phase) votingPhase (f .in-phase),
+      eq-eqb (serialOf m) (c .serial) (f .its-serial),
+      eq-eqb (stampOf m) (c .timestamp) (f .its-stamp),
+      T-true (contains (c .participants) (fromOf m)) (f .from-node),
+      ne-eqb (wordOf m) 0 (h .a-yes .says-yes),
+      T-true (within (c .participants) (saidYes c m)) (h .everyone),
+    )
+
+-- a delivery aborts only by a participant's no, or a yield that names the transaction
+pub abort-needs-cause : (s : System) (c : Coordinator) (me : ℕ) (m : List ℕ) → receiveOf s c me m .answer ≡ aborted → Aborts c me m
+abort-needs-cause s c me m =
+    receive-cases (λ (x : Step). x .answer ≡ aborted → Aborts c me m) s c me m
+    (record {
+      as-before = λ n e. absurd (omega arith);
+      copied = λ f. on-cond (λ (a : ℕ). a ≡ aborted → Aborts c me m) (ready s (copiedObject c m)) becameReady nothing (λ k e. absurd (omega arith))
+          (λ k e. absurd (omega arith));
+      endings = λ r. record { gone = λ a b e. r; aborting = λ a b e. r };
+      last-yes = λ f t e. absurd (omega arith);
       one-yes = λ f t e. absurd (omega arith);
       last-done = λ f t e. absurd (omega arith);
       one-done = λ f t e. absurd (omega arith);

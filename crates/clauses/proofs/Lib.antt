@@ -1,5 +1,6 @@
 -- What the proofs of the functions share, and the laws of the clauses: as facts (Facts), kept by every call (Keep) and delivery (Deliver); the
--- widths (Fits) and the own place among the rivals (Own), kept too. Cases and Deliveries take a call apart; the rest are small laws that they use.
+-- widths (Fits) and the own place among the rivals (Own), kept too; what was found stays (Found); what else the clauses and the calls imply (Laws).
+-- Cases and Deliveries take a call apart by its cases. Samples has computed records. The rest are small laws that these use.
 pub mod Parts
 pub mod Zeros
 pub mod Sets
@@ -15,3 +16,4 @@ pub mod Own
 pub mod Fits
 pub mod Found
 pub mod Laws
+pub mod Samples

@@ -13,7 +13,7 @@ use Rattle.coordinator.specs.declared.Coordinator.{Coordinator}
 use Rattle.coordinator.specs.declared.BeginWith.{BeginWith}
 use Rattle.coordinator.specs.declared.Step.{Step}
 use Rattle.coordinator.specs.System.{System}
-use Rattle.coordinator.specs.State.{thirteen, aborted, idleAfter}
+use Rattle.coordinator.specs.State.{thirteen, aborted, idleAfter, blankRecord}
 use Rattle.coordinator.specs.Calls.{beginRefusals, begun, beginOf, openRefusals, opened, openOf, setRefusals, withNew, setOf, reselectRefusals, reselected}
 use Rattle.coordinator.specs.Calls.{reselectOf, requestCommitRefusals, requested, requestCommitOf, abortOf}
 use Rattle.coordinator.specs.Receive.{raise, raiseFrom, receiveOf}
@@ -33,6 +33,9 @@ none-named (suc n) (suc i) = none-named n i
 idle-free : (me serial timestamp outcome : ℕ) → OwnFree me (idleAfter serial timestamp outcome)
 unfolding idleAfter
 idle-free me serial timestamp outcome = none-named thirteen me
+
+pub blank-own : (me : ℕ) → OwnFree me blankRecord
+blank-own me = idle-free me 0 0 0
 
 -- the rivals of a message that names others
 raised-other : (me : ℕ) (m : List ℕ) (n i : ℕ) (rivals : List ℕ) → ((j : ℕ) → i ≤ j → j < i + n → rivalOf m j .owner ≡ me → ⊥)
