@@ -6,6 +6,7 @@ mod duties;
 mod objects;
 
 pub use calls::abort;
+pub use calls::awaited_by;
 pub use calls::begin;
 pub use calls::blank;
 pub use calls::found;
@@ -16,6 +17,9 @@ pub use calls::reselect;
 pub use calls::set_value;
 pub use delivery::receive;
 pub use duties::due;
+pub use objects::all_settled;
+pub use objects::any_used_up;
+pub use objects::place;
 
 // How many objects a transaction may open, and how many nodes there are.
 pub const OBJECTS: usize = 8;
