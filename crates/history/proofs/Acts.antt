@@ -257,11 +257,14 @@ module _ (st : Station) (σ : State ℕ) (log : List Tx) (sim : Sim st σ log) (
       sim-after = sim-sent (withImage st n (fetchImage l m)) (Z .state') log joined-sim n t;
       grows = grows-then (Z .grown) (step-grows {R = rules} (copy n t));
       history-same = Z .same-history;
-      told = (refl, inl (λ i. record {
-        object = t;
-        version = sym (version-read i₁ (Z .state') log (Z .sim') t ∙ entered-same .versions t) i;
-        value = sym (value-read i₁ (Z .state') log (Z .sim') t ∙ entered-same .values t) i;
-      }));
+      told = (
+        refl,
+        inl (λ i. record {
+          object = t;
+          version = sym (version-read i₁ (Z .state') log (Z .sim') t ∙ entered-same .versions t) i;
+          value = sym (value-read i₁ (Z .state') log (Z .sim') t ∙ entered-same .values t) i;
+        }),
+      );
     }
 
     -- ---- a vote no
@@ -398,8 +401,11 @@ module _ (st : Station) (σ : State ℕ) (log : List Tx) (sim : Sim st σ log) (
             (voted-owner _ at-node 2 (yes-owner l m (k .sound) (k .owner) (k .serial) (k .stamp) (k .fits) a v)) holds-now (holds-still _ at-node));
         grows = grows-then (Z .grown) (step-grows (voteYes n x can-yes));
         history-same = Z .same-history;
-        told = (refl, put2-here ℕ-discrete Tx-discrete (τ .votes .yes) n x true,
-            λ e i. first-yes rules τ n x can-yes (Z .sim' .kept .inv) (ap (λ (g : ℕ). τ .votes .yes g x) e ∙ Z .sim' .kept .log .l-voted x i));
+        told = (
+          refl,
+          put2-here ℕ-discrete Tx-discrete (τ .votes .yes) n x true,
+          λ e i. first-yes rules τ n x can-yes (Z .sim' .kept .inv) (ap (λ (g : ℕ). τ .votes .yes g x) e ∙ Z .sim' .kept .log .l-voted x i),
+        );
       }
 
   -- ---- a vote again: what was voted stays so

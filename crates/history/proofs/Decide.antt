@@ -100,8 +100,10 @@ module _ (st : Station) (σ : State ℕ) (l : List Tx) (sim : Sim st σ l) (n : 
     sim-asked = by-one st (withIt (requested c party) (st .pool)) l sim (ask x asked-for can-ask)
         (reads-still st σ (σ₁ .history) (σ₁ .chain) (sim .reads)) (λ i t. refl)
         (owners-after st σ σ₁ l sim n (requested c party) (ask x asked-for can-ask)
-        (λ y e. (put-else (σ .history .phase) x voting y (λ f. e (ap (λ (u : Tx). u .owner) f)),
-        put-else (σ .history .contents) x asked-for y (λ f. e (ap (λ (u : Tx). u .owner) f)))) owner-asked)
+        (λ y e. (
+          put-else (σ .history .phase) x voting y (λ f. e (ap (λ (u : Tx). u .owner) f)),
+          put-else (σ .history .contents) x asked-for y (λ f. e (ap (λ (u : Tx). u .owner) f)),
+        )) owner-asked)
         (λ b i. inl i)
 
   -- ---- an abort, while open or voting; with nobody awaited the record is idle at once

@@ -107,10 +107,11 @@ freed-from l k w small h = record { its = λ t. both t .0; other = λ t. both t 
         ((λ e. f ∙ z .0 e), (λ e. f ∙ z .1 e))
 
     above : (t : ℕ) → 64 ≤ t → (holderOf l t ≡ some w → holderOf k t ≡ none) × ((holderOf l t ≡ some w → ⊥) → holderOf k t ≡ holderOf l t)
-    above t p = let e = le-ltb t 64 p in
-        ((λ q. ap (λ (b : Bool). cond b (cond (eqb (holder k t) 255) none (some (holder k t))) none) e),
-        (λ q. ap (λ (b : Bool). cond b (cond (eqb (holder k t) 255) none (some (holder k t))) none) e
-        ∙ sym (ap (λ (b : Bool). cond b (cond (eqb (holder l t) 255) none (some (holder l t))) none) e)))
+    above t p = let e = le-ltb t 64 p in (
+      (λ q. ap (λ (b : Bool). cond b (cond (eqb (holder k t) 255) none (some (holder k t))) none) e),
+      (λ q. ap (λ (b : Bool). cond b (cond (eqb (holder k t) 255) none (some (holder k t))) none) e
+          ∙ sym (ap (λ (b : Bool). cond b (cond (eqb (holder l t) 255) none (some (holder l t))) none) e)),
+    )
 
     both : (t : ℕ) → (holderOf l t ≡ some w → holderOf k t ≡ none) × ((holderOf l t ≡ some w → ⊥) → holderOf k t ≡ holderOf l t)
     both t = on (lt-or-le t 64) (below t) (above t)
