@@ -130,3 +130,17 @@ none-newer l (e ∷ es) n =
 pub version-rises : (l : List ℕ) (m : Message) → newerHere l m ≡ false → All (λ (e : Entry). version l (e .object) < e .version + 1) (m .entries)
 unfolding newerHere
 version-rises l m n = none-newer l (m .entries) n
+
+-- so such a commit of a held transaction raises the version of each object that it writes
+all-both : (P Q : Entry → Type 0) (es : List Entry) → All P es → All Q es → All (λ (e : Entry). P e × Q e) es
+all-both P Q [] a b = tt
+all-both P Q (e ∷ es) a b = ((a .0, b .0), all-both P Q es (a .1) (b .1))
+
+pub commit-above : (l : List ℕ) (m : Message) → Taken l m → m .kind ≡ 5 → standing l m ≡ 2 → wordOf m ≡ 1 → newerHere l m ≡ false
+    → All (λ (e : Entry). (e .mode ≡ 0 → ⊥) → version l (e .object) < version (outcomeImage l m) (e .object)) (m .entries)
+commit-above l m k kind held word n =
+    let after = outcomeImage l m in
+    all-then (λ e p ne. omega (arith, p .0, p .1 ne .1)) (m .entries)
+    (all-both (λ e. version l (e .object) < e .version + 1)
+    (λ e. (e .mode ≡ 0 → ⊥) → (value after (e .object) ≡ e .value) × (version after (e .object) ≡ e .version + 1))
+    (m .entries) (version-rises l m n) (commit-writes l m k kind held word))

@@ -14,9 +14,11 @@ use Rattle.image.specs.declared.Copy.{Copy}
 use Rattle.image.specs.declared.Field.{Field}
 use Rattle.image.specs.declared.Owner.{Owner}
 use Rattle.image.specs.Field.{fieldOf, withField, changed}
-use Rattle.image.specs.Layout.{shape, owners, imageSize, valueField, versionField, holderField, readersField, writersField, serialField, stateField, stampField}
+use Rattle.image.specs.Layout.{shape, owners, imageSize, valueField, versionField, holderField, readersField, writersField}
+use Rattle.image.specs.Layout.{serialField, stateField, stampField}
 use Rattle.image.specs.Layout.{value, version, holder, readers, writers, serial, state, stamp, copyOf, ownerOf}
-use Rattle.image.specs.Change.{withValue, withVersion, withHolder, withSerial, withState, withOwner, listing, addReader, addWriter, freeing, leaving, free, unlist}
+use Rattle.image.specs.Change.{withValue, withVersion, withHolder, withSerial, withState, withOwner}
+use Rattle.image.specs.Change.{listing, addReader, addWriter, freeing, leaving, free, unlist}
 use Rattle.image.proofs.Made.{made-copy, made-owner}
 use Rattle.image.proofs.Lens.{apart, inside, Holds, length-with, of-with, of-with-other, of-with-apart}
 use Rattle.image.proofs.Sound.{Sound}
@@ -332,7 +334,8 @@ module _ (l : List ℕ) (p : ℕ) where
 
   pub joins-owner : (o : ℕ) (e : Entry) → ownerOf (joins l o e) p ≡ ownerOf l p
   unfolding ownerOf
-  joins-owner o e = made-owner (joins-field (serialField shape) tt tt o e) (joins-field (stateField shape) tt tt o e) (joins-field (stampField shape) tt tt o e)
+  joins-owner o e =
+      made-owner (joins-field (serialField shape) tt tt o e) (joins-field (stateField shape) tt tt o e) (joins-field (stampField shape) tt tt o e)
 
 pub released-owner : (l : List ℕ) → imageSize shape ≤ length l → (p : ℕ) → p < owners → (o : ℕ)
     → ownerOf (released l o) p ≡ cond (eqb p o) (restated 0 (ownerOf l p)) (ownerOf l p)

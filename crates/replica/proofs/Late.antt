@@ -52,7 +52,8 @@ module _ (f : Field) (a : Apart f) (t : ℕ) where
     same-entered : fieldOf f (entered l m) t ≡ fieldOf f l t
     unfolding entered
     same-entered =
-        either-way (λ (n : List ℕ). fieldOf f n t ≡ fieldOf f l t) (eqb (standing l m) 4) _ _ (owner-apart f t (a .3) (a .4) (a .5) l (m .owner) (m .serial) 1 (m .stamp)) refl
+        either-way (λ (n : List ℕ). fieldOf f n t ≡ fieldOf f l t) (eqb (standing l m) 4) _ _
+        (owner-apart f t (a .3) (a .4) (a .5) l (m .owner) (m .serial) 1 (m .stamp)) refl
 
     pub same-fetch : fieldOf f (fetchImage l m) t ≡ fieldOf f l t
     unfolding fetchImage
@@ -71,7 +72,8 @@ module _ (f : Field) (a : Apart f) (t : ℕ) where
         let n = entered l m in
         let o = m .owner in
         either-way P (active l m) _ _
-        (either-way P (votesNo n m) _ _ (same-leaves n o 3 ∙ same-entered) (holding-apart f t (a .0) (leaves n o 2) o (m .entries) ∙ same-leaves n o 2 ∙ same-entered))
+        (either-way P (votesNo n m) _ _ (same-leaves n o 3 ∙ same-entered)
+        (holding-apart f t (a .0) (leaves n o 2) o (m .entries) ∙ same-leaves n o 2 ∙ same-entered))
         refl
 
     -- an abort

@@ -35,7 +35,8 @@ use Rattle.replica.proofs.Delivered.{entries-of, delivered-is}
 use Rattle.replica.proofs.Fields.{restated, ownerWith}
 use Rattle.replica.proofs.Kept.{keeps-entered, keeps-step}
 use Rattle.replica.proofs.Late.{late-outcome}
-use Rattle.replica.proofs.After.{listedOwner, here-last, fetch-owner, no-owner, yes-owner, outcome-owner, early-owner, step-fetch, step-ask, step-outcome}
+use Rattle.replica.proofs.After.{listedOwner, here-last, step-fetch, step-ask, step-outcome}
+use Rattle.replica.proofs.After.{fetch-owner, no-owner, yes-owner, outcome-owner, early-owner}
 use Rattle.replica.proofs.Taken.{Taken, taken, by-kind, fetch-still, ask-still, outcome-cases}
 
 -- ---- an owner that joins a list twice
