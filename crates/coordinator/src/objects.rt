@@ -36,16 +36,16 @@ fn place_in(objects: [Object; OBJECTS], count: usize, object: u8) -> usize
     at
 }
 
-// The same in a record.
-pub(crate) fn place(c: Coordinator, object: u8) -> usize
+// The same in a record. Ruled out: the place of another object; a place past the count.
+pub fn place(c: Coordinator, object: u8) -> usize
     ensures { λ r. ⌜ r ≡ placeOf c object ⌝ }
 {
     let objects = c.objects;
     place_in(objects, c.count, object)
 }
 
-// Whether copies have come from a read quorum.
-pub(crate) fn is_ready(x: Object) -> bool
+// Whether copies have come from a read quorum. Ruled out: ready after the first copy; ready only when every node's copy came.
+pub fn is_ready(x: Object) -> bool
     ensures { λ r. ⌜ r ≡ ready tree x ⌝ }
 {
     quorum::is_quorum(Kind::Read, x.came)
@@ -93,8 +93,8 @@ pub(crate) fn any_used_up(objects: [Object; OBJECTS], count: usize) -> bool
     found
 }
 
-// The object that stands at a place; a blank one past the end.
-fn at_index(objects: [Object; OBJECTS], p: usize) -> Object
+// The object that stands at a place; a blank one past the end. Ruled out: the place after it; the last object for a place past the end.
+pub fn at_index(objects: [Object; OBJECTS], p: usize) -> Object
     ensures { λ r. ⌜ r ≡ getD objects p noObject ⌝ }
 {
     if p < OBJECTS {
@@ -112,8 +112,8 @@ fn at_index(objects: [Object; OBJECTS], p: usize) -> Object
     }
 }
 
-// An opened object of a record.
-pub(crate) fn at_place(c: Coordinator, object: u8) -> Object
+// An opened object of a record. Ruled out: the object at the place that the number itself names; another than a blank one for one that is not open.
+pub fn at_place(c: Coordinator, object: u8) -> Object
     ensures { λ r. ⌜ r ≡ objectAt c object ⌝ }
 {
     let objects = c.objects;
