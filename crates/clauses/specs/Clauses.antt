@@ -57,22 +57,29 @@ numbersMeet c =
     && cond (eqb (c .serial) 0) (eqb (c .timestamp) 0 && (eqb (c .phase) idlePhase && eqb (c .outcome) 0)) (not (eqb (c .timestamp) 0)))
 
 -- ---- the nodes: live ones, and while not idle a present read quorum; nobody is contacted before an object is open, then at least that quorum
+-- what an idle record has of them
+unfoldable pub noNodes : Coordinator → Bool
+noNodes c = eqb (c .live) 0 && (eqb (c .quorum) 0 && (zeros (c .distances) && eqb (c .count) 0))
+
 unfoldable pub nodesMeet : System → Coordinator → Bool
 nodesMeet s c =
     leb (c .live) everyNode
     && (leb (c .quorum) everyNode
     && (leb (c .contacted) everyNode
-    && (cond (eqb (c .phase) idlePhase) (eqb (c .live) 0 && (eqb (c .quorum) 0 && (zeros (c .distances) && eqb (c .count) 0))) (s .isRead (c .quorum))
+    && (cond (eqb (c .phase) idlePhase) (noNodes c) (s .isRead (c .quorum))
     && cond (eqb (c .count) 0) (eqb (c .contacted) 0) (within (c .quorum) (c .contacted)))))
 
 -- ---- the participants: nobody until votes are asked for; then a write quorum with every contacted node, and every object settled
+unfoldable pub partyFull : System → Coordinator → Bool
+partyFull s c =
+    s .isWrite (c .participants)
+    && (within (c .contacted) (c .participants)
+    && (not (eqb (c .count) 0) && (allSettled s (c .objects) (c .count) && not (anyUsedUp (c .objects) (c .count)))))
+
 unfoldable pub partyMeets : System → Coordinator → Bool
 partyMeets s c =
     leb (c .participants) everyNode
-    && (cond (eqb (c .participants) 0) (zeros (c .rivals))
-    (s .isWrite (c .participants)
-    && (within (c .contacted) (c .participants)
-    && (not (eqb (c .count) 0) && (allSettled s (c .objects) (c .count) && not (anyUsedUp (c .objects) (c .count))))))
+    && (cond (eqb (c .participants) 0) (zeros (c .rivals)) (partyFull s c)
     && (implies (leb (c .phase) openPhase) (eqb (c .participants) 0) && implies (eqb (c .phase) votingPhase) (not (eqb (c .participants) 0))))
 
 -- ---- the votes: of participants; voting lasts while one is missing; committed is what has them all

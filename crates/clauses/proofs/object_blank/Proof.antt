@@ -1,0 +1,39 @@
+-- `clauses::object_blank`: the tests in the definition's order.
+use borrow.Author.Needs.{needs}
+use Rattle.clauses.specs.Clauses.{objectBlank}
+use Rattle.clauses.proofs.object_blank.Statement.{statement}
+use Rattle.clauses.proofs.object_blank.Tie as tie
+
+both-requires : tie.Need-both-requires
+both-requires c κs = search needs
+
+both-requires-2 : tie.Need-both-requires-2
+both-requires-2 c κs = search needs
+
+both-requires-3 : tie.Need-both-requires-3
+both-requires-3 c κs = search needs
+
+both-requires-4 : tie.Need-both-requires-4
+both-requires-4 c κs = search needs
+
+both-requires-5 : tie.Need-both-requires-5
+both-requires-5 c κs = search needs
+
+both-requires-6 : tie.Need-both-requires-6
+both-requires-6 c κs = search needs
+
+returns : tie.Need-returns
+unfolding objectBlank
+returns c = cc
+
+pub object-blank-spec : {M : Type 1} → statement M
+object-blank-spec =
+    tie.close
+    (tie.spec
+    both-requires
+    both-requires-2
+    both-requires-3
+    both-requires-4
+    both-requires-5
+    both-requires-6
+    returns)
