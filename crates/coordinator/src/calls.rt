@@ -328,7 +328,8 @@ pub fn request_commit(c: Coordinator, me: u8) -> Step
 }
 
 // Who must say done: the participants, when never voted the contacted nodes.
-pub(crate) fn awaited_by(c: Coordinator) -> u16
+// Ruled out: the contacted nodes alone once votes were asked for; the present read quorum.
+pub fn awaited_by(c: Coordinator) -> u16
     ensures { λ r. ⌜ r ≡ awaited c ⌝ }
 {
     if c.participants == 0 {

@@ -36,7 +36,7 @@ fn place_in(objects: [Object; OBJECTS], count: usize, object: u8) -> usize
     at
 }
 
-// The same in a record. Ruled out: the place of another object; a place past the count.
+// The same in a record. Ruled out: the place of a blank object past the count; the last of two places that have the object.
 pub fn place(c: Coordinator, object: u8) -> usize
     ensures { λ r. ⌜ r ≡ placeOf c object ⌝ }
 {
@@ -59,7 +59,8 @@ fn and_settled(count: usize, i: usize, x: Object, rest: bool) -> bool
     both(either(!(i < count), ok), rest)
 }
 
-pub(crate) fn all_settled(objects: [Object; OBJECTS], count: usize) -> bool
+// The same of every object. Ruled out: true where the last object opened is settled and an earlier one is not; false for a blank place past the count.
+pub fn all_settled(objects: [Object; OBJECTS], count: usize) -> bool
     ensures { λ r. ⌜ r ≡ allSettled tree objects count ⌝ }
 {
     let mut ok = true;
@@ -81,7 +82,8 @@ fn or_used_up(count: usize, i: usize, x: Object, rest: bool) -> bool
     )
 }
 
-pub(crate) fn any_used_up(objects: [Object; OBJECTS], count: usize) -> bool
+// The same of every object. Ruled out: a version read counted as used up; only the last object looked at.
+pub fn any_used_up(objects: [Object; OBJECTS], count: usize) -> bool
     ensures { λ r. ⌜ r ≡ anyUsedUp objects count ⌝ }
 {
     let mut found = false;
