@@ -24,7 +24,6 @@ pub use objects::at_index;
 pub use objects::at_place;
 pub use objects::is_ready;
 pub use objects::place;
-pub use objects::place;
 
 // How many objects a transaction may open, and how many nodes there are.
 pub const OBJECTS: usize = 8;
