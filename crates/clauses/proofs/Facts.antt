@@ -1,5 +1,5 @@
 -- The clauses as facts, a record for each part, over the fields that it reads. `meets` computes exactly them: by the parts of the tests.
-use mathlib.Core.Path.{_≡_, refl, sym, ap, _∙_, subst}
+use mathlib.Core.Path.{_≡_, sym, ap, _∙_, subst}
 use mathlib.Core.Bool.{Bool, true, false, cond, not, _&&_}
 use mathlib.Core.List.{List}
 use Prim.Native.Nat.{ℕ, _<_, _≤_}
@@ -18,7 +18,7 @@ use Rattle.clauses.specs.Clauses.{implies, zeros, objectMeets, objectBla
 use Rattle.clauses.specs.Clauses.{noNodes, nodesMeet, partyFull, partyMeets, agreed, votesMeet, donesMeet, meets}
 use Rattle.clauses.proofs.Zeros.{zeros-are, are-zeros}
 use Rattle.clauses.proofs.Parts.{eq-T, true-T, T-false, false-T, implies-out, implies-in, cond-first, cond-second, cond-in, by-test}
-use Rattle.clauses.proofs.Places.{at, everyPlace, across-at, across-all, Once, place-at, at-place}
+use Rattle.clauses.proofs.Places.{at, across-at, across-all, Once, place-at, at-place}
 
 -- ---- the facts
 pub record Sizes (distances : List ℕ) (objects : List Object) (rivals : List ℕ) : Type 0 where
@@ -300,7 +300,8 @@ module _ (s : System) (c : Coordinator) (sized : Sizes (c .distances) (c .object
       (λ p. let g = f .at-idle (eqb→eq (c .phase) idlePhase p) in
       and-both (eqb (c .live) 0) _ (eq-T (c .live) 0 (g .no-live))
       (and-both (eqb (c .quorum) 0) _ (eq-T (c .quorum) 0 (g .no-quorum))
-      (and-both (zeros (c .distances)) _ (subst (λ (l : List ℕ). T (zeros l)) (sym (g .no-distance)) (are-zeros thirteen)) (eq-T (c .count) 0 (g .no-object)))))
+      (and-both (zeros (c .distances)) _ (subst (λ (l : List ℕ). T (zeros l)) (sym (g .no-distance)) (are-zeros thirteen))
+      (eq-T (c .count) 0 (g .no-object)))))
       (λ n. f .present (λ p. n (eq-T (c .phase) idlePhase p))))
       (cond-in (eqb (c .count) 0) (eqb (c .contacted) 0) (within (c .quorum) (c .contacted))
       (λ p. eq-T (c .contacted) 0 (f .nobody (eqb→eq (c .count) 0 p))) (λ n. f .asked (λ p. n (eq-T (c .count) 0 p)))))))
@@ -462,3 +463,7 @@ module _ (s : System) (c : Coordinator) where
       → meets s c ≡ (numbersMeet c && (objectsMeet c && (nodesMeet s c && (partyMeets s c && (votesMeet c && donesMeet c)))))
   unfolding meets
   sized-meets a b d = simp (T-true (sizesMeet c) (sizes-in c (record { distances-13 = a; objects-8 = b; rivals-13 = d })))
+
+-- what keeps the facts keeps the test
+pub keeps-meeting : (s : System) (c d : Coordinator) → (Meets s c → Meets s d) → meets s c ≡ true → meets s d ≡ true
+keeps-meeting s c d f e = facts-meet s d (f (meets-facts s c e))

@@ -1,68 +1,41 @@
 -- Every call of the host keeps the clauses, refused or not: each part of a record that the call changes, the rest as it was.
 use mathlib.Core.Path.{_≡_, refl, sym, ap, _∙_, subst}
-use mathlib.Core.Bool.{Bool, true, false, cond, not, _||_}
+use mathlib.Core.Bool.{true, false, cond, not}
 use mathlib.Core.List.{List}
-use mathlib.Core.Logic.{_⊎_, inl, inr, ⊎-elim}
+use mathlib.Core.Logic.{⊎-elim}
 use Prim.Native.Nat.{ℕ, _+_, _<_, _≤_}
 use native.Mathlib.Omega.{arith}
-use lib.Dec.{T, eqb, ltb, leb}
-use lib.ListN.{length, set, replicate, length-set, length-replicate}
-use borrow.Author.Tests.{eqb-true, eqb-false, ltb-true, ltb-false, leb-false, not-false, not-true}
+use lib.Dec.{T, eqb, ltb}
+use lib.ListN.{length, set, replicate, length-set}
+use borrow.Author.Tests.{eqb-true, eqb-false, ltb-true, ltb-false, leb-false, not-false}
 use Rattle.mask.specs.Mask.{joined, within}
 use Rattle.mask.proofs.Laws.{within-self, within-trans}
-use Rattle.numbers.specs.Refusal.{Refusal, firstOf}
 use Rattle.quorum.specs.Nearest.{maskOf}
 use Rattle.coordinator.specs.declared.Object.{Object}
 use Rattle.coordinator.specs.declared.Coordinator.{Coordinator}
 use Rattle.coordinator.specs.declared.BeginWith.{BeginWith}
-use Rattle.coordinator.specs.declared.Step.{Step}
 use Rattle.coordinator.specs.System.{System}
 use Rattle.coordinator.specs.State.{eight, thirteen, everyNode, objectsEnd, idlePhase, openPhase, votingPhase, finishingPhase, aborted}
-use Rattle.coordinator.specs.State.{noObject, idleAfter, blankRecord, placeOf, objectAt, isOpen, allSettled, anyUsedUp, awaited, stepOf}
+use Rattle.coordinator.specs.State.{noObject, idleAfter, blankRecord, placeOf, objectAt, isOpen, allSettled, anyUsedUp, awaited}
 use Rattle.coordinator.specs.Calls.{withObjects, withPhase}
-use Rattle.coordinator.specs.Calls.{noNode, tooWide, isNone, fresh, renewed, beginRefusals, begun, beginOf, openRefusals, opened, openOf}
-use Rattle.coordinator.specs.Calls.{setRefusals, withNew, setOf, foundRefusals, foundOf, reselectRefusals, reselected, reselectOf}
-use Rattle.coordinator.specs.Calls.{requestCommitRefusals, requested, requestCommitOf, endedAborted, abortRefusals, abortOf}
-use Rattle.coordinator.proofs.Refusals.{Clear, numbered, clear}
-use Rattle.clauses.proofs.Parts.{by-test, on-cond, true-T, T-false}
-use Rattle.clauses.proofs.Sets.{none-within, within-none, within-left, within-right, joined-within, joined-known}
-use Rattle.clauses.proofs.Places.{at, Once, place-open, place-shut, at-set, at-blank}
-use Rattle.clauses.proofs.Facts.{Sizes, Numbers, Opened, Objects, Nodes, NoNodes, Full, Party, Votes, Dones, Agreed, waited, Meets}
+use Rattle.coordinator.specs.Calls.{noNode, tooWide, fresh, renewed, beginRefusals, begun, beginOf, openRefusals, opened, openOf}
+use Rattle.coordinator.specs.Calls.{setRefusals, withNew, setOf, reselectRefusals, reselected, reselectOf}
+use Rattle.coordinator.specs.Calls.{requestCommitRefusals, requested, requestCommitOf, abortOf}
+use Rattle.clauses.proofs.Parts.{on-cond, neither-left, neither-right}
+use Rattle.clauses.proofs.Cases.{step-keeps}
+use Rattle.clauses.proofs.Deliveries.{OpenOrVoting, Endings, abort-cases}
+use Rattle.clauses.proofs.Sets.{none-within, within-none, within-left, within-right, joined-known}
+use Rattle.clauses.proofs.Places.{at, place-open, place-shut, at-set, at-blank}
+use Rattle.clauses.proofs.Facts.{Sizes, Numbers, Opened, Objects, Nodes, Party, Votes, Dones, Agreed, waited, Meets}
 use Rattle.clauses.proofs.Quorums.{Quorums}
-
--- ---- a call: what holds of the record before it, and of the record after it where nothing refuses, holds of what the call leaves
-pub step-keeps : (P : Coordinator → Type 0) (rs : List Refusal) (answer : ℕ) (c d : Coordinator) → T (numbered rs) → P c → (Clear rs → P d)
-    → P (stepOf (firstOf rs) answer c d .coordinator)
-unfolding stepOf
-step-keeps P rs answer c d t p f = by (eqb (firstOf rs) 0) refl
-  where
-    by : (b : Bool) → eqb (firstOf rs) 0 ≡ b
-        → P (cond {A = Step} b (record { number = 0; answer = answer; coordinator = d })
-        (record { number = firstOf rs; answer = 0; coordinator = c }) .coordinator)
-    by true e = f (clear rs t (eqb-true (firstOf rs) 0 e))
-    by false e = p
-
--- neither of two tests holds
-pub neither-left : (a b : Bool) → (a || b) ≡ false → a ≡ false
-neither-left true b e = e
-neither-left false b e = refl
-
-pub neither-right : (a b : Bool) → (a || b) ≡ false → b ≡ false
-neither-right true b e = absurd (subst T e tt)
-neither-right false b e = e
-
--- one of two tests does
-pub either-of : {P Q : Type 0} (a b : Bool) → (a ≡ true → P) → (b ≡ true → Q) → (a || b) ≡ true → P ⊎ Q
-either-of true b f g e = inl (f refl)
-either-of false b f g e = inr (g e)
 
 -- ---- an idle record, and the blank one
 blank-objects : (contacted : ℕ) → Objects contacted 0 (replicate eight noObject)
 blank-objects contacted =
     record {
       eight-at-most = omega arith;
-      opened = λ i h. absurd (let z : ⊥ = omega arith in z);
-      once = λ i j h k e. absurd (let z : ⊥ = omega arith in z);
+      opened = λ i h. absurd (omega arith);
+      once = λ i j h k e. absurd (omega arith);
       past = λ i h. at-blank eight i;
     }
 
@@ -85,9 +58,9 @@ no-votes : (phase outcome : ℕ) → phase ≤ openPhase → Votes phase outcome
 no-votes phase outcome h =
     record {
       of-participants = none-within 0;
-      vote-missing = λ e. absurd (let z : ⊥ = omega arith in z);
-      agreed-commits = λ e. absurd (let z : ⊥ = omega arith in z);
-      else-aborted = λ e. absurd (let z : ⊥ = omega arith in z);
+      vote-missing = λ e. absurd (omega arith);
+      agreed-commits = λ e. absurd (omega arith);
+      else-aborted = λ e. absurd (omega arith);
     }
 
 no-dones : (phase contacted participants : ℕ) → (phase ≡ finishingPhase → ⊥) → Dones phase contacted participants 0
@@ -111,9 +84,9 @@ module _ (s : System) where
           nobody = λ e. refl;
           asked = λ f. absurd (f refl);
         };
-        party = no-party s idlePhase 0 0 (replicate eight noObject) (λ e. let z : ⊥ = omega arith in z);
+        party = no-party s idlePhase 0 0 (replicate eight noObject) (λ e. omega arith);
         votes = no-votes idlePhase outcome (omega arith);
-        dones = no-dones idlePhase 0 0 (λ e. let z : ⊥ = omega arith in z);
+        dones = no-dones idlePhase 0 0 (λ e. omega arith);
       }
 
   pub blank-meets : Meets s blankRecord
@@ -156,7 +129,7 @@ module _ (contacted count : ℕ) (l : List Object) (p : ℕ) (x : Object) (f : O
         eight-at-most = f .eight-at-most;
         opened = λ i k. at-set (Opened contacted) l p i x inside (λ e. o) (λ n. f .opened i k);
         once = λ i j a b e. f .once i j a b (sym (same-numbers i) ∙ e ∙ same-numbers j);
-        past = λ i k. at-set (λ (y : Object). y ≡ noObject) l p i x inside (λ e. absurd (let z : ⊥ = omega arith in z)) (λ n. f .past i k);
+        past = λ i k. at-set (λ (y : Object). y ≡ noObject) l p i x inside (λ e. absurd (omega arith)) (λ n. f .past i k);
       }
 
 -- one object more
@@ -172,7 +145,7 @@ added-objects contacted count l x f eights h new o =
           (λ d g. absurd (new j (omega arith) (sym g))))
           (λ e. at-set (λ (y : Object). at l i .object ≡ y .object → i ≡ j) l count j x (omega arith) (λ d g. absurd (new i (omega arith) g))
           (λ d g. f .once i j (omega arith) (omega arith) g));
-      past = λ i k. at-set (λ (y : Object). y ≡ noObject) l count i x (omega arith) (λ e. absurd (let z : ⊥ = omega arith in z))
+      past = λ i k. at-set (λ (y : Object). y ≡ noObject) l count i x (omega arith) (λ e. absurd (omega arith))
           (λ n. f .past i (omega arith));
     }
 
@@ -219,8 +192,8 @@ module _ (s : System) (c : Coordinator) (m : Meets s c) (e : c .phase ≡ openPh
         };
         votes = m .votes;
         dones = record {
-          of-awaited = λ d. absurd (let z : ⊥ = omega arith in z);
-          done-missing = λ d. absurd (let z : ⊥ = omega arith in z);
+          of-awaited = λ d. absurd (omega arith);
+          done-missing = λ d. absurd (omega arith);
           no-done = m .dones .no-done;
         };
       }
@@ -236,7 +209,7 @@ module _ (s : System) (c : Coordinator) (m : Meets s c) (e : c .phase ≡ openPh
         live-known = m .nodes .live-known;
         quorum-known = m .nodes .quorum-known;
         contacted-known = known;
-        at-idle = λ d. absurd (let z : ⊥ = omega arith in z);
+        at-idle = λ d. absurd (omega arith);
         present = m .nodes .present;
         nobody = none;
         asked = some;
@@ -262,7 +235,7 @@ module _ (s : System) (q : Quorums s) (c : Coordinator) (me : ℕ) (m : Meets s 
         numbers = record {
           phase-known = omega arith;
           outcome-known = m .numbers .outcome-known;
-          unused = λ e. absurd (let z : ⊥ = omega arith in z);
+          unused = λ e. absurd (omega arith);
           used = λ f e. omega arith;
         };
         objects = blank-objects 0;
@@ -270,14 +243,14 @@ module _ (s : System) (q : Quorums s) (c : Coordinator) (me : ℕ) (m : Meets s 
           live-known = live;
           quorum-known = known;
           contacted-known = omega arith;
-          at-idle = λ e. absurd (let z : ⊥ = omega arith in z);
+          at-idle = λ e. absurd (omega arith);
           present = λ f. read;
           nobody = λ e. refl;
           asked = λ f. absurd (f refl);
         };
-        party = no-party s openPhase 0 0 (replicate eight noObject) (λ e. let z : ⊥ = omega arith in z);
+        party = no-party s openPhase 0 0 (replicate eight noObject) (λ e. omega arith);
         votes = no-votes openPhase (c .outcome) (omega arith);
-        dones = no-dones openPhase 0 0 (λ e. let z : ⊥ = omega arith in z);
+        dones = no-dones openPhase 0 0 (λ e. omega arith);
       }
 
   pub begin-keeps : (w : BeginWith) → length (w .distances) ≡ thirteen → Meets s (beginOf s c me w .coordinator)
@@ -313,7 +286,7 @@ module _ (s : System) (q : Quorums s) (c : Coordinator) (me : ℕ) (m : Meets s 
       (more-contacted (c .contacted) asked (c .count) (c .objects) (within-left (c .contacted) (c .quorum)) (m .objects)) n room
       (λ j a. place-shut (c .objects) (c .count) object shut (omega arith) j a (omega arith)) (fresh-opened asked object mode h k))
       (joined-known (c .contacted) (c .quorum) (m .nodes .contacted-known) (m .nodes .quorum-known))
-      (λ z. absurd (let y : ⊥ = omega arith in y)) (λ f. within-right (c .contacted) (c .quorum))
+      (λ z. absurd (omega arith)) (λ f. within-right (c .contacted) (c .quorum))
 
   pub open-keeps : (object mode : ℕ) → mode < 2 → Meets s (openOf c me object mode .coordinator)
   unfolding openOf openRefusals
@@ -369,7 +342,7 @@ module _ (s : System) (q : Quorums s) (c : Coordinator) (me : ℕ) (m : Meets s 
         quorum-known = known;
         contacted-known = on-cond (λ (x : ℕ). x ≤ everyNode) b old all (λ d. m .nodes .contacted-known)
             (λ d. joined-known old quorum (m .nodes .contacted-known) known);
-        at-idle = λ d. absurd (let z : ⊥ = omega arith in z);
+        at-idle = λ d. absurd (omega arith);
         present = λ d. read;
         nobody = λ z. on-cond (λ (x : ℕ). x ≡ 0) b old all (λ d. m .nodes .nobody z) (λ d. absurd (eqb-false (c .count) 0 d z));
         asked = λ z. on-cond (λ (x : ℕ). T (within quorum x)) b old all (λ d. absurd (z (eqb-true (c .count) 0 d))) (λ d. within-right old quorum);
@@ -384,16 +357,6 @@ module _ (s : System) (q : Quorums s) (c : Coordinator) (me : ℕ) (m : Meets s 
       let good = q .read-chosen live distances small (k .1 .1 .0) in
       reselected-meets live distances (maskOf chosen) n (eqb-true (c .phase) openPhase (not-false (eqb (c .phase) openPhase) (k .1 .0))) small (good .0)
       (good .1))
-
-  -- found changes nothing
-  pub found-keeps : (object : ℕ) → Meets s (foundOf s c me object .coordinator)
-  unfolding foundOf stepOf
-  found-keeps object = by (eqb (firstOf (foundRefusals s c me object)) 0)
-    where
-      by : (b : Bool) → Meets s (cond {A = Step} b (record { number = 0; answer = objectAt c object .value; coordinator = c })
-          (record { number = firstOf (foundRefusals s c me object); answer = 0; coordinator = c }) .coordinator)
-      by true = m
-      by false = m
 
 -- ---- another phase of the same transaction: what changes of a record that is not idle
 module _ (s : System) (c : Coordinator) (m : Meets s c) (busy : c .phase ≡ idlePhase → ⊥) where
@@ -442,8 +405,8 @@ module _ (s : System) (c : Coordinator) (m : Meets s c) (busy : c .phase ≡ idl
         participants-known = m .party .participants-known;
         no-rivals = none;
         full = m .party .full;
-        not-asked = λ h. absurd (let z : ⊥ = omega arith in z);
-        asked-for = λ e. absurd (let z : ⊥ = omega arith in z);
+        not-asked = λ h. absurd (omega arith);
+        asked-for = λ e. absurd (omega arith);
       }
 
   -- finishing begins: nobody has said done
@@ -460,36 +423,39 @@ module _ (s : System) (c : Coordinator) (m : Meets s c) (busy : c .phase ≡ idl
 
 -- ---- the end: aborted while open or voting
 module _ (s : System) (c : Coordinator) (m : Meets s c) where
+  pub awaited-known : awaited c ≤ everyNode
+  awaited-known =
+      on-cond (λ (w : ℕ). w ≤ everyNode) (eqb (c .participants) 0) (c .contacted) (c .participants) (λ e. m .nodes .contacted-known)
+      (λ e. m .party .participants-known)
+
   -- not every participant has voted yes
-  pub not-agreed : (c .phase ≡ openPhase) ⊎ (c .phase ≡ votingPhase) → Agreed (c .participants) (c .yes) → ⊥
+  pub not-agreed : OpenOrVoting c → Agreed (c .participants) (c .yes) → ⊥
   not-agreed p a = ⊎-elim (λ e. a .0 (open-party s c m e)) (λ e. m .votes .vote-missing e a) p
 
-  pub aborted-meets : (c .phase ≡ openPhase) ⊎ (c .phase ≡ votingPhase) → Meets s (endedAborted c)
-  unfolding endedAborted
-  aborted-meets p =
-      let busy : c .phase ≡ idlePhase → ⊥ = λ e. ⊎-elim (λ d. let z : ⊥ = omega arith in z) (λ d. let z : ⊥ = omega arith in z) p in
-      let early : c .phase ≡ finishingPhase → ⊥ = λ e. ⊎-elim (λ d. let z : ⊥ = omega arith in z) (λ d. let z : ⊥ = omega arith in z) p in
-      on-cond (Meets s) (eqb (awaited c) 0) (idleAfter (c .serial) (c .timestamp) aborted)
-      (withPhase c finishingPhase aborted (c .participants) (c .yes) (c .done) (c .rivals))
-      (λ e. ended-meets s c m busy aborted (omega arith))
-      (λ e. phase-meets s c m busy finishingPhase aborted (c .participants) (c .yes) (c .done) (c .rivals) (λ d. let z : ⊥ = omega arith in z)
-      (omega arith) (omega arith) (m .sizes .rivals-13) (last-party s c m busy (c .rivals) (m .party .no-rivals))
-      (record {
-        of-participants = m .votes .of-participants;
-        vote-missing = λ d. absurd (let z : ⊥ = omega arith in z);
-        agreed-commits = λ d a. absurd (not-agreed p a);
-        else-aborted = λ d f. refl;
-      })
-      (first-dones s c m busy early (eqb-false (awaited c) 0 e)))
+  pub not-idle : OpenOrVoting c → c .phase ≡ idlePhase → ⊥
+  not-idle p e = ⊎-elim (λ d. omega arith) (λ d. omega arith) p
+
+  not-finishing : OpenOrVoting c → c .phase ≡ finishingPhase → ⊥
+  not-finishing p e = ⊎-elim (λ d. omega arith) (λ d. omega arith) p
+
+  pub endings-meet : Endings (Meets s) c
+  endings-meet =
+      record {
+        gone = λ p e. ended-meets s c m (not-idle p) aborted (omega arith);
+        aborting = λ p n. phase-meets s c m (not-idle p) finishingPhase aborted (c .participants) (c .yes) (c .done) (c .rivals)
+            (λ d. omega arith) (omega arith) (omega arith) (m .sizes .rivals-13)
+            (last-party s c m (not-idle p) (c .rivals) (m .party .no-rivals))
+            (record {
+              of-participants = m .votes .of-participants;
+              vote-missing = λ d. absurd (omega arith);
+              agreed-commits = λ d a. absurd (not-agreed p a);
+              else-aborted = λ d f. refl;
+            })
+            (first-dones s c m (not-idle p) (not-finishing p) n);
+      }
 
   pub abort-keeps : (me : ℕ) → Meets s (abortOf c me .coordinator)
-  unfolding abortOf abortRefusals
-  abort-keeps me =
-      step-keeps (Meets s) (abortRefusals c me) 0 c (endedAborted c) tt m
-      (λ k. aborted-meets (one-of (not-false (eqb (c .phase) openPhase || eqb (c .phase) votingPhase) (k .1 .0))))
-    where
-      one-of : (eqb (c .phase) openPhase || eqb (c .phase) votingPhase) ≡ true → (c .phase ≡ openPhase) ⊎ (c .phase ≡ votingPhase)
-      one-of e = either-of (eqb (c .phase) openPhase) (eqb (c .phase) votingPhase) (eqb-true (c .phase) openPhase) (eqb-true (c .phase) votingPhase) e
+  abort-keeps me = abort-cases (Meets s) c me m endings-meet
 
 -- ---- asking for votes
 module _ (s : System) (q : Quorums s) (c : Coordinator) (me : ℕ) (m : Meets s c) where
@@ -501,8 +467,8 @@ module _ (s : System) (q : Quorums s) (c : Coordinator) (me : ℕ) (m : Meets s 
       let large = q .write-larger quorum all (within-left quorum (c .contacted)) write in
       let there : all ≡ 0 → ⊥ = q .write-some all large in
       let said : c .yes ≡ 0 = within-none (c .yes) (subst (λ (n : ℕ). T (within (c .yes) n)) (open-party s c m e) (m .votes .of-participants)) in
-      phase-meets s c m (λ d. let z : ⊥ = omega arith in z) votingPhase (c .outcome) all (c .yes) (c .done) (c .rivals)
-      (λ d. let z : ⊥ = omega arith in z) (omega arith) (m .numbers .outcome-known) (m .sizes .rivals-13)
+      phase-meets s c m (λ d. omega arith) votingPhase (c .outcome) all (c .yes) (c .done) (c .rivals)
+      (λ d. omega arith) (omega arith) (m .numbers .outcome-known) (m .sizes .rivals-13)
       (record {
         participants-known = joined-known quorum (c .contacted) known (m .nodes .contacted-known);
         no-rivals = λ d. absurd (there d);
@@ -513,17 +479,17 @@ module _ (s : System) (q : Quorums s) (c : Coordinator) (me : ℕ) (m : Meets s 
           all-settled = settled;
           none-used-up = next;
         };
-        not-asked = λ d. absurd (let z : ⊥ = omega arith in z);
+        not-asked = λ d. absurd (omega arith);
         asked-for = λ d. there;
       })
       (record {
         of-participants = subst (λ (n : ℕ). T (within n all)) (sym said) (none-within all);
         vote-missing = λ d a. there (within-none all (subst (λ (n : ℕ). T (within all n)) said (a .1)));
-        agreed-commits = λ d. absurd (let z : ⊥ = omega arith in z);
-        else-aborted = λ d. absurd (let z : ⊥ = omega arith in z);
+        agreed-commits = λ d. absurd (omega arith);
+        else-aborted = λ d. absurd (omega arith);
       })
-      (subst (Dones votingPhase (c .contacted) all) (sym (m .dones .no-done (λ d. let z : ⊥ = omega arith in z)))
-      (no-dones votingPhase (c .contacted) all (λ d. let z : ⊥ = omega arith in z)))
+      (subst (Dones votingPhase (c .contacted) all) (sym (m .dones .no-done (λ d. omega arith)))
+      (no-dones votingPhase (c .contacted) all (λ d. omega arith)))
 
   pub request-keeps : Meets s (requestCommitOf s c me .coordinator)
   unfolding requestCommitOf requestCommitRefusals

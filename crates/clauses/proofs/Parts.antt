@@ -1,6 +1,6 @@
 -- Tests taken apart and put together again, and a test on a number as a fact.
 use mathlib.Core.Path.{_≡_, refl, sym, subst}
-use mathlib.Core.Bool.{Bool, true, false, cond, not}
+use mathlib.Core.Bool.{Bool, true, false, cond, _||_}
 use Prim.Native.Nat.{ℕ}
 use lib.Dec.{T, eqb, eqb-refl}
 use Rattle.clauses.specs.Clauses.{implies}
@@ -46,3 +46,12 @@ by-test P false f g = g refl
 pub on-cond : {A : Type 0} (P : A → Type 0) (b : Bool) (x y : A) → (b ≡ true → P x) → (b ≡ false → P y) → P (cond b x y)
 on-cond P true x y f g = f refl
 on-cond P false x y f g = g refl
+
+-- neither of two tests holds
+pub neither-left : (a b : Bool) → (a || b) ≡ false → a ≡ false
+neither-left true b e = e
+neither-left false b e = refl
+
+pub neither-right : (a b : Bool) → (a || b) ≡ false → b ≡ false
+neither-right true b e = absurd (subst T e tt)
+neither-right false b e = e

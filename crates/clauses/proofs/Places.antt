@@ -1,6 +1,6 @@
 -- The places of a record's objects: what is tested across them holds at each, where an object stands, and what stands where after one is put.
 use mathlib.Core.Path.{_≡_, refl, sym, ap, _∙_, subst}
-use mathlib.Core.Bool.{Bool, true, false, cond, not, _&&_, _||_}
+use mathlib.Core.Bool.{Bool, true, false, cond, _&&_, _||_}
 use mathlib.Core.List.{List, [], _∷_}
 use mathlib.Core.Logic.{_⊎_, inl, inr, ⊎-elim}
 use Prim.Native.Nat.{ℕ, zero, suc, _+_, _<_, _≤_}
@@ -12,7 +12,7 @@ use borrow.Author.Tests.{eqb-true, eqb-false, ltb-true, ltb-false}
 use Rattle.mask.proofs.Tests.{and-both, and-left, and-right}
 use Rattle.coordinator.specs.declared.Object.{Object}
 use Rattle.coordinator.specs.State.{eight, noObject, across, hereElse, placeIn}
-use Rattle.clauses.proofs.Parts.{eq-T, by-test, true-T}
+use Rattle.clauses.proofs.Parts.{eq-T, by-test, true-T, neither-left, neither-right}
 
 -- what stands at a place
 abbrev pub at : List Object → ℕ → Object
@@ -24,7 +24,7 @@ everyPlace f i x rest = f i x && rest
 
 each-from : (f : ℕ → Object → Bool) (k : ℕ) (l : List Object) → T (across (everyPlace f) true k l)
     → (i : ℕ) → i < length l → T (f (k + i) (at l i))
-each-from f k [] t i h = absurd (let z : ⊥ = omega arith in z)
+each-from f k [] t i h = absurd (omega arith)
 each-from f k (x ∷ l) t zero h = subst (λ (n : ℕ). T (f n x)) (omega arith) (and-left (f k x) (across (everyPlace f) true (k + 1) l) t)
 each-from f k (x ∷ l) t (suc i) h =
     subst (λ (n : ℕ). T (f n (at l i))) (omega arith)
@@ -44,6 +44,21 @@ module _ (f : ℕ → Object → Bool) (l : List Object) where
   pub across-all : ((i : ℕ) → i < length l → T (f i (at l i))) → T (across (everyPlace f) true 0 l)
   across-all h = from-each f 0 l (λ i k. subst (λ (n : ℕ). T (f n (at l i))) (omega arith) (h i k))
 
+-- a test of some place that fails: it fails at each
+abbrev pub somePlace : (ℕ → Object → Bool) → ℕ → Object → Bool → Bool
+somePlace f i x rest = f i x || rest
+
+none-from : (f : ℕ → Object → Bool) (k : ℕ) (l : List Object) → across (somePlace f) false k l ≡ false
+    → (i : ℕ) → i < length l → f (k + i) (at l i) ≡ false
+none-from f k [] e i h = absurd (omega arith)
+none-from f k (x ∷ l) e zero h = subst (λ (n : ℕ). f n x ≡ false) (omega arith) (neither-left (f k x) (across (somePlace f) false (k + 1) l) e)
+none-from f k (x ∷ l) e (suc i) h =
+    subst (λ (n : ℕ). f n (at l i) ≡ false) (omega arith)
+    (none-from f (k + 1) l (neither-right (f k x) (across (somePlace f) false (k + 1) l) e) i (omega arith))
+
+pub across-none : (f : ℕ → Object → Bool) (l : List Object) → across (somePlace f) false 0 l ≡ false → (i : ℕ) → i < length l → f i (at l i) ≡ false
+across-none f l e i h = subst (λ (n : ℕ). f n (at l i) ≡ false) (omega arith) (none-from f 0 l e i h)
+
 -- ---- where an object stands
 -- at a place below the count that has it, or at 8 and no place below the count has it; the places are those from k on
 abbrev Placed : List Object → ℕ → ℕ → ℕ → ℕ → Type 0
@@ -59,7 +74,7 @@ later x l n t k p h = ⊎-elim (λ a. inl (suc (a .0), omega (arith, a .1), omeg
     none f (suc j) a b e = f j (omega arith) (omega arith) e
 
 placed : (l : List Object) (n t k : ℕ) → Placed l n t k (across (hereElse t n) eight k l)
-placed [] n t k = inr (refl, λ j a b e. let z : ⊥ = omega arith in z)
+placed [] n t k = inr (refl, λ j a b e. omega arith)
 placed (x ∷ l) n t k = by (placed l n t (k + 1)) (ltb k n && eqb (x .object) t) refl
   where
     by : {p : ℕ} → Placed l n t (k + 1) p → (b : Bool) → (ltb k n && eqb (x .object) t) ≡ b → Placed (x ∷ l) n t k (cond b k p)

@@ -1,7 +1,7 @@
 -- What the definitions imply, each by the cases of its test: a refusal leaves the record, serials rise by one, a late copy changes nothing, a
 -- commit needs every participant's yes, idle needs every done, and a message that does not fit changes nothing. Over any quorum system.
 use mathlib.Core.Path.{_≡_, refl, sym, ap, _∙_}
-use mathlib.Core.Bool.{Bool, true, false, cond, and-false}
+use mathlib.Core.Bool.{Bool, true, false, cond, _&&_, _||_, and-false}
 use mathlib.Core.List.{List}
 use Prim.Native.Nat.{ℕ, _+_}
 use native.Mathlib.Omega.{arith}
@@ -10,14 +10,15 @@ use borrow.Author.Tests.{eqb-false, ne-eqb}
 use Rattle.mask.specs.Mask.{within}
 use Rattle.numbers.specs.Refusal.{firstOf}
 use Rattle.quorum.specs.Nearest.{maskOf}
-use Rattle.wire.specs.Items.{entryOf}
+use Rattle.wire.specs.Items.{entryOf, rivalOf}
 use Rattle.coordinator.specs.declared.Coordinator.{Coordinator}
 use Rattle.coordinator.specs.declared.BeginWith.{BeginWith}
 use Rattle.coordinator.specs.declared.Step.{Step}
 use Rattle.coordinator.specs.System.{System}
-use Rattle.coordinator.specs.State.{votingPhase, finishingPhase, nothing, committed, finished, objectAt, ready, awaited, stepOf}
-use Rattle.coordinator.specs.Calls.{beginRefusals, begun, beginOf}
-use Rattle.coordinator.specs.Receive.{brought, answers, copyFits, copyTaken, withYes, voteTaken, withDone, doneTaken, receiveRefusals, receiveOf}
+use Rattle.coordinator.specs.State.{openPhase, votingPhase, finishingPhase, nothing, committed, finished, objectAt, ready, awaited, stepOf}
+use Rattle.coordinator.specs.Calls.{beginRefusals, begun, beginOf, foundRefusals, foundOf}
+use Rattle.coordinator.specs.Receive.{brought, answers, copyFits, copyTaken, withYes, voteTaken, withDone, doneTaken, yieldTaken}
+use Rattle.coordinator.specs.Receive.{receiveRefusals, receiveOf}
 
 -- ---- refusals, of every host call (each is a `stepOf`) and of a delivery
 pub refused-leaves : (number answer : ℕ) (before after : Coordinator) → (number ≡ 0 → ⊥) → stepOf number answer before after .coordinator ≡ before
@@ -78,3 +79,24 @@ done-unfit c m h = simp (h)
 pub copy-unfit : (s : System) (c : Coordinator) (m : List ℕ) → copyFits s c m ≡ false → copyTaken s c m ≡ brought nothing c
 unfolding copyTaken
 copy-unfit s c m h = simp (h)
+
+-- a yield: in another phase, or with another serial than the rival's it names
+pub yield-unfit : (c : Coordinator) (m : List ℕ)
+    → ((eqb (c .phase) openPhase || eqb (c .phase) votingPhase) && eqb (rivalOf m 0 .serial) (c .serial)) ≡ false → yieldTaken c m ≡ brought nothing c
+unfolding yieldTaken
+yield-unfit c m h = simp (h)
+
+pub yield-other-serial : (c : Coordinator) (m : List ℕ) → (rivalOf m 0 .serial ≡ c .serial → ⊥) → yieldTaken c m ≡ brought nothing c
+yield-other-serial c m n = yield-unfit c m (simp (ne-eqb (rivalOf m 0 .serial) (c .serial) n, and-false))
+
+pub yield-other-phase : (c : Coordinator) (m : List ℕ) → (c .phase ≡ openPhase → ⊥) → (c .phase ≡ votingPhase → ⊥) → yieldTaken c m ≡ brought nothing c
+yield-other-phase c m a b = yield-unfit c m (simp (ne-eqb (c .phase) openPhase a, ne-eqb (c .phase) votingPhase b))
+
+-- ---- found leaves the record
+either-way : (t : Bool) (x y : Step) (c : Coordinator) → x .coordinator ≡ c → y .coordinator ≡ c → cond t x y .coordinator ≡ c
+either-way true x y c p q = p
+either-way false x y c p q = q
+
+pub found-leaves : (s : System) (c : Coordinator) (me object : ℕ) → foundOf s c me object .coordinator ≡ c
+unfolding foundOf stepOf
+found-leaves s c me object = either-way (eqb (firstOf (foundRefusals s c me object)) 0) _ _ c refl refl
