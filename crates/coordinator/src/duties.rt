@@ -48,8 +48,8 @@ fn voting_due(c: Coordinator, node: u8) -> u8
     )
 }
 
-// The serial named for an owner; 0 for one that there is not.
-fn rival_of(rivals: [u32; NODES], node: u8) -> u32
+// The serial named for an owner; 0 for one that there is not. Ruled out: the serial of the next owner; the last one's for an owner above 12.
+pub fn rival_of(rivals: [u32; NODES], node: u8) -> u32
     ensures { λ r. ⌜ r ≡ getD rivals node 0 ⌝ }
 {
     let i = node as usize;

@@ -17,8 +17,12 @@ pub use calls::reselect;
 pub use calls::set_value;
 pub use delivery::receive;
 pub use duties::due;
+pub use duties::rival_of;
 pub use objects::all_settled;
 pub use objects::any_used_up;
+pub use objects::at_index;
+pub use objects::at_place;
+pub use objects::is_ready;
 pub use objects::place;
 
 // How many objects a transaction may open, and how many nodes there are.

@@ -44,8 +44,8 @@ pub fn place(c: Coordinator, object: u8) -> usize
     place_in(objects, c.count, object)
 }
 
-// Whether copies have come from a read quorum.
-pub(crate) fn is_ready(x: Object) -> bool
+// Whether copies have come from a read quorum. Ruled out: ready after the first copy; ready only when every node's copy came.
+pub fn is_ready(x: Object) -> bool
     ensures { λ r. ⌜ r ≡ ready tree x ⌝ }
 {
     quorum::is_quorum(Kind::Read, x.came)
@@ -95,8 +95,8 @@ pub fn any_used_up(objects: [Object; OBJECTS], count: usize) -> bool
     found
 }
 
-// The object that stands at a place; a blank one past the end.
-fn at_index(objects: [Object; OBJECTS], p: usize) -> Object
+// The object that stands at a place; a blank one past the end. Ruled out: the place after it; the last object for a place past the end.
+pub fn at_index(objects: [Object; OBJECTS], p: usize) -> Object
     ensures { λ r. ⌜ r ≡ getD objects p noObject ⌝ }
 {
     if p < OBJECTS {
@@ -114,8 +114,8 @@ fn at_index(objects: [Object; OBJECTS], p: usize) -> Object
     }
 }
 
-// An opened object of a record.
-pub(crate) fn at_place(c: Coordinator, object: u8) -> Object
+// An opened object of a record. Ruled out: the object at the place that the number itself names; another than a blank one for one that is not open.
+pub fn at_place(c: Coordinator, object: u8) -> Object
     ensures { λ r. ⌜ r ≡ objectAt c object ⌝ }
 {
     let objects = c.objects;

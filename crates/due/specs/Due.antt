@@ -26,10 +26,12 @@ entryFor x = record { object = x .object; mode = x .mode; version = x .version; 
 abbrev pub listsNext : Coordinator → ℕ → List Entry → Bool
 listsNext c n es = isOpen c n && ltb (length es) eight
 
+unfoldable pub withNext : Coordinator → ℕ → List Entry → List Entry
+withNext c n es = cond (listsNext c n es) (es ++ (entryFor (objectAt c n) ∷ [])) es
+
 unfoldable pub entriesBelow : Coordinator → ℕ → List Entry
 entriesBelow c zero = []
-entriesBelow c (suc n) =
-    cond (listsNext c n (entriesBelow c n)) (entriesBelow c n ++ (entryFor (objectAt c n) ∷ [])) (entriesBelow c n)
+entriesBelow c (suc n) = withNext c n (entriesBelow c n)
 
 unfoldable pub entriesOf : Coordinator → List Entry
 entriesOf c = entriesBelow c objectsEnd

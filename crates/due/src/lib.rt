@@ -1,1 +1,167 @@
 // What is due to a node, as a message in a lent buffer.
+ghost use mathlib.Core.Path.{_≡_};
+ghost use mathlib.Core.List.{List, [], _∷_, _++_};
+ghost use Prim.Native.Nat.{_<_};
+ghost use lib.ListN.{length};
+ghost use Rattle.wire.specs.declared.Entry.{Entry};
+ghost use Rattle.wire.specs.Write.{writtenOf, bufferAfter};
+ghost use Rattle.coordinator.specs.System.{tree};
+ghost use Rattle.due.specs.Gather.{Lists};
+ghost use Rattle.due.specs.Due.{entryFor, withNext, entriesOf, askTo, outcomeTo, messageDue, dueWritten, dueBuffer};
+use coordinator::COMMITTED;
+use coordinator::Coordinator;
+use coordinator::OBJECTS;
+use coordinator::Object;
+use numbers::both;
+use wire::Entry;
+use wire::Written;
+
+// Objects are below this.
+const OBJECTS_END: u8 = 64;
+
+// The first `count` of eight entries.
+struct Gathered {
+    entries: [Entry; OBJECTS],
+    count: usize,
+}
+
+// The entry of an opened object: a read's value is 0, a write's is the new one.
+fn entry_for(x: Object) -> Entry
+    ensures { λ r. ⌜ r ≡ entryFor x ⌝ }
+{
+    let value = if x.mode == 0 { 0 } else { x.new };
+    Entry {
+        object: x.object,
+        mode: x.mode,
+        version: x.version,
+        value,
+    }
+}
+
+// No entries.
+fn none() -> Gathered
+    ensures { λ r. ⌜ Lists r [] ⌝ }
+{
+    let e = Entry {
+        object: 0,
+        mode: 0,
+        version: 0,
+        value: 0,
+    };
+    let entries = [e; OBJECTS];
+    Gathered { entries, count: 0 }
+}
+
+// One entry more, behind those that are there.
+fn with_entry(list: [Entry; OBJECTS], count: usize, e: Entry) -> Gathered
+    requires { ⌜ count < 8 ⌝ }
+    ensures { λ r. ⌜ ((es : List Entry) → Lists (record { entries = list; count = count }) es → Lists r (es ++ (e ∷ []))) ⌝ }
+{
+    let mut entries = list;
+    entries[count] = e;
+    Gathered {
+        entries,
+        count: count + 1,
+    }
+}
+
+// The entry of object n too, where it is open.
+fn with_next(c: Coordinator, n: u8, g: Gathered) -> Gathered
+    ensures { λ r. ⌜ ((es : List Entry) → Lists g es → Lists r (withNext c n es)) ⌝ }
+{
+    let here = coordinator::place(c, n) < OBJECTS;
+    if both(here, g.count < OBJECTS) {
+        let e = entry_for(coordinator::at_place(c, n));
+        let entries = g.entries;
+        with_entry(entries, g.count, e)
+    } else {
+        g
+    }
+}
+
+// The entries of an ask or a commit, ascending by object.
+fn entries_of(c: Coordinator) -> Gathered
+    ensures { λ r. ⌜ Lists r (entriesOf c) ⌝ }
+{
+    let mut g = none();
+    let mut n: u8 = 0;
+    while n < OBJECTS_END {
+        let next = with_next(c, n, g);
+        g = next;
+        n = n + 1;
+    }
+    g
+}
+
+// An ask to a node.
+fn send_ask(c: Coordinator, me: u8, node: u8, out: &mut [u8]) -> Written
+    ensures { λ r. ⌜ r ≡ writtenOf (length (now (out .entry))) (askTo c me node) ⌝ }
+    ensures { λ r. ⌜ now (out .exit) ≡ bufferAfter (askTo c me node) (now (out .entry)) ⌝ }
+{
+    let g = entries_of(c);
+    let entries = g.entries;
+    wire::write_ask(out, node, me, c.serial, c.timestamp, entries, g.count)
+}
+
+// The outcome to a node: a commit with the entries of the ask, an abort with none.
+fn send_outcome(c: Coordinator, me: u8, node: u8, out: &mut [u8]) -> Written
+    ensures { λ r. ⌜ r ≡ writtenOf (length (now (out .entry))) (outcomeTo c me node) ⌝ }
+    ensures { λ r. ⌜ now (out .exit) ≡ bufferAfter (outcomeTo c me node) (now (out .entry)) ⌝ }
+{
+    let g = entries_of(c);
+    let entries = g.entries;
+    if c.outcome == COMMITTED {
+        wire::write_outcome(out, node, me, c.serial, c.timestamp, entries, g.count, 1)
+    } else {
+        wire::write_outcome(out, node, me, c.serial, c.timestamp, entries, 0, 0)
+    }
+}
+
+// The message of a kind.
+fn send(c: Coordinator, me: u8, node: u8, object: u8, kind: u8, out: &mut [u8]) -> Written
+    ensures { λ r. ⌜ r ≡ writtenOf (length (now (out .entry))) (messageDue c me node object kind) ⌝ }
+    ensures { λ r. ⌜ now (out .exit) ≡ bufferAfter (messageDue c me node object kind) (now (out .entry)) ⌝ }
+{
+    match kind {
+        wire::FETCH => {
+            let x = coordinator::at_place(c, object);
+            wire::write_fetch(out, node, me, c.serial, c.timestamp, object, x.mode)
+        }
+        wire::ASK => send_ask(c, me, node, out),
+        wire::OUTCOME => send_outcome(c, me, node, out),
+        _ => {
+            let rivals = c.rivals;
+            wire::write_yield(
+                out,
+                me,
+                c.serial,
+                c.timestamp,
+                node,
+                coordinator::rival_of(rivals, node),
+            )
+        }
+    }
+}
+
+// Writes what is due to a node, and while open for an object. Nothing due: number 0, nothing written.
+// Ruled out: an abort with the entries of the ask; a buffer altered where nothing is due; entries in the order of opening.
+pub fn write(c: Coordinator, me: u8, node: u8, object: u8, out: &mut [u8]) -> Written
+    ensures { λ r. ⌜ r ≡ dueWritten tree (length (now (out .entry))) c me node object ⌝ }
+    ensures { λ r. ⌜ now (out .exit) ≡ dueBuffer tree c me node object (now (out .entry)) ⌝ }
+{
+    if out.len() < wire::LONGEST {
+        return Written {
+            number: numbers::LENGTH,
+            length: 0,
+        };
+    }
+    let d = coordinator::due(c, me, node, object);
+    if both(d.number == 0, 0 < d.kind) {
+        send(c, me, node, object, d.kind, out)
+    } else {
+        Written {
+            number: d.number,
+            length: 0,
+        }
+    }
+}

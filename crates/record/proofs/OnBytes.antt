@@ -1,0 +1,80 @@
+-- A call on bytes, by whether they are a record: refused bytes are left as they were, else the call by value decides.
+use mathlib.Core.Path.{_≡_, refl, sym, ap, _∙_}
+use mathlib.Core.Bool.{Bool, true, false, cond, _&&_}
+use mathlib.Core.List.{List}
+use Prim.Native.Nat.{ℕ}
+use native.Mathlib.Omega.{arith}
+use lib.Dec.{eqb}
+use lib.ListN.{length}
+use borrow.Author.Tests.{eq-eqb, ne-eqb, eqb-true}
+use Rattle.numbers.specs.Refusal.{firstOf}
+use Rattle.wire.specs.Write.{answer}
+use Rattle.coordinator.specs.declared.Coordinator.{Coordinator}
+use Rattle.coordinator.specs.declared.Step.{Step}
+use Rattle.coordinator.specs.System.{tree}
+use Rattle.due.specs.Due.{dueWritten, dueBuffer}
+use Rattle.record.specs.Record.{recordOf, check}
+use Rattle.record.specs.Call.{called, calledOf, kept, recordAfter, dueFirst, recordDue, recordDueBuffer}
+
+-- bytes that are a record have its length
+long : (b : Bool) (n : ℕ) → cond b n 1 ≡ 0 → b ≡ true
+long true n e = refl
+long false n e = absurd (let z : ⊥ = omega arith in z)
+
+pub checked-length : (l : List ℕ) → check l ≡ 0 → length l ≡ 301
+unfolding check
+checked-length l e = eqb-true (length l) 301 (long (eqb (length l) 301) _ e)
+
+module _ (f : Coordinator → Step) (l : List ℕ) where
+  pub refused-called : (n : ℕ) → n ≡ check l → (n ≡ 0 → ⊥) → called n 0 ≡ calledOf f l
+  unfolding calledOf
+  refused-called n e h = let t : eqb (check l) 0 ≡ false = ne-eqb (check l) 0 (λ z. h (e ∙ z)) in simp t (ap (λ (k : ℕ). called k 0) e)
+
+  -- bytes that are no record are left as they were
+  pub refused-record : (n : ℕ) → n ≡ check l → (n ≡ 0 → ⊥) → l ≡ recordAfter f l
+  unfolding recordAfter
+  refused-record n e h = let t : eqb (check l) 0 ≡ false = ne-eqb (check l) 0 (λ z. h (e ∙ z)) in simp t
+
+  pub taken-called : check l ≡ 0 → (s : Step) → s ≡ f (recordOf l) → called (s .number) (s .answer) ≡ calledOf f l
+  unfolding calledOf
+  taken-called e s p = simp (eq-eqb (check l) 0 e) (ap (λ (x : Step). called (x .number) (x .answer)) p)
+
+  pub taken-record : check l ≡ 0 → (s : Step) → s ≡ f (recordOf l) → kept s l ≡ recordAfter f l
+  unfolding recordAfter
+  taken-record e s p = simp (eq-eqb (check l) 0 e) (ap (λ (x : Step). kept x l) p)
+
+  -- so are those of a call that is refused
+  pub refused-leaves : (calledOf f l .number ≡ 0 → ⊥) → recordAfter f l ≡ l
+  unfolding calledOf recordAfter kept
+  refused-leaves h = by (eqb (check l) 0) refl
+    where
+      by : (b : Bool) → eqb (check l) 0 ≡ b → recordAfter f l ≡ l
+      by true e =
+          let n : f (recordOf l) .number ≡ 0 → ⊥ = (λ z. h (simp e z)) in
+          simp (e, ne-eqb (f (recordOf l) .number) 0 n)
+      by false e = simp e
+
+-- ---- what is due
+module _ (l : List ℕ) (me node object : ℕ) where
+  pub due-refused : (size n : ℕ) → n ≡ firstOf (dueFirst l size) → (n ≡ 0 → ⊥) → answer n 0 ≡ recordDue l me node object size
+  unfolding recordDue
+  due-refused size n e h =
+      let t : eqb (firstOf (dueFirst l size)) 0 ≡ false = ne-eqb (firstOf (dueFirst l size)) 0 (λ z. h (e ∙ z)) in
+      simp t (ap (λ (k : ℕ). answer k 0) e)
+
+  pub due-left : (out : List ℕ) (n : ℕ) → n ≡ firstOf (dueFirst l (length out)) → (n ≡ 0 → ⊥) → out ≡ recordDueBuffer l me node object out
+  unfolding recordDueBuffer
+  due-left out n e h =
+      let t : eqb (firstOf (dueFirst l (length out))) 0 ≡ false = ne-eqb (firstOf (dueFirst l (length out))) 0 (λ z. h (e ∙ z)) in
+      simp t
+
+  pub due-taken : (size : ℕ) → firstOf (dueFirst l size) ≡ 0 → (c : Coordinator) → c ≡ recordOf l
+      → dueWritten tree size c me node object ≡ recordDue l me node object size
+  unfolding recordDue
+  due-taken size e c p = simp (eq-eqb (firstOf (dueFirst l size)) 0 e) (ap (λ (x : Coordinator). dueWritten tree size x me node object) p)
+
+  pub due-filled : (out : List ℕ) → firstOf (dueFirst l (length out)) ≡ 0 → (c : Coordinator) → c ≡ recordOf l
+      → dueBuffer tree c me node object out ≡ recordDueBuffer l me node object out
+  unfolding recordDueBuffer
+  due-filled out e c p =
+      simp (eq-eqb (firstOf (dueFirst l (length out))) 0 e) (ap (λ (x : Coordinator). dueBuffer tree x me node object out) p)

@@ -1,0 +1,161 @@
+-- Bytes stored one after the other are the bytes of an object, and of a record.
+use mathlib.Core.Path.{_≡_, refl, sym, ap, _∙_}
+use mathlib.Core.Bool.{cond}
+use mathlib.Core.List.{List, [], _∷_, _++_, append-nil}
+use Prim.Native.Nat.{ℕ, suc, _+_, _*_, _%_, _≤_}
+use native.Mathlib.Numerals.{add-one}
+use native.Mathlib.Omega.{arith}
+use lib.ListN.{length, set, drop, length-append, drop-of-length-le}
+use lib.Seq.{sets, sets-eq}
+use Rattle.octets.specs.Octets.{put, le}
+use Rattle.octets.proofs.Laws.{put-le, length-le}
+use Rattle.wire.specs.Encode.{together}
+use Rattle.wire.proofs.Stores.{sets-then, put-then}
+use Rattle.wire.proofs.RoundTrip.{length-together}
+use Rattle.coordinator.specs.declared.Object.{Object}
+use Rattle.coordinator.specs.declared.Coordinator.{Coordinator}
+use Rattle.record.specs.Record.{objectBytes, frontBytes, quorumBytes, voteBytes, bytesOf}
+
+-- ---- one byte or one number, then the rest
+byte-to : (v : ℕ) (b l : List ℕ) (i j : ℕ) → i + 1 ≡ j → sets l i (v ∷ b) ≡ sets (set l i v) j b
+byte-to v b l i j e = ap (λ (k : ℕ). sets (set l i v) k b) (sym (add-one i) ∙ e)
+
+put-to : (k v : ℕ) (b l : List ℕ) (i j : ℕ) → i + k ≡ j → sets l i (le k v ++ b) ≡ sets (put k l i v) j b
+put-to k v b l i j e = put-then k v b l i ∙ ap (λ (n : ℕ). sets (put k l i v) n b) e
+
+piece-to : (a b l : List ℕ) (i n j : ℕ) → length a ≡ n → i + n ≡ j → sets l i (a ++ b) ≡ sets (sets l i a) j b
+piece-to a b l i n j e f = sets-then a b l i n e ∙ ap (λ (k : ℕ). sets (sets l i a) k b) f
+
+pub object-stores : (x : Object) (l : List ℕ) (i : ℕ)
+    → put 8
+    (set (put 8 (put 4 (put 2 (set (set l i (x .object)) (i + 1) (x .mode)) (i + 2) (x .came)) (i + 4) (x .version)) (i + 8) (x .value)) (i + 16)
+    (cond (x .given) 1 0))
+    (i + 17) (x .new) ≡ sets l i (objectBytes x)
+unfolding objectBytes
+object-stores x l i =
+    let t6 : List ℕ = le 8 (x .new) in
+    let t5 : List ℕ = cond (x .given) 1 0 ∷ t6 in
+    let t4 : List ℕ = le 8 (x .value) ++ t5 in
+    let t3 : List ℕ = le 4 (x .version) ++ t4 in
+    let t2 : List ℕ = le 2 (x .came) ++ t3 in
+    let t1 : List ℕ = x .mode ∷ t2 in
+    let l1 : List ℕ = set l i (x .object) in
+    let l2 : List ℕ = set l1 (i + 1) (x .mode) in
+    let l3 : List ℕ = put 2 l2 (i + 2) (x .came) in
+    let l4 : List ℕ = put 4 l3 (i + 4) (x .version) in
+    let l5 : List ℕ = put 8 l4 (i + 8) (x .value) in
+    let l6 : List ℕ = set l5 (i + 16) (cond (x .given) 1 0) in
+    sym
+    (byte-to (x .object) t1 l i (i + 1) refl
+    ∙ byte-to (x .mode) t2 l1 (i + 1) (i + 2) (omega arith)
+    ∙ put-to 2 (x .came) t3 l2 (i + 2) (i + 4) (omega arith)
+    ∙ put-to 4 (x .version) t4 l3 (i + 4) (i + 8) (omega arith)
+    ∙ put-to 8 (x .value) t5 l4 (i + 8) (i + 16) (omega arith)
+    ∙ byte-to (cond (x .given) 1 0) t6 l5 (i + 16) (i + 17) (omega arith)
+    ∙ sym (put-le 8 l6 (i + 17) (x .new)))
+
+module _ (c : Coordinator) (l : List ℕ) where
+  pub front-stores : put 2 (set (set (put 4 (put 4 l 0 (c .serial)) 4 (c .timestamp)) 8 (c .outcome)) 9 (c .phase)) 10 (c .live) ≡ sets l 0 (frontBytes c)
+  unfolding frontBytes
+  front-stores =
+      let t4 : List ℕ = le 2 (c .live) in
+      let t3 : List ℕ = c .phase ∷ t4 in
+      let t2 : List ℕ = c .outcome ∷ t3 in
+      let t1 : List ℕ = le 4 (c .timestamp) ++ t2 in
+      let l1 : List ℕ = put 4 l 0 (c .serial) in
+      let l2 : List ℕ = put 4 l1 4 (c .timestamp) in
+      let l3 : List ℕ = set l2 8 (c .outcome) in
+      let l4 : List ℕ = set l3 9 (c .phase) in
+      sym
+      (put-to 4 (c .serial) t1 l 0 4 refl
+      ∙ put-to 4 (c .timestamp) t2 l1 4 8 refl
+      ∙ byte-to (c .outcome) t3 l2 8 9 refl
+      ∙ byte-to (c .phase) t4 l3 9 10 refl
+      ∙ sym (put-le 2 l4 10 (c .live)))
+
+  pub quorum-stores : set (put 2 (put 2 l 38 (c .quorum)) 40 (c .contacted)) 42 (c .count % 256) ≡ sets l 38 (quorumBytes c)
+  unfolding quorumBytes
+  quorum-stores =
+      let t2 : List ℕ = c .count % 256 ∷ [] in
+      let t1 : List ℕ = le 2 (c .contacted) ++ t2 in
+      let l1 : List ℕ = put 2 l 38 (c .quorum) in
+      let l2 : List ℕ = put 2 l1 40 (c .contacted) in
+      sym
+      (put-to 2 (c .quorum) t1 l 38 40 refl
+      ∙ put-to 2 (c .contacted) t2 l1 40 42 refl)
+
+  pub vote-stores : put 2 (put 2 (put 2 l 243 (c .participants)) 245 (c .yes)) 247 (c .done) ≡ sets l 243 (voteBytes c)
+  unfolding voteBytes
+  vote-stores =
+      let t2 : List ℕ = le 2 (c .done) in
+      let t1 : List ℕ = le 2 (c .yes) ++ t2 in
+      let l1 : List ℕ = put 2 l 243 (c .participants) in
+      let l2 : List ℕ = put 2 l1 245 (c .yes) in
+      sym
+      (put-to 2 (c .participants) t1 l 243 245 refl
+      ∙ put-to 2 (c .yes) t2 l1 245 247 refl
+      ∙ sym (put-le 2 l2 247 (c .done)))
+
+-- ---- lengths
+pub length-object : (x : Object) → length (objectBytes x) ≡ 25
+unfolding objectBytes
+length-object x =
+    simp length-append (omega (arith, length-le 2 (x .came), length-le 4 (x .version), length-le 8 (x .value), length-le 8 (x .new)))
+
+pub length-front : (c : Coordinator) → length (frontBytes c) ≡ 12
+unfolding frontBytes
+length-front c = simp length-append (omega (arith, length-le 4 (c .serial), length-le 4 (c .timestamp), length-le 2 (c .live)))
+
+pub length-quorum : (c : Coordinator) → length (quorumBytes c) ≡ 5
+unfolding quorumBytes
+length-quorum c = simp length-append (omega (arith, length-le 2 (c .quorum), length-le 2 (c .contacted)))
+
+pub length-votes : (c : Coordinator) → length (voteBytes c) ≡ 6
+unfolding voteBytes
+length-votes c = simp length-append (omega (arith, length-le 2 (c .participants), length-le 2 (c .yes), length-le 2 (c .done)))
+
+module _ (c : Coordinator) (d13 : length (c .distances) ≡ 13) (o8 : length (c .objects) ≡ 8) (r13 : length (c .rivals) ≡ 13) where
+  length-distances : length (together (le 2) (c .distances)) ≡ 26
+  length-distances = omega (arith, length-together (le 2) 2 (length-le 2) (c .distances))
+
+  length-objects : length (together objectBytes (c .objects)) ≡ 200
+  length-objects = omega (arith, length-together objectBytes 25 length-object (c .objects))
+
+  length-rivals : length (together (le 4) (c .rivals)) ≡ 52
+  length-rivals = omega (arith, length-together (le 4) 4 (length-le 4) (c .rivals))
+
+  -- a record has 301 bytes
+  pub length-bytes : length (bytesOf c) ≡ 301
+  unfolding bytesOf
+  length-bytes =
+      simp length-append
+      (omega (arith, length-front c, length-distances, length-quorum c, length-objects, length-votes c, length-rivals))
+
+  pub record-stores : (l : List ℕ)
+      → sets
+      (sets (sets (sets (sets (sets l 0 (frontBytes c)) 12 (together (le 2) (c .distances))) 38 (quorumBytes c)) 43 (together objectBytes (c .objects))) 243
+      (voteBytes c)) 249 (together (le 4) (c .rivals)) ≡ sets l 0 (bytesOf c)
+  unfolding bytesOf
+  record-stores l =
+      let d : List ℕ = together (le 2) (c .distances) in
+      let o : List ℕ = together objectBytes (c .objects) in
+      let t5 : List ℕ = together (le 4) (c .rivals) in
+      let t4 : List ℕ = voteBytes c ++ t5 in
+      let t3 : List ℕ = o ++ t4 in
+      let t2 : List ℕ = quorumBytes c ++ t3 in
+      let l1 : List ℕ = sets l 0 (frontBytes c) in
+      let l2 : List ℕ = sets l1 12 d in
+      let l3 : List ℕ = sets l2 38 (quorumBytes c) in
+      let l4 : List ℕ = sets l3 43 o in
+      sym
+      (piece-to (frontBytes c) (d ++ t2) l 0 12 12 (length-front c) refl
+      ∙ piece-to d t2 l1 12 26 38 length-distances refl
+      ∙ piece-to (quorumBytes c) t3 l2 38 5 43 (length-quorum c) refl
+      ∙ piece-to o t4 l3 43 200 243 length-objects refl
+      ∙ piece-to (voteBytes c) t5 l4 243 6 249 (length-votes c) refl)
+
+-- bytes stored over all of as many
+pub stored-over : (vs l : List ℕ) → length vs ≡ 301 → length l ≡ 301 → sets l 0 vs ≡ vs
+stored-over vs l e f =
+    let gone : drop (0 + length vs) l ≡ [] = drop-of-length-le l (let z : length l ≤ 0 + length vs = omega arith in z) in
+    sets-eq vs l 0 (omega arith) ∙ ap (λ (x : List ℕ). vs ++ x) gone ∙ append-nil vs

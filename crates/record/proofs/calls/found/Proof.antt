@@ -1,0 +1,65 @@
+-- `record::calls::found`: refused bytes, or the call by value.
+use mathlib.Core.Path.{sym, ap, _∙_}
+use denote.Ref.{now}
+use Rattle.coordinator.specs.declared.Coordinator.{Coordinator}
+use Rattle.coordinator.specs.System.{tree}
+use Rattle.coordinator.specs.Calls.{foundOf}
+use Rattle.record.proofs.OnBytes.{checked-length, refused-called, refused-record, taken-called, taken-record}
+use borrow.Author.Needs.{needs}
+use Rattle.record.proofs.calls.found.Statement.{statement}
+use Rattle.record.proofs.calls.found.Tie as tie
+
+check-requires : tie.Need-check-requires
+check-requires c κs = search needs
+
+failed-requires : tie.Need-failed-requires
+failed-requires c κs = search needs
+
+same-length : tie.Need-same-length
+same-length c = search needs
+
+returns : tie.Need-returns
+returns c =
+    let x = c .before .before .before .before .before .args in
+    let e = c .before .before .check .ensures in
+    let h = c .before .if1 .taken in (
+      c .failed .ensures ∙ refused-called (λ (c : Coordinator). foundOf tree c (x .me) (x .object)) (now (x .bytes)) _ e h,
+      refused-record (λ (c : Coordinator). foundOf tree c (x .me) (x .object)) (now (x .bytes)) _ e h,
+    )
+
+read-requires : tie.Need-read-requires
+read-requires c κs = search needs
+
+found-requires : tie.Need-found-requires
+found-requires c κs = search needs
+
+keep-requires : tie.Need-keep-requires
+keep-requires c κs =
+    checked-length (now (c .before .before .before .before .before .before .before .before .args .bytes)) (sym (c .before .before .before .before .before .check .ensures) ∙ c .before .before .before .before .if1 .left)
+
+same-length-2 : tie.Need-same-length-2
+same-length-2 c = search needs
+
+returns-2 : tie.Need-returns-2
+returns-2 c =
+    let x = c .before .before .before .before .before .before .before .before .before .before .before .args in
+    let e = sym (c .before .before .before .before .before .before .before .before .check .ensures) ∙ c .before .before .before .before .before .before .before .if1 .left in
+    let s = c .before .before .before .before .found .ensures ∙ ap (λ (c : Coordinator). foundOf tree c (x .me) (x .object)) (c .before .before .before .before .before .read .ensures) in
+    let w = c .before .before .keep .ensures in (
+      w .0 ∙ taken-called (λ (c : Coordinator). foundOf tree c (x .me) (x .object)) (now (x .bytes)) e _ s,
+      w .1 ∙ taken-record (λ (c : Coordinator). foundOf tree c (x .me) (x .object)) (now (x .bytes)) e _ s,
+    )
+
+pub found-spec : {M : Type 1} → statement M
+found-spec =
+    tie.close
+    (tie.spec
+    check-requires
+    failed-requires
+    same-length
+    returns
+    read-requires
+    found-requires
+    keep-requires
+    same-length-2
+    returns-2)

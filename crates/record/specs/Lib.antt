@@ -1,0 +1,5 @@
+-- The coordinator's record as bytes: where each field stands (Layout), the record that bytes are and the bytes of a record (Record), and a call on
+-- bytes (Call).
+pub mod Layout
+pub mod Record
+pub mod Call

@@ -1,0 +1,173 @@
+// Each call on a record as bytes: 1 and 2 of the bytes first, else the call by value, written back where its number is 0.
+ghost use mathlib.Core.Path.{_≡_};
+ghost use lib.ListN.{length};
+ghost use Rattle.coordinator.specs.declared.Coordinator.{Coordinator};
+ghost use Rattle.coordinator.specs.System.{tree};
+ghost use Rattle.coordinator.specs.Calls.{beginOf, openOf, setOf, foundOf, reselectOf, requestCommitOf, abortOf};
+ghost use Rattle.coordinator.specs.Receive.{receiveOf};
+ghost use Rattle.record.specs.Call.{called, calledOf, kept, recordAfter, recordDue, recordDueBuffer};
+use crate::Called;
+use crate::load::read;
+use crate::store::write;
+use crate::verify::check;
+use coordinator::BeginWith;
+use coordinator::NODES;
+use coordinator::Step;
+use numbers::either;
+use numbers::refuse;
+use wire::Written;
+
+// The bytes are no record.
+fn failed(number: u8) -> Called
+    ensures { λ r. ⌜ r ≡ called number 0 ⌝ }
+{
+    Called { number, answer: 0 }
+}
+
+// The record of a step written back where its number is 0.
+fn keep(bytes: &mut [u8], s: Step) -> Called
+    requires { ⌜ length (now bytes) ≡ 301 ⌝ }
+    ensures { λ r. ⌜ r ≡ called (s .number) (s .answer) ⌝ }
+    ensures { λ r. ⌜ now (bytes .exit) ≡ kept s (now (bytes .entry)) ⌝ }
+{
+    if s.number == 0 {
+        let c = s.coordinator;
+        write(bytes, c);
+    }
+    Called {
+        number: s.number,
+        answer: s.answer,
+    }
+}
+
+// Begins a transaction; answers the chosen read quorum. Ruled out: the record written back at a refusal; a serial that does not rise.
+pub fn begin(bytes: &mut [u8], me: u8, w: BeginWith) -> Called
+    ensures { λ r. ⌜ r ≡ calledOf (λ (c : Coordinator). beginOf tree c me w) (now (bytes .entry)) ⌝ }
+    ensures { λ r. ⌜ now (bytes .exit) ≡ recordAfter (λ (c : Coordinator). beginOf tree c me w) (now (bytes .entry)) ⌝ }
+{
+    let number = check(bytes);
+    if number != 0 {
+        return failed(number);
+    }
+    let s = coordinator::begin(read(bytes), me, w);
+    keep(bytes, s)
+}
+
+// Opens an object, to read it or to write it. Ruled out: a read opened as a write; a record with its bytes of another object altered.
+pub fn open_read(bytes: &mut [u8], me: u8, object: u8) -> Called
+    ensures { λ r. ⌜ r ≡ calledOf (λ (c : Coordinator). openOf c me object 0) (now (bytes .entry)) ⌝ }
+    ensures { λ r. ⌜ now (bytes .exit) ≡ recordAfter (λ (c : Coordinator). openOf c me object 0) (now (bytes .entry)) ⌝ }
+{
+    let number = check(bytes);
+    if number != 0 {
+        return failed(number);
+    }
+    let s = coordinator::open_read(read(bytes), me, object);
+    keep(bytes, s)
+}
+
+pub fn open_write(bytes: &mut [u8], me: u8, object: u8) -> Called
+    ensures { λ r. ⌜ r ≡ calledOf (λ (c : Coordinator). openOf c me object 1) (now (bytes .entry)) ⌝ }
+    ensures { λ r. ⌜ now (bytes .exit) ≡ recordAfter (λ (c : Coordinator). openOf c me object 1) (now (bytes .entry)) ⌝ }
+{
+    let number = check(bytes);
+    if number != 0 {
+        return failed(number);
+    }
+    let s = coordinator::open_write(read(bytes), me, object);
+    keep(bytes, s)
+}
+
+// Gives a written object its new value. Ruled out: the value found overwritten; a damaged record taken.
+pub fn set_value(bytes: &mut [u8], me: u8, object: u8, value: u64) -> Called
+    ensures { λ r. ⌜ r ≡ calledOf (λ (c : Coordinator). setOf c me object value) (now (bytes .entry)) ⌝ }
+    ensures { λ r. ⌜ now (bytes .exit) ≡ recordAfter (λ (c : Coordinator). setOf c me object value) (now (bytes .entry)) ⌝ }
+{
+    let number = check(bytes);
+    if number != 0 {
+        return failed(number);
+    }
+    let s = coordinator::set_value(read(bytes), me, object, value);
+    keep(bytes, s)
+}
+
+// Answers the value found for a ready object. Ruled out: the new value; a byte altered.
+pub fn found(bytes: &mut [u8], me: u8, object: u8) -> Called
+    ensures { λ r. ⌜ r ≡ calledOf (λ (c : Coordinator). foundOf tree c me object) (now (bytes .entry)) ⌝ }
+    ensures { λ r. ⌜ now (bytes .exit) ≡ recordAfter (λ (c : Coordinator). foundOf tree c me object) (now (bytes .entry)) ⌝ }
+{
+    let number = check(bytes);
+    if number != 0 {
+        return failed(number);
+    }
+    let s = coordinator::found(read(bytes), me, object);
+    keep(bytes, s)
+}
+
+// Takes a fresh live mask and distances. Ruled out: the old quorum answered; the distances kept as they were.
+pub fn reselect(bytes: &mut [u8], me: u8, live: u16, distances: [u16; NODES]) -> Called
+    ensures { λ r. ⌜ r ≡ calledOf (λ (c : Coordinator). reselectOf tree c me live distances) (now (bytes .entry)) ⌝ }
+    ensures { λ r. ⌜ now (bytes .exit) ≡ recordAfter (λ (c : Coordinator). reselectOf tree c me live distances) (now (bytes .entry)) ⌝ }
+{
+    let number = check(bytes);
+    if number != 0 {
+        return failed(number);
+    }
+    let s = coordinator::reselect(read(bytes), me, live, distances);
+    keep(bytes, s)
+}
+
+// Asks for votes; answers the participants. Ruled out: 8 before 11; a phase that stays open.
+pub fn request_commit(bytes: &mut [u8], me: u8) -> Called
+    ensures { λ r. ⌜ r ≡ calledOf (λ (c : Coordinator). requestCommitOf tree c me) (now (bytes .entry)) ⌝ }
+    ensures { λ r. ⌜ now (bytes .exit) ≡ recordAfter (λ (c : Coordinator). requestCommitOf tree c me) (now (bytes .entry)) ⌝ }
+{
+    let number = check(bytes);
+    if number != 0 {
+        return failed(number);
+    }
+    let s = coordinator::request_commit(read(bytes), me);
+    keep(bytes, s)
+}
+
+// Gives the transaction up. Ruled out: a finishing one aborted; number 0 with the record left as it was.
+pub fn abort(bytes: &mut [u8], me: u8) -> Called
+    ensures { λ r. ⌜ r ≡ calledOf (λ (c : Coordinator). abortOf c me) (now (bytes .entry)) ⌝ }
+    ensures { λ r. ⌜ now (bytes .exit) ≡ recordAfter (λ (c : Coordinator). abortOf c me) (now (bytes .entry)) ⌝ }
+{
+    let number = check(bytes);
+    if number != 0 {
+        return failed(number);
+    }
+    let s = coordinator::abort(read(bytes), me);
+    keep(bytes, s)
+}
+
+// Delivers a message; answers what it brought about. Ruled out: a message for another node taken; a yes that leaves the bytes as they were.
+pub fn receive(bytes: &mut [u8], me: u8, message: &[u8]) -> Called
+    ensures { λ r. ⌜ r ≡ calledOf (λ (c : Coordinator). receiveOf tree c me (now (message .entry))) (now (bytes .entry)) ⌝ }
+    ensures { λ r. ⌜ now (bytes .exit) ≡ recordAfter (λ (c : Coordinator). receiveOf tree c me (now (message .entry))) (now (bytes .entry)) ⌝ }
+{
+    let number = check(bytes);
+    if number != 0 {
+        return failed(number);
+    }
+    let s = coordinator::receive(read(bytes), me, message);
+    keep(bytes, s)
+}
+
+// Writes what is due to a node: 1 for either length, 2, then the numbers of `due`.
+// Ruled out: 2 before 1 for a short buffer; a buffer altered where the bytes are no record.
+pub fn write_due(bytes: &[u8], me: u8, node: u8, object: u8, out: &mut [u8]) -> Written
+    ensures { λ r. ⌜ r ≡ recordDue (now (bytes .entry)) me node object (length (now (out .entry))) ⌝ }
+    ensures { λ r. ⌜ now (out .exit) ≡ recordDueBuffer (now (bytes .entry)) me node object (now (out .entry)) ⌝ }
+{
+    let checked = check(bytes);
+    let bad = refuse(numbers::DAMAGED, checked == numbers::DAMAGED, 0);
+    let short = either(checked == numbers::LENGTH, out.len() < wire::LONGEST);
+    let number = refuse(numbers::LENGTH, short, bad);
+    if number != 0 {
+        return Written { number, length: 0 };
+    }
+    due::write(read(bytes), me, node, object, out)
+}

@@ -1,0 +1,126 @@
+// The record that bytes are. Bytes that are not there read as 0.
+ghost use mathlib.Core.Path.{_≡_};
+ghost use Prim.Native.Nat.{_<_};
+ghost use Rattle.record.specs.Record.{objectOf, distancesOf, objectsOf, rivalsOf, recordOf};
+use crate::CAME_IN;
+use crate::CONTACTED;
+use crate::COUNT;
+use crate::DISTANCE_SIZE;
+use crate::DISTANCES;
+use crate::DONE;
+use crate::GIVEN_IN;
+use crate::LIVE;
+use crate::MODE_IN;
+use crate::NEW_IN;
+use crate::OBJECT_SIZE;
+use crate::OBJECTS_PLACE;
+use crate::OUTCOME;
+use crate::PARTICIPANTS;
+use crate::PHASE;
+use crate::QUORUM;
+use crate::RIVAL_SIZE;
+use crate::RIVALS;
+use crate::SERIAL;
+use crate::TIMESTAMP;
+use crate::VALUE_IN;
+use crate::VERSION_IN;
+use crate::YES;
+use coordinator::Coordinator;
+use coordinator::NODES;
+use coordinator::OBJECTS;
+use coordinator::Object;
+
+// The object that starts at a place.
+fn object_of(bytes: &[u8], at: usize) -> Object
+    requires { ⌜ at < 8192 ⌝ }
+    ensures { λ r. ⌜ r ≡ objectOf (now (bytes .entry)) at ⌝ }
+{
+    Object {
+        object: octets::get_u8(bytes, at),
+        mode: octets::get_u8(bytes, at + MODE_IN),
+        came: octets::get_u16(bytes, at + CAME_IN),
+        version: octets::get_u32(bytes, at + VERSION_IN),
+        value: octets::get_u64(bytes, at + VALUE_IN),
+        given: octets::get_u8(bytes, at + GIVEN_IN) == 1,
+        new: octets::get_u64(bytes, at + NEW_IN),
+    }
+}
+
+// The distances, the objects and the rivals' serials.
+fn distances_of(bytes: &[u8]) -> [u16; NODES]
+    ensures { λ r. ⌜ r ≡ distancesOf (now (bytes .entry)) ⌝ }
+{
+    let mut a = [0u16; NODES];
+    let mut i = 0;
+    while i < NODES {
+        a[i] = octets::get_u16(bytes, DISTANCES + DISTANCE_SIZE * i);
+        i += 1;
+    }
+    a
+}
+
+fn objects_of(bytes: &[u8]) -> [Object; OBJECTS]
+    ensures { λ r. ⌜ r ≡ objectsOf (now (bytes .entry)) ⌝ }
+{
+    let none = Object {
+        object: 0,
+        mode: 0,
+        came: 0,
+        version: 0,
+        value: 0,
+        given: false,
+        new: 0,
+    };
+    let mut a = [none; OBJECTS];
+    let mut i = 0;
+    while i < OBJECTS {
+        let x = object_of(bytes, OBJECTS_PLACE + OBJECT_SIZE * i);
+        a[i] = x;
+        i += 1;
+    }
+    a
+}
+
+fn rivals_of(bytes: &[u8]) -> [u32; NODES]
+    ensures { λ r. ⌜ r ≡ rivalsOf (now (bytes .entry)) ⌝ }
+{
+    let mut a = [0u32; NODES];
+    let mut i = 0;
+    while i < NODES {
+        a[i] = octets::get_u32(bytes, RIVALS + RIVAL_SIZE * i);
+        i += 1;
+    }
+    a
+}
+
+// A byte as a count.
+fn wide(x: u8) -> usize
+    ensures { λ r. ⌜ r ≡ x ⌝ }
+{
+    x as usize
+}
+
+// The record. Ruled out: yes and done the other way round; an object's value found taken for its new one.
+pub fn read(bytes: &[u8]) -> Coordinator
+    ensures { λ r. ⌜ r ≡ recordOf (now (bytes .entry)) ⌝ }
+{
+    let distances = distances_of(bytes);
+    let objects = objects_of(bytes);
+    let rivals = rivals_of(bytes);
+    Coordinator {
+        serial: octets::get_u32(bytes, SERIAL),
+        timestamp: octets::get_u32(bytes, TIMESTAMP),
+        outcome: octets::get_u8(bytes, OUTCOME),
+        phase: octets::get_u8(bytes, PHASE),
+        live: octets::get_u16(bytes, LIVE),
+        distances,
+        quorum: octets::get_u16(bytes, QUORUM),
+        contacted: octets::get_u16(bytes, CONTACTED),
+        count: wide(octets::get_u8(bytes, COUNT)),
+        objects,
+        participants: octets::get_u16(bytes, PARTICIPANTS),
+        yes: octets::get_u16(bytes, YES),
+        done: octets::get_u16(bytes, DONE),
+        rivals,
+    }
+}

@@ -1,0 +1,166 @@
+// A record written over bytes, piece by piece.
+ghost use mathlib.Core.Path.{_≡_};
+ghost use mathlib.Core.Bool.{cond};
+ghost use Prim.Native.Nat.{_<_, _%_};
+ghost use lib.ListN.{length};
+ghost use lib.Seq.{sets};
+ghost use Rattle.octets.specs.Octets.{le};
+ghost use Rattle.wire.specs.Encode.{together};
+ghost use Rattle.record.specs.Layout.{distancesPlace, quorumPlace, objectsPlace, participantsPlace, rivalsPlace};
+ghost use Rattle.record.specs.Record.{objectBytes, frontBytes, quorumBytes, voteBytes, bytesOf, written};
+ghost use Rattle.record.specs.Call.{blankNumber, blankAfter};
+use crate::CAME_IN;
+use crate::CONTACTED;
+use crate::COUNT;
+use crate::DISTANCE_SIZE;
+use crate::DISTANCES;
+use crate::DONE;
+use crate::GIVEN_IN;
+use crate::LIVE;
+use crate::MODE_IN;
+use crate::NEW_IN;
+use crate::OBJECT_SIZE;
+use crate::OBJECTS_PLACE;
+use crate::OUTCOME;
+use crate::PARTICIPANTS;
+use crate::PHASE;
+use crate::QUORUM;
+use crate::RIVAL_SIZE;
+use crate::RIVALS;
+use crate::SERIAL;
+use crate::SIZE;
+use crate::TIMESTAMP;
+use crate::VALUE_IN;
+use crate::VERSION_IN;
+use crate::YES;
+use coordinator::Coordinator;
+use coordinator::NODES;
+use coordinator::OBJECTS;
+use coordinator::Object;
+
+// 1 for yes, 0 for no.
+fn bit(b: bool) -> u8
+    ensures { λ r. ⌜ r ≡ cond b 1 0 ⌝ }
+{
+    if b { 1 } else { 0 }
+}
+
+// The low byte of a count.
+fn low(n: usize) -> u8
+    ensures { λ r. ⌜ r ≡ n % 256 ⌝ }
+{
+    (n % 256) as u8
+}
+
+// An object at a place.
+fn put_object(bytes: &mut [u8], at: usize, x: Object)
+    requires { ⌜ at < 8192 ⌝ }
+    ensures { λ r. ⌜ now (bytes .exit) ≡ sets (now (bytes .entry)) at (objectBytes x) ⌝ }
+{
+    octets::put_u8(bytes, at, x.object);
+    octets::put_u8(bytes, at + MODE_IN, x.mode);
+    octets::put_u16(bytes, at + CAME_IN, x.came);
+    octets::put_u32(bytes, at + VERSION_IN, x.version);
+    octets::put_u64(bytes, at + VALUE_IN, x.value);
+    octets::put_u8(bytes, at + GIVEN_IN, bit(x.given));
+    octets::put_u64(bytes, at + NEW_IN, x.new);
+}
+
+// The distances, the objects and the rivals' serials.
+fn put_distances(bytes: &mut [u8], list: [u16; NODES])
+    ensures { λ r. ⌜ now (bytes .exit) ≡ sets (now (bytes .entry)) distancesPlace (together (le 2) list) ⌝ }
+    ensures { λ r. ⌜ length list ≡ 13 ⌝ }
+{
+    let mut i = 0;
+    while i < NODES {
+        octets::put_u16(bytes, DISTANCES + DISTANCE_SIZE * i, list[i]);
+        i += 1;
+    }
+}
+
+fn put_objects(bytes: &mut [u8], list: [Object; OBJECTS])
+    ensures { λ r. ⌜ now (bytes .exit) ≡ sets (now (bytes .entry)) objectsPlace (together objectBytes list) ⌝ }
+    ensures { λ r. ⌜ length list ≡ 8 ⌝ }
+{
+    let mut i = 0;
+    while i < OBJECTS {
+        let x = list[i];
+        put_object(bytes, OBJECTS_PLACE + OBJECT_SIZE * i, x);
+        i += 1;
+    }
+}
+
+fn put_rivals(bytes: &mut [u8], list: [u32; NODES])
+    ensures { λ r. ⌜ now (bytes .exit) ≡ sets (now (bytes .entry)) rivalsPlace (together (le 4) list) ⌝ }
+    ensures { λ r. ⌜ length list ≡ 13 ⌝ }
+{
+    let mut i = 0;
+    while i < NODES {
+        octets::put_u32(bytes, RIVALS + RIVAL_SIZE * i, list[i]);
+        i += 1;
+    }
+}
+
+// The numbers between them.
+fn put_front(bytes: &mut [u8], c: Coordinator)
+    ensures { λ r. ⌜ now (bytes .exit) ≡ sets (now (bytes .entry)) 0 (frontBytes c) ⌝ }
+{
+    octets::put_u32(bytes, SERIAL, c.serial);
+    octets::put_u32(bytes, TIMESTAMP, c.timestamp);
+    octets::put_u8(bytes, OUTCOME, c.outcome);
+    octets::put_u8(bytes, PHASE, c.phase);
+    octets::put_u16(bytes, LIVE, c.live);
+}
+
+fn put_quorum(bytes: &mut [u8], c: Coordinator)
+    ensures { λ r. ⌜ now (bytes .exit) ≡ sets (now (bytes .entry)) quorumPlace (quorumBytes c) ⌝ }
+{
+    octets::put_u16(bytes, QUORUM, c.quorum);
+    octets::put_u16(bytes, CONTACTED, c.contacted);
+    octets::put_u8(bytes, COUNT, low(c.count));
+}
+
+fn put_votes(bytes: &mut [u8], c: Coordinator)
+    ensures { λ r. ⌜ now (bytes .exit) ≡ sets (now (bytes .entry)) participantsPlace (voteBytes c) ⌝ }
+{
+    octets::put_u16(bytes, PARTICIPANTS, c.participants);
+    octets::put_u16(bytes, YES, c.yes);
+    octets::put_u16(bytes, DONE, c.done);
+}
+
+// The whole record from the front on.
+fn fill(bytes: &mut [u8], c: Coordinator)
+    ensures { λ r. ⌜ now (bytes .exit) ≡ sets (now (bytes .entry)) 0 (bytesOf c) ⌝ }
+    ensures { λ r. ⌜ length (bytesOf c) ≡ 301 ⌝ }
+{
+    let distances = c.distances;
+    let objects = c.objects;
+    let rivals = c.rivals;
+    put_front(bytes, c);
+    put_distances(bytes, distances);
+    put_quorum(bytes, c);
+    put_objects(bytes, objects);
+    put_votes(bytes, c);
+    put_rivals(bytes, rivals);
+}
+
+// Writes a record over bytes of its length; others are left alone. Ruled out: yes and done the other way round; a byte left as it was.
+pub fn write(bytes: &mut [u8], c: Coordinator)
+    ensures { λ r. ⌜ now (bytes .exit) ≡ written c (now (bytes .entry)) ⌝ }
+{
+    if bytes.len() == SIZE {
+        fill(bytes, c);
+    }
+}
+
+// Writes a blank record: 1 for another length. Ruled out: a byte left as it was; a byte written where the length is another.
+pub fn blank(bytes: &mut [u8]) -> u8
+    ensures { λ r. ⌜ r ≡ blankNumber (now (bytes .entry)) ⌝ }
+    ensures { λ r. ⌜ now (bytes .exit) ≡ blankAfter (now (bytes .entry)) ⌝ }
+{
+    if bytes.len() != SIZE {
+        return numbers::LENGTH;
+    }
+    write(bytes, coordinator::blank());
+    0
+}
