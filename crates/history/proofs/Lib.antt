@@ -15,5 +15,10 @@ pub mod Turns
 pub mod Words
 pub mod Images
 pub mod Acts
+pub mod Encoded
 pub mod Answers
 pub mod Replies
+pub mod Arrive
+pub mod Calls
+pub mod Answered
+pub mod Served

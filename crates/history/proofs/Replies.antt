@@ -7,7 +7,7 @@ use mathlib.Core.Option.{none, some}
 use Prim.Native.Nat.{ℕ, _<_, _≤_}
 use native.Mathlib.Decide.{ℕ-discrete}
 use native.Mathlib.Omega.{arith}
-use lib.Dec.{eqb, ltb}
+use lib.Dec.{eqb, ltb, lit<}
 use lib.ListN.{getD}
 use borrow.Author.Tests.{eqb-true, eqb-false, eq-eqb, ne-eqb, ltb-true}
 use Rattle.octets.proofs.Laws.{Bytes}
@@ -35,6 +35,7 @@ use Rattle.protocol.specs.Refine.Growth.{Late, Grows}
 use Rattle.history.specs.Ledger.{txOf, rootYes, firstOnly, logPut}
 use Rattle.history.proofs.Sim.{copyOfEntry, Match, Tells, Sim}
 use Rattle.history.proofs.Words.{txIn, kind-of, from-of, tx-of, word-of, entry-of, check-of}
+use Rattle.history.proofs.Encoded.{bytes-encode}
 use Rattle.history.proofs.Acts.{Acted, unmoved, fetched, voted-no, voted-yes, voted-before, late-here, dropped-early, dropped-here, applied-here, outcome-word}
 use Rattle.history.proofs.Answers.{done-fits, copy-fits, vote-fits, none-small, yes-fits, here-fits, bytes-entered}
 
@@ -60,6 +61,7 @@ tells-answer h v sent a f w no3 no5 c y = record {
 pub record Heard (τ : State ℕ) (log l' : List Tx) (x : Tx) (a : Message) : Type 0 where
   pub fits : Fits a
   pub formed : wellFormed a ≡ true
+  pub bytes : Bytes (encode a)
   pub tells : Tells (τ .history) (τ .votes) (τ .sent) (encode a)
   pub logs : l' ≡ logPut (some (encode a)) log
   pub a-done : a .kind ≡ 6 → Late (τ .ends) (a .from) x
@@ -85,7 +87,7 @@ then a f = record {
 }
 
 module _ (st : Station) (σ : State ℕ) (log : List Tx) (sim : Sim st σ log) (n : ℕ) (small : n < 13) (m : Message) (k : Taken (st .images n) m)
-    (bytes : Bytes (st .images n)) where
+    (small-bytes : Bytes (st .images n)) where
   abbrev l : List ℕ
   l = st .images n
 
@@ -106,7 +108,7 @@ module _ (st : Station) (σ : State ℕ) (log : List Tx) (sim : Sim st σ log) (
       → Heard τ log l' x (copyTo n m (copyHere l e₁))
   unfolding copyHere
   copy-said τ l' e i =
-      let g = here-fits l bytes e₁ (omega (arith, wanted-small .0)) (omega (arith, wanted-small .1)) in
+      let g = here-fits l small-bytes e₁ (omega (arith, wanted-small .0)) (omega (arith, wanted-small .1)) in
       let a = copyTo n m (copyHere l e₁) in
       let f = copy-fits n m (k .fits) (copyHere l e₁) g in
       let c = wanted-fits (m .kind) (m .entries) (entries-of m (k .formed)) in
@@ -114,6 +116,7 @@ module _ (st : Station) (σ : State ℕ) (log : List Tx) (sim : Sim st σ log) (
       record {
         fits = f;
         formed = w;
+        bytes = bytes-encode a f w (lit< tt) tt;
         tells = tells-answer (τ .history) (τ .votes) (τ .sent) a f w (λ q. let z : ⊥ = omega arith in z) (λ q. let z : ⊥ = omega arith in z)
             (λ q. i) (λ q. absurd (let z : ⊥ = omega arith in z));
         logs = e ∙ no-yes a f log refl;
@@ -143,6 +146,7 @@ module _ (st : Station) (σ : State ℕ) (log : List Tx) (sim : Sim st σ log) (
       record {
         fits = f;
         formed = w;
+        bytes = bytes-encode a f w (lit< tt) (lit< tt, tt);
         tells = tells-answer (τ .history) (τ .votes) (τ .sent) a f w (λ q. let z : ⊥ = omega arith in z) (λ q. let z : ⊥ = omega arith in z)
             (λ q. absurd (let z : ⊥ = omega arith in z)) (λ q u. absurd (let z : ⊥ = omega arith in z));
         logs = e ∙ no-yes a f log refl;
@@ -157,6 +161,7 @@ module _ (st : Station) (σ : State ℕ) (log : List Tx) (sim : Sim st σ log) (
       record {
         fits = f;
         formed = w;
+        bytes = bytes-encode a f w (lit< tt) (lit< tt, tt);
         tells = tells-answer (τ .history) (τ .votes) (τ .sent) a f w (λ q. let z : ⊥ = omega arith in z) (λ q. let z : ⊥ = omega arith in z)
             (λ q. absurd (let z : ⊥ = omega arith in z)) (λ q u. v);
         logs = by-cases (ℕ-discrete n 0)
@@ -180,7 +185,7 @@ module _ (st : Station) (σ : State ℕ) (log : List Tx) (sim : Sim st σ log) (
         (λ τ l'. Said τ log l' x (cond v (says (voteTo n m noSerials 0)) (says (voteTo n m (serialsOf (entered l m) (rivalsOf (entered l m) m)) 1))))
     judged a true v = then (voted-no st σ log sim n m k a v) (λ τ l' e. no-said τ l' e)
     judged a false v = then (voted-yes st σ log sim n m k a v asked match)
-        (λ τ l' z. yes-said (serialsOf (entered l m) (rivalsOf (entered l m) m)) (yes-fits n m (k .fits) (entered l m) (bytes-entered l m bytes))
+        (λ τ l' z. yes-said (serialsOf (entered l m) (rivalsOf (entered l m) m)) (yes-fits n m (k .fits) (entered l m) (bytes-entered l m small-bytes))
         (yes-formed n m (entered l m) named) τ l' (z .1) (first-time l' (z .0) (z .2)) (other-time l' (z .0)))
 
     again : (p q : Bool) → eqb (standing l m) 2 ≡ p → eqb (standing l m) 3 ≡ q
@@ -215,6 +220,7 @@ module _ (st : Station) (σ : State ℕ) (log : List Tx) (sim : Sim st σ log) (
       record {
         fits = f;
         formed = w;
+        bytes = bytes-encode a f w (lit< tt) tt;
         tells = tells-answer (τ .history) (τ .votes) (τ .sent) a f w (λ q. let z : ⊥ = omega arith in z) (λ q. let z : ⊥ = omega arith in z)
             (λ q. absurd (let z : ⊥ = omega arith in z)) (λ q. absurd (let z : ⊥ = omega arith in z));
         logs = e ∙ no-yes a f log refl;

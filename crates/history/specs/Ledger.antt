@@ -182,8 +182,8 @@ noted L (reselect n live distances) answer p = L
 noted L (requestCommit n) answer p = withParticipants L n answer
 noted L (abort n) answer p = L
 noted L (send n to t) answer p = withPut L (L .pool) p
-noted L (delivery k true) answer p = withDelivered (withPut L (L .pool) p) (getD (L .pool) k []) answer p
-noted L (delivery k false) answer p = withDelivered (withPut L (without k (L .pool)) p) (getD (L .pool) k []) answer p
+noted L (delivery k kept) answer p =
+    withDelivered (withPut L (cond kept (L .pool) (without k (L .pool))) p) (getD (L .pool) k []) answer p
 noted L (drop k) answer p = withPut L (without k (L .pool)) p
 noted L (switch n up) answer p = L
 

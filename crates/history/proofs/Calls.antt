@@ -1,0 +1,219 @@
+-- Each host call at a station: refused, nothing changes and nothing is told; taken, the record and what is told of it go together.
+use mathlib.Core.Path.{_≡_, refl, sym, _∙_, ap, subst}
+use mathlib.Core.Logic.{_≢_, _⊎_, inl, inr}
+use mathlib.Core.Bool.{Bool, true, false, cond, not, _||_}
+use mathlib.Core.List.{List, [], _∷_}
+use mathlib.Core.Option.{none}
+use Prim.Native.Nat.{ℕ, _<_}
+use native.Mathlib.Omega.{arith}
+use lib.Dec.{T, eqb, ltb}
+use lib.ListN.{length}
+use borrow.Author.Tests.{eqb-true, eqb-false, ne-eqb, ltb-true}
+use Rattle.mask.specs.Mask.{contains, joined}
+use Rattle.mask.proofs.Tests.{T-true}
+use Rattle.numbers.specs.Refusal.{Refusal, firstOf}
+use Rattle.quorum.specs.declared.Kind.the-variants.{Write}
+use Rattle.quorum.specs.Quorum.{isQuorum}
+use Rattle.quorum.specs.Nearest.{maskOf}
+use Rattle.coordinator.specs.declared.Coordinator.{Coordinator}
+use Rattle.coordinator.specs.declared.BeginWith.{BeginWith}
+use Rattle.coordinator.specs.declared.Step.{Step}
+use Rattle.coordinator.specs.System.{tree}
+use Rattle.coordinator.specs.State.{thirteen, eight, idlePhase, openPhase, votingPhase, objectAt, isOpen, stepOf}
+use Rattle.coordinator.specs.Calls.{beginRefusals, begun, beginOf, openRefusals, opened, openOf, setRefusals, withNew, setOf, foundRefusals, foundOf}
+use Rattle.coordinator.specs.Calls.{reselectRefusals, reselected, reselectOf, requestCommitRefusals, requested, requestCommitOf, abortRefusals, endedAborted, abortOf}
+use Rattle.coordinator.proofs.Refusals.{Clear, numbered, clear}
+use Rattle.clauses.proofs.Facts.{Meets}
+use Rattle.clauses.proofs.Cases.{either-of}
+use Rattle.clauses.proofs.Quorums.{tree-quorums}
+use Rattle.clauses.proofs.Keep.{begin-keeps, open-keeps, set-keeps, reselect-keeps, request-keeps, abort-keeps}
+use Rattle.station.specs.Station.{Station, withRecord}
+use Rattle.station.specs.Step.{Call, begin, openRead, openWrite, setValue, found, reselect, requestCommit, abort, Outcome, refusedWith, whenOff, hosted}
+use Rattle.station.specs.Run.{eventOf}
+use Rattle.protocol.specs.Proof.Tables.{on, clash}
+use Rattle.history.specs.Ledger.{Ledger, withMode, noted, note}
+use Rattle.history.proofs.Books.{Past, More, World, Books, found-next}
+use Rattle.history.proofs.Quiet.{reselect-owner}
+use Rattle.history.proofs.Sim.{modeOf}
+use Rattle.history.proofs.Host.{begin-world, open-world, set-world, same-world, SameTold, SameObjects, objects-still}
+use Rattle.history.proofs.Turns.{request-world, abort-world}
+
+-- the negation that a refusal does not fit
+pub not-false : (b : Bool) → not b ≡ false → b ≡ true
+not-false true e = refl
+not-false false e = absurd (let z : true ≡ false = e in clash (cc))
+
+pub or-false : (a b : Bool) → (a || b) ≡ false → (a ≡ false) × (b ≡ false)
+or-false true b e = absurd (let z : true ≡ false = e in clash (cc))
+or-false false b e = (refl, e)
+
+-- the record after a call whose refusals do not fit
+zero-first : (rs : List Refusal) → Clear rs → firstOf rs ≡ 0
+zero-first [] k = refl
+zero-first (r ∷ rs) k = ap (λ (b : Bool). cond b (r .number) (firstOf rs)) (k .0) ∙ zero-first rs (k .1)
+
+pub taken-record : (rs : List Refusal) (answer : ℕ) (c c' : Coordinator) → Clear rs → stepOf (firstOf rs) answer c c' .coordinator ≡ c'
+unfolding stepOf
+taken-record rs answer c c' k = ap (λ (z : ℕ). cond {A = Step} (eqb z 0) (record { number = 0; answer = answer; coordinator = c' })
+    (record { number = z; answer = 0; coordinator = c }) .coordinator) (zero-first rs k)
+
+pub told-still : {L : Ledger} → SameTold L L
+told-still = record { serials = refl; modes = refl; news = refl; parties = refl }
+
+module _ (st : Station) (L : Ledger) (F : Past) (w : World st L F) where
+  -- what holds after a step with this outcome
+  abbrev pub Next : Call → Outcome → Type 0
+  Next call r = World (r .station) (note L (eventOf call r)) (More F (r .station))
+
+  -- the same station once more
+  pub again : World st L (More F st)
+  again = let b = w .books in record {
+    state = w .state;
+    log = w .log;
+    sim = w .sim;
+    valid = w .valid;
+    books = record {
+      pool-as = b .pool-as;
+      log-as = b .log-as;
+      decided = b .decided;
+      present = b .present;
+      dones = b .dones;
+      found = found-next F st (w .state) (w .log) (w .sim) (w .valid .records) (b .found .still) (b .found .carried) (λ x t a q. inl (b .found .had x t a q));
+    };
+  }
+
+  -- a refusal
+  pub refused-next : (call : Call) (number : ℕ) → (number ≡ 0 → ⊥) → Next call (refusedWith number st)
+  unfolding note
+  refused-next call number e =
+      subst (λ (b : Bool). World st (cond b (noted L call 0 none) L) (More F st)) (sym (ne-eqb number 0 e)) again
+
+  off-number : (number : ℕ) → whenOff number ≡ 0 → ⊥
+  off-number number = by (eqb number 4) (eqb number 10) refl refl
+    where
+      by : (a b : Bool) → eqb number 4 ≡ a → eqb number 10 ≡ b → cond (a || b) number 5 ≡ 0 → ⊥
+      by true b p q e = let z = eqb-true number 4 p in let y : ⊥ = omega arith in y
+      by false true p q e = let z = eqb-true number 10 q in let y : ⊥ = omega arith in y
+      by false false p q e = let y : ⊥ = omega arith in y
+
+  -- ---- a host call: its refusals, its answer, the record after it
+  module _ (n : ℕ) (call : Call) (rs : List Refusal) (answer : ℕ) (c' : Coordinator) (all : T (numbered rs)) where
+    abbrev c : Coordinator
+    c = st .records n
+
+    abbrev After : Type 0
+    After = World (withRecord st n c') (noted L call answer none) (More F (withRecord st n c'))
+
+    by-number : (up b : Bool) → eqb (firstOf rs) 0 ≡ b → (Clear rs → After)
+        → Next call (cond up (cond (eqb (cond {A = Step} b (record { number = 0; answer = answer; coordinator = c' })
+        (record { number = firstOf rs; answer = 0; coordinator = c }) .number) 0)
+        (record { number = 0; answer = cond {A = Step} b (record { number = 0; answer = answer; coordinator = c' })
+        (record { number = firstOf rs; answer = 0; coordinator = c }) .answer; put = none;
+        station = withRecord st n (cond {A = Step} b (record { number = 0; answer = answer; coordinator = c' })
+        (record { number = firstOf rs; answer = 0; coordinator = c }) .coordinator) })
+        (refusedWith (cond {A = Step} b (record { number = 0; answer = answer; coordinator = c' }) (record { number = firstOf rs; answer = 0; coordinator = c }) .number) st))
+        (refusedWith (whenOff (cond {A = Step} b (record { number = 0; answer = answer; coordinator = c' })
+        (record { number = firstOf rs; answer = 0; coordinator = c }) .number)) st))
+    unfolding note
+    by-number true true e f = f (clear rs all (eqb-true (firstOf rs) 0 e))
+    by-number true false e f =
+        subst (λ (b : Bool). Next call (cond b (record { number = 0; answer = 0; put = none; station = withRecord st n c }) (refusedWith (firstOf rs) st))) (sym e)
+        (refused-next call (firstOf rs) (eqb-false (firstOf rs) 0 e))
+    by-number false true e f = refused-next call (whenOff 0) (off-number 0)
+    by-number false false e f = refused-next call (whenOff (firstOf rs)) (off-number (firstOf rs))
+
+    pub host-next : (Clear rs → After) → Next call (hosted st n (stepOf (firstOf rs) answer c c'))
+    unfolding hosted stepOf
+    host-next f = by-number (contains (st .on) n) (eqb (firstOf rs) 0) refl f
+
+
+  -- ---- the calls
+  module _ (n : ℕ) where
+    abbrev d : Coordinator
+    d = st .records n
+
+    abbrev md : Meets tree d
+    md = w .valid .records n
+
+    pub begin-next : (a : BeginWith) → length (a .distances) ≡ thirteen → Next (begin n a) (hosted st n (beginOf tree d n a))
+    unfolding beginOf beginRefusals noted
+    begin-next a size =
+        let chosen = tree .nearestRead (a .live) (a .distances) in
+        let rs = beginRefusals d n a chosen in
+        host-next n (begin n a) rs (maskOf chosen) (begun d a (maskOf chosen)) tt (λ k.
+        begin-world st L F w n a (maskOf chosen) (eqb-true (d .phase) idlePhase (not-false _ (k .1 .0)))
+        (subst (Meets tree) (taken-record rs (maskOf chosen) d (begun d a (maskOf chosen)) k) (begin-keeps tree tree-quorums d n md a size)))
+
+    open-next : (call : Call) (t mode : ℕ) → mode < 2 → ((answer : ℕ) → noted L call answer none ≡ withMode L n t (modeOf mode))
+        → Next call (hosted st n (openOf d n t mode))
+    unfolding openOf openRefusals
+    open-next call t mode small says =
+        let rs = openRefusals d n t in
+        host-next n call rs 0 (opened d t mode) tt (λ k.
+        subst (λ (L' : Ledger). World (withRecord st n (opened d t mode)) L' (More F (withRecord st n (opened d t mode)))) (sym (says 0))
+        (open-world st L F w n (eqb-true (d .phase) openPhase (not-false _ (k .1 .0))) t mode (or-false (not (ltb t 64)) (isOpen d t) (k .1 .1 .0) .1)
+        (ltb-true (d .count) eight (not-false _ (k .1 .1 .1 .0)))
+        (subst (Meets tree) (taken-record rs 0 d (opened d t mode) k) (open-keeps tree tree-quorums d n md t mode small))))
+
+    pub read-next : (t : ℕ) → Next (openRead n t) (hosted st n (openOf d n t 0))
+    unfolding noted
+    read-next t = open-next (openRead n t) t 0 (omega arith) (λ answer. refl)
+
+    pub write-next : (t : ℕ) → Next (openWrite n t) (hosted st n (openOf d n t 1))
+    unfolding noted
+    write-next t = open-next (openWrite n t) t 1 (omega arith) (λ answer. refl)
+
+    pub set-next : (t v : ℕ) → Next (setValue n t v) (hosted st n (setOf d n t v))
+    unfolding setOf setRefusals noted
+    set-next t v =
+        let rs = setRefusals d n t in
+        host-next n (setValue n t v) rs 0 (withNew d t v) tt (λ k.
+        set-world st L F w n (eqb-true (d .phase) openPhase (not-false _ (k .1 .0))) t (not-false (isOpen d t) (or-false (not (isOpen d t)) (eqb (objectAt d t .mode) 0) (k .1 .1 .0) .0)) v
+        (subst (Meets tree) (taken-record rs 0 d (withNew d t v) k) (set-keeps tree tree-quorums d n md t v)))
+
+    pub found-next' : (t : ℕ) → Next (found n t) (hosted st n (foundOf tree d n t))
+    unfolding foundOf foundRefusals noted
+    found-next' t = host-next n (found n t) (foundRefusals tree d n t) (objectAt d t .value) d tt (λ k.
+        same-world st L F w n d (st .pool) L (objects-still d) told-still (w .sim .owners n) md (λ b i. i) (w .books .pool-as) refl refl refl)
+
+    same-objects : (live : ℕ) (distances : List ℕ) (q : ℕ) → SameObjects d (reselected d live distances q)
+    unfolding reselected
+    same-objects live distances q = record { serial = refl; phase = λ e. e; phase' = λ e. e; objects = refl; count = refl; participants = refl }
+
+    pub reselect-next : (live : ℕ) (distances : List ℕ) → length distances ≡ thirteen → Next (reselect n live distances) (hosted st n (reselectOf tree d n live distances))
+    unfolding reselectOf reselectRefusals noted
+    reselect-next live distances size =
+        let chosen = tree .nearestRead live distances in
+        let rs = reselectRefusals d n live chosen in
+        let c' = reselected d live distances (maskOf chosen) in
+        host-next n (reselect n live distances) rs (maskOf chosen) c' tt (λ k.
+        same-world st L F w n c' (st .pool) L (same-objects live distances (maskOf chosen)) told-still
+        (reselect-owner _ _ _ n d (w .sim .owners n) live distances (maskOf chosen))
+        (subst (Meets tree) (taken-record rs (maskOf chosen) d c' k) (reselect-keeps tree tree-quorums d n md live distances size))
+        (λ b i. i) (w .books .pool-as) refl refl refl)
+
+    -- the participants are a write quorum, by the clauses of the record after it
+    party-counts : (party : ℕ) → Meets tree (requested d party) → isQuorum Write party ≡ true
+    unfolding requested
+    party-counts party m = T-true _ (m .party .full (m .party .asked-for refl) .write-quorum)
+
+    pub request-next : Next (requestCommit n) (hosted st n (requestCommitOf tree d n))
+    unfolding requestCommitOf requestCommitRefusals noted
+    request-next =
+        let chosen = tree .nearestWrite (d .live) (d .distances) in
+        let party = joined (maskOf chosen) (d .contacted) in
+        let rs = requestCommitRefusals tree d n chosen in
+        host-next n (requestCommit n) rs party (requested d party) tt (λ k.
+        let m = subst (Meets tree) (taken-record rs party d (requested d party) k) (request-keeps tree tree-quorums d n md) in
+        request-world st L F w n party (eqb-true (d .phase) openPhase (not-false _ (k .1 .0))) (party-counts party m) m)
+
+    undecided : (eqb (d .phase) openPhase || eqb (d .phase) votingPhase) ≡ true → (d .phase ≡ openPhase) ⊎ (d .phase ≡ votingPhase)
+    undecided = either-of (eqb (d .phase) openPhase) (eqb (d .phase) votingPhase) (eqb-true (d .phase) openPhase) (eqb-true (d .phase) votingPhase)
+
+    pub abort-next : Next (abort n) (hosted st n (abortOf d n))
+    unfolding abortOf abortRefusals noted
+    abort-next =
+        let rs = abortRefusals d n in
+        host-next n (abort n) rs 0 (endedAborted d) tt (λ k.
+        abort-world st L F w n (undecided (not-false (eqb (d .phase) openPhase || eqb (d .phase) votingPhase) (k .1 .0))) (st .pool) L told-still
+        (subst (Meets tree) (taken-record rs 0 d (endedAborted d) k) (abort-keeps tree d md n)) (λ b i. i) (w .books .pool-as) refl refl refl)

@@ -1,0 +1,224 @@
+-- A delivery at a station: at a replica, at a coordinator, or at a node that is off; then drops, switches. By the cases of each definition.
+use mathlib.Core.Path.{_≡_, refl, sym, _∙_, ap, subst}
+use mathlib.Core.Logic.{_≢_, _⊎_, inl, inr}
+use mathlib.Core.Bool.{Bool, true, false, cond, not, _&&_, _||_}
+use mathlib.Core.List.{List, [], _∷_, _++_}
+use mathlib.Core.Option.{Option, none, some}
+use Prim.Native.Nat.{ℕ, _<_}
+use native.Mathlib.Omega.{arith}
+use lib.Dec.{eqb, ltb}
+use lib.ListN.{length, getD}
+use borrow.Author.Tests.{eqb-true, eqb-false, eq-eqb, ne-eqb, ltb-true}
+use Rattle.mask.specs.Mask.{contains, only, joined, minus}
+use Rattle.octets.proofs.Laws.{Bytes}
+use Rattle.wire.specs.Message.{Message}
+use Rattle.wire.specs.Formed.{wordOf}
+use Rattle.wire.specs.Encode.{encode}
+use Rattle.wire.specs.Decode.{kindOf, toOf, longest, decode, checkOf}
+use Rattle.replica.specs.Steps.{Answer, silent, says, fetchImage, fetchAnswer, askImage, askAnswer, outcomeImage, outcomeAnswer}
+use Rattle.replica.specs.Receive.{refusal, gives, step, Delivered, deliver, wrongTurn}
+use Rattle.replica.proofs.Delivered.{Cleared, cleared, step-fine, entries-of}
+use Rattle.replica.proofs.Spoken.{named-of}
+use Rattle.replica.proofs.Taken.{Taken, taken}
+use Rattle.coordinator.specs.Calls.{noNode}
+use Rattle.coordinator.specs.Receive.{forReplica}
+use Rattle.station.specs.Station.{Station, withImage, withOn, withPool, without}
+use Rattle.station.specs.Step.{Call, delivery, drop, switch, Outcome, refusedWith, full, takenOut, answered, atReplica, atCoordinator, arriving, deliveryOf, dropOf, switchOf}
+use Rattle.protocol.specs.Table.{In}
+use Rattle.protocol.specs.State.{Tx, fresh, committed, aborted, State}
+use Rattle.protocol.specs.Proof.Tables.{on, clash}
+use Rattle.history.specs.Ledger.{Ledger, txOf, withPut, withDelivered, noted, note}
+use Rattle.history.proofs.Sim.{Match, Tells, Sim}
+use Rattle.history.proofs.Carry.{by-pool}
+use Rattle.history.proofs.Books.{Past, More, World, found-next}
+use Rattle.history.proofs.Host.{SameTold, objects-still, present-on, same-decided}
+use Rattle.history.proofs.Words.{txIn, tx-decoded, word-decoded, header}
+use Rattle.history.proofs.Acts.{Acted}
+use Rattle.history.proofs.Replies.{Said, fetch-reply, ask-reply, outcome-reply}
+use Rattle.history.proofs.Arrive.{in-left, in-place, in-without, silent-world, answer-world}
+use Rattle.history.proofs.Calls.{Next, refused-next}
+use Rattle.history.proofs.Answered.{coordinator-next}
+
+out-of-turn : (l : List ℕ) (m : Message) → eqb (m .kind) 1 ≡ false → eqb (m .kind) 3 ≡ false → eqb (m .kind) 5 ≡ false → wrongTurn l m ≡ true
+unfolding wrongTurn
+out-of-turn l m p q r = simp (p, q, r)
+
+-- ---- the step of a message, by its kind
+kind-cases : (l : List ℕ) (n : ℕ) (m : Message) → Taken l m → (P : Delivered → Type 0) → (m .kind ≡ 1 → P (gives (fetchImage l m) (fetchAnswer n l m)))
+    → (m .kind ≡ 3 → P (gives (askImage l m) (askAnswer n l m))) → (m .kind ≡ 5 → P (gives (outcomeImage l m) (outcomeAnswer n m))) → P (step l n m)
+unfolding step
+kind-cases l n m k P f a o = by (eqb (m .kind) 1) (eqb (m .kind) 3) (eqb (m .kind) 5) refl refl refl
+  where
+    by : (x y z : Bool) → eqb (m .kind) 1 ≡ x → eqb (m .kind) 3 ≡ y → eqb (m .kind) 5 ≡ z
+        → P (cond x (gives (fetchImage l m) (fetchAnswer n l m)) (cond y (gives (askImage l m) (askAnswer n l m))
+        (cond z (gives (outcomeImage l m) (outcomeAnswer n m)) (gives l silent))))
+    by true y z p q r = f (eqb-true (m .kind) 1 p)
+    by false true z p q r = a (eqb-true (m .kind) 3 q)
+    by false false true p q r = o (eqb-true (m .kind) 5 r)
+    by false false false p q r = absurd (let e = sym (k .turn) ∙ out-of-turn l m p q r in clash (cc))
+
+module _ (st : Station) (L : Ledger) (F : Past) (w : World st L F) where
+  -- the pool has fewer messages, or others are on; nothing is put
+  pub fewer : (pool : List (List ℕ)) (up : ℕ) (L' : Ledger) → ((y : List ℕ) → In y pool → In y (st .pool)) → L' .pool ≡ pool → L' .log ≡ L .log → L' .dones ≡ L .dones
+      → L' .committed ≡ L .committed → SameTold L L'
+      → World (record { images = st .images; records = st .records; pool = pool; on = up }) L'
+      (More F (record { images = st .images; records = st .records; pool = pool; on = up }))
+  fewer pool up L' sub a b c d told =
+      let st' : Station = record { images = st .images; records = st .records; pool = pool; on = up } in
+      let sim' = by-pool st (w .log) (w .sim) pool up (λ y i. inl (sub y i)) in
+      let bk = w .books in
+      record {
+        state = w .state;
+        log = w .log;
+        sim = sim';
+        valid = record { images = w .valid .images; records = w .valid .records; messages = λ y i. w .valid .messages y (sub y i) };
+        books = record {
+          pool-as = a;
+          log-as = b ∙ bk .log-as;
+          decided = same-decided st L F w 0 d (told .modes) (told .news) (told .parties);
+          present = λ i. present-on L L' i (st .records i) (st .records i) (objects-still (st .records i)) told (bk .present i);
+          dones = λ z i. bk .dones z (subst (In z) c i);
+          found = found-next F st' (w .state) (w .log) sim' (w .valid .records) (bk .found .still) (bk .found .carried) (λ x t q r. inl (bk .found .had x t q r));
+        };
+      }
+
+
+module _ (st : Station) (L : Ledger) (F : Past) (w : World st L F) (k : ℕ) (kept : Bool) (b : List ℕ) (is-b : b ≡ getD (st .pool) k [])
+    (waits : k < length (st .pool)) where
+  abbrev m : Message
+  m = decode b
+
+  abbrev pool : List (List ℕ)
+  pool = cond kept (st .pool) (without k (st .pool))
+
+  sub : (y : List ℕ) → In y pool → In y (st .pool)
+  sub y i = in-left kept k (st .pool) y i
+
+  in-pool : In b (st .pool)
+  in-pool = subst (λ (y : List ℕ). In y (st .pool)) (sym is-b) (in-place (st .pool) k [] waits)
+
+  abbrev told : Option (List ℕ) → Ledger
+  told p = withDelivered (withPut L pool p) b 0 p
+
+  as-told : (p : Option (List ℕ)) → noted L (delivery k kept) 0 p ≡ told p
+  unfolding noted
+  as-told p = ap (λ (l : List (List ℕ)). withDelivered (withPut L (cond kept l (without k l)) p) (getD l k []) 0 p) (w .books .pool-as)
+      ∙ ap (λ (y : List ℕ). withDelivered (withPut L pool p) y 0 p) (sym is-b)
+
+  -- ---- at a replica
+  module _ (n : ℕ) where
+    abbrev l : List ℕ
+    l = st .images n
+
+    module _ (small : n < 13) (t : Taken l m) where
+      tells : Tells (w .state .history) (w .state .votes) (w .state .sent) b
+      tells = w .sim .waits b in-pool
+
+      abbrev Reply : Delivered → Type 0
+      Reply d = Acted st (w .state) (w .log) (w .sim) n m t (d .image) (λ τ l'. Said τ (w .log) l' (txIn m) (d .answer))
+
+      kind-is : (j : ℕ) → m .kind ≡ j → kindOf b ≡ j
+      kind-is j e = sym (header b .0) ∙ e
+
+      reply : Reply (step l n m)
+      reply = kind-cases l n m t Reply
+          (λ e. fetch-reply st (w .state) (w .log) (w .sim) n small m t (w .valid .images n .1))
+          (λ e. let z = tells .an-ask (kind-is 3 e) in
+          ask-reply st (w .state) (w .log) (w .sim) n small m t (w .valid .images n .1) e
+          (subst (λ (x : Tx). w .state .history .phase x ≢ fresh) (tx-decoded b) (z .0))
+          (subst (λ (x : Tx). Match (w .state .history .contents x) (m .entries)) (tx-decoded b) (z .1)))
+          (λ e. outcome-reply st (w .state) (w .log) (w .sim) n small m t (w .valid .images n .1) e
+          (λ u. let z = tells .a-commit (kind-is 5 e) (word-decoded b ∙ u) in
+          (subst (λ (x : Tx). w .state .history .phase x ≡ committed) (tx-decoded b) (z .0),
+          subst (λ (x : Tx). Match (w .state .history .contents x) (m .entries)) (tx-decoded b) (z .1)))
+          (λ u. subst (λ (x : Tx). w .state .history .phase x ≡ aborted) (tx-decoded b) (tells .an-abort (kind-is 5 e) (word-decoded b ∙ u))))
+
+      answered-next : (ans : Answer) → Acted st (w .state) (w .log) (w .sim) n m t (step l n m .image) (λ τ l'. Said τ (w .log) l' (txIn m) ans)
+          → Next st L F w (delivery k kept) (answered st k kept n (step l n m .image) ans)
+      unfolding answered note
+      answered-next silent a =
+          subst (λ (L' : Ledger). World (withImage (takenOut st k kept) n (step l n m .image)) L' (More F (withImage (takenOut st k kept) n (step l n m .image))))
+          (sym (as-told none)) (silent-world st L F w n b pool sub t a)
+      answered-next (says c) a = by (kept && full st)
+        where
+          by : (g : Bool) → Next st L F w (delivery k kept) (cond g (refusedWith 12 st)
+              (record { number = 0; answer = 0; put = some (encode c);
+              station = withPool (withImage (takenOut st k kept) n (step l n m .image)) (pool ++ (encode c ∷ [])) }))
+          by true = refused-next st L F w (delivery k kept) 12 (λ e. let z : ⊥ = omega arith in z)
+          by false =
+              subst (λ (L' : Ledger). World (withPool (withImage (takenOut st k kept) n (step l n m .image)) (pool ++ (encode c ∷ []))) L'
+              (More F (withPool (withImage (takenOut st k kept) n (step l n m .image)) (pool ++ (encode c ∷ [])))))
+              (sym (as-told (some (encode c)))) (answer-world st L F w n b pool sub t c a)
+
+    -- refused, or the step
+    by-refusal : (g : Bool) → eqb (refusal longest l n b) 0 ≡ g
+        → Next st L F w (delivery k kept)
+        (cond (eqb (cond {A = Delivered} g (step l n m) (record { number = refusal longest l n b; image = l; answer = silent }) .number) 0)
+        (answered st k kept n (cond {A = Delivered} g (step l n m) (record { number = refusal longest l n b; image = l; answer = silent }) .image)
+        (cond {A = Delivered} g (step l n m) (record { number = refusal longest l n b; image = l; answer = silent }) .answer))
+        (refusedWith (cond {A = Delivered} g (step l n m) (record { number = refusal longest l n b; image = l; answer = silent }) .number) st))
+    by-refusal true e =
+        let z = eqb-true (refusal longest l n b) 0 e in
+        let q = cleared longest l n b z in
+        let t = taken longest l n b (w .valid .messages b in-pool) z in
+        let f = step-fine n l m (named-of n m (q .node) (q .formed)) (entries-of m (q .formed)) .1 in
+        subst (λ (g : Bool). Next st L F w (delivery k kept) (cond g (answered st k kept n (step l n m .image) (step l n m .answer)) (refusedWith (step l n m .number) st)))
+        (sym (eq-eqb (step l n m .number) 0 f)) (answered-next (q .node) t (step l n m .answer) (reply (q .node) t))
+    by-refusal false e =
+        subst (λ (g : Bool). Next st L F w (delivery k kept) (cond g (answered st k kept n l silent) (refusedWith (refusal longest l n b) st))) (sym e)
+        (refused-next st L F w (delivery k kept) (refusal longest l n b) (eqb-false (refusal longest l n b) 0 e))
+
+    pub replica-next : Next st L F w (delivery k kept) (atReplica st k kept n b)
+    unfolding atReplica deliver
+    replica-next = by-refusal (eqb (refusal longest l n b) 0) refl
+
+  -- ---- where it arrives; a node that is off does nothing
+  off-taken : Next st L F w (delivery k kept) (record { number = 0; answer = 0; put = none; station = takenOut st k kept })
+  unfolding note
+  off-taken = subst (λ (L' : Ledger). World (takenOut st k kept) L' (More F (takenOut st k kept))) (sym (as-told none))
+      (fewer st L F w pool (st .on) (told none) sub refl refl refl refl (record { serials = refl; modes = refl; news = refl; parties = refl }))
+
+  pub arriving-next : Next st L F w (delivery k kept) (arriving st k kept b)
+  unfolding arriving
+  arriving-next = by (contains (st .on) (toOf b)) (forReplica (kindOf b))
+    where
+      by : (up r : Bool) → Next st L F w (delivery k kept) (cond up (cond r (atReplica st k kept (toOf b) b) (atCoordinator st k kept (toOf b) b))
+          (record { number = 0; answer = 0; put = none; station = takenOut st k kept }))
+      by true true = replica-next (toOf b)
+      by true false = coordinator-next st L F w k kept (toOf b) b is-b waits
+      by false r = off-taken
+
+-- ---- the steps
+module _ (st : Station) (L : Ledger) (F : Past) (w : World st L F) where
+  pub delivery-next : (k : ℕ) (kept : Bool) → Next st L F w (delivery k kept) (deliveryOf st k kept)
+  unfolding deliveryOf
+  delivery-next k kept = by (ltb k (length (st .pool))) (eqb (checkOf b) 0) refl refl
+    where
+      b : List ℕ
+      b = getD (st .pool) k []
+
+      by : (x y : Bool) → ltb k (length (st .pool)) ≡ x → eqb (checkOf b) 0 ≡ y
+          → Next st L F w (delivery k kept) (cond x (cond y (arriving st k kept b) (refusedWith (checkOf b) st)) (refusedWith 5 st))
+      by true true p q = arriving-next st L F w k kept b refl (ltb-true k (length (st .pool)) p)
+      by true false p q = refused-next st L F w (delivery k kept) (checkOf b) (eqb-false (checkOf b) 0 q)
+      by false y p q = refused-next st L F w (delivery k kept) 5 (λ e. let z : ⊥ = omega arith in z)
+
+  pub drop-next : (k : ℕ) → Next st L F w (drop k) (dropOf st k)
+  unfolding dropOf note noted
+  drop-next k = by (ltb k (length (st .pool)))
+    where
+      by : (x : Bool) → Next st L F w (drop k) (cond x (record { number = 0; answer = 0; put = none; station = withPool st (without k (st .pool)) }) (refusedWith 5 st))
+      by true = fewer st L F w (without k (st .pool)) (st .on) (withPut L (without k (L .pool)) none) (λ y i. in-without y k (st .pool) i)
+          (ap (without k) (w .books .pool-as)) refl refl refl (record { serials = refl; modes = refl; news = refl; parties = refl })
+      by false = refused-next st L F w (drop k) 5 (λ e. let z : ⊥ = omega arith in z)
+
+  pub switch-next : (n : ℕ) (up : Bool) → Next st L F w (switch n up) (switchOf st n up)
+  unfolding switchOf note noted
+  switch-next n up = by (noNode n)
+    where
+      on' : ℕ
+      on' = cond up (joined (st .on) (only n)) (minus (st .on) (only n))
+
+      by : (x : Bool) → Next st L F w (switch n up) (cond x (refusedWith 4 st) (record { number = 0; answer = 0; put = none; station = withOn st on' }))
+      by true = refused-next st L F w (switch n up) 4 (λ e. let z : ⊥ = omega arith in z)
+      by false = fewer st L F w (st .pool) on' L (λ y i. i) (w .books .pool-as) refl refl refl (record { serials = refl; modes = refl; news = refl; parties = refl })
