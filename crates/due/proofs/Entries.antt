@@ -234,7 +234,8 @@ module _ (s : System) (c : Coordinator) (m : Meets s c) where
       (subst (λ (i : ℕ). Stands (entryFor (objectAt c i)) (es ++ (entryFor (objectAt c n) ∷ []))) (sym q) (stands-last es (entryFor (objectAt c n)))))
       (λ e. let r = entry-below n k (below-not k n h (eqb-false k n e)) o in
       by-test (Stands (entryFor (objectAt c k)) (withNext c n es)) (isOpen c n)
-      (λ p. subst (Stands (entryFor (objectAt c k))) (sym (next-open n es (length-below n) p)) (stands-longer es (entryFor (objectAt c n) ∷ []) (entryFor (objectAt c k)) r))
+      (λ p. subst (Stands (entryFor (objectAt c k))) (sym (next-open n es (length-below n) p))
+      (stands-longer es (entryFor (objectAt c n) ∷ []) (entryFor (objectAt c k)) r))
       (λ p. subst (Stands (entryFor (objectAt c k))) (sym (next-shut n es p)) r))
 
   open-known : (n : ℕ) → isOpen c n ≡ true → n < objectsEnd
@@ -253,6 +254,7 @@ module _ (s : System) (c : Coordinator) (m : Meets s c) where
       → (Stands e (entriesOf c) → (isOpen c (e .object) ≡ true) × (e ≡ entryFor (objectAt c (e .object))))
       × ((isOpen c (e .object) ≡ true) × (e ≡ entryFor (objectAt c (e .object))) → Stands e (entriesOf c))
   entries-open e = (
-    (λ t. subst (λ (x : Entry). (isOpen c (x .object) ≡ true) × (x ≡ entryFor (objectAt c (x .object)))) (t .2) (all-at _ (entriesOf c) (t .0) (t .1) entries-only)),
+    (λ t. subst (λ (x : Entry). (isOpen c (x .object) ≡ true) × (x ≡ entryFor (objectAt c (x .object)))) (t .2)
+        (all-at _ (entriesOf c) (t .0) (t .1) entries-only)),
     λ t. subst (λ (x : Entry). Stands x (entriesOf c)) (sym (t .1)) (entries-every (e .object) (t .0)),
   )

@@ -127,7 +127,8 @@ module _ (s : System) (c : Coordinator) (m : Meets s c) (w : Widths c) where
       simp (a, b, k1, k2, e, lt-ltb (y .version) highest q))
     where
       under : (n : ℕ) → n < 4294967296 → (n ≡ highest → ⊥) → n < highest
-      under n h f = by-test (n < highest) (ltb n highest) (λ e. ltb-true n highest e) (λ e. absurd (f (let k = ltb-false n highest e in let z : n ≡ highest = omega arith in z)))
+      under n h f = by-test (n < highest) (ltb n highest) (λ e. ltb-true n highest e)
+          (λ e. absurd (f (let k = ltb-false n highest e in let z : n ≡ highest = omega arith in z)))
 
   module _ (me node object : ℕ) (hm : me < 13) (hn : node < 13) (own : getD (c .rivals) me 0 ≡ 0) where
     begun-serial : (c .phase ≡ 0 → ⊥) → (1 ≤ c .serial) × (1 ≤ c .timestamp)
@@ -211,7 +212,8 @@ module _ (s : System) (c : Coordinator) (m : Meets s c) (w : Widths c) where
     due-formed size d =
         let zero = eqb-true _ 0 (both-left _ (ltb noKind (dueKind s c node object)) d) in
         let free = clear (writeRefusals size c me node object) tt zero in
-        kind-formed (λ e. not-false (isOpen c object) (neither-right (not (ltb object 64)) (not (isOpen c object)) (rest-false _ _ e (free .1 .1 .0)))) (both-right (eqb (firstOf (writeRefusals size c me node object)) 0) _ d)
+        kind-formed (λ e. not-false (isOpen c object) (neither-right (not (ltb object 64)) (not (isOpen c object)) (rest-false _ _ e (free .1 .1 .0))))
+        (both-right (eqb (firstOf (writeRefusals size c me node object)) 0) _ d)
 
     -- the buffer has room then
     due-long : (size : ℕ) → isDue s size c me node object ≡ true → ltb size 128 ≡ false
