@@ -1,6 +1,7 @@
--- What the proofs of the functions share: equal fields (Made), loops that read items (Items), bytes stored piece by piece (Stores), and a call on
--- bytes (OnBytes).
+-- What the proofs of the functions share: equal fields (Made), loops that read items (Items), bytes stored piece by piece (Stores), a call on
+-- bytes (OnBytes). The laws of the layout: RoundTrip.
 pub mod Made
 pub mod Items
 pub mod Stores
 pub mod OnBytes
+pub mod RoundTrip

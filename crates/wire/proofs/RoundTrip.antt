@@ -56,20 +56,20 @@ length-encode m =
 -- ---- what stands at a place of a list
 module _ (l : List ℕ) where
   -- past what stands there
-  next : (i n : ℕ) (x y : List ℕ) → length x ≡ n → drop i l ≡ x ++ y → drop (i + n) l ≡ y
+  pub next : (i n : ℕ) (x y : List ℕ) → length x ≡ n → drop i l ≡ x ++ y → drop (i + n) l ≡ y
   next i n x y e h = sym (drop-drop n i l) ∙ ap (drop n) h ∙ drop-at x y n e
 
-  byte-at : (i x : ℕ) (y : List ℕ) → drop i l ≡ x ∷ y → getD l i 0 ≡ x
+  pub byte-at : (i x : ℕ) (y : List ℕ) → drop i l ≡ x ∷ y → getD l i 0 ≡ x
   byte-at i x y h =
       let z : i ≡ i + 0 = omega arith in
       ap (λ (j : ℕ). getD l j 0) z ∙ sym (getD-drop i l 0 0) ∙ ap (λ (m : List ℕ). getD m 0 0) h
 
-  number-at : (k i v : ℕ) (y : List ℕ) → v < 256 ^ k → drop i l ≡ le k v ++ y → get k l i ≡ v
+  pub number-at : (k i v : ℕ) (y : List ℕ) → v < 256 ^ k → drop i l ≡ le k v ++ y → get k l i ≡ v
   number-at k i v y f h =
       let z : i ≡ i + 0 = omega arith in
       ap (get k l) z ∙ sym (get-drop k l i 0) ∙ ap (λ (m : List ℕ). get k m 0) h ∙ get-le k v y f
 
-  items-at : {A : Type 0} (at : List ℕ → ℕ → A) (enc : A → List ℕ) (size : ℕ) (P : A → Type 0) → ((x : A) → length (enc x) ≡ size)
+  pub items-at : {A : Type 0} (at : List ℕ → ℕ → A) (enc : A → List ℕ) (size : ℕ) (P : A → Type 0) → ((x : A) → length (enc x) ≡ size)
       → ((x : A) (i : ℕ) (y : List ℕ) → P x → drop i l ≡ enc x ++ y → at l i ≡ x)
       → (xs : List A) (i : ℕ) (y : List ℕ) → All P xs → drop i l ≡ together enc xs ++ y → itemsFrom at size (length xs) l i ≡ xs
   unfolding together itemsFrom
@@ -184,17 +184,17 @@ module _ (m : Message) (f : Fits m) where
 
 -- ---- encode of decode: the bytes are peeled off from the front
 module _ (l : List ℕ) (b : Bytes l) where
-  peel-byte : (i : ℕ) → i < length l → drop i l ≡ getD l i 0 ∷ drop (i + 1) l
+  pub peel-byte : (i : ℕ) → i < length l → drop i l ≡ getD l i 0 ∷ drop (i + 1) l
   peel-byte i h = drop-cons l i 0 h ∙ ap (λ (j : ℕ). getD l i 0 ∷ drop j l) (sym (add-one i))
 
-  peel-number : (k i : ℕ) → i + k ≤ length l → drop i l ≡ le k (get k l i) ++ drop (i + k) l
+  pub peel-number : (k i : ℕ) → i + k ≤ length l → drop i l ≡ le k (get k l i) ++ drop (i + k) l
   peel-number k i h = sym (take-append-drop k (drop i l)) ∙ ap₂ _++_ (sym (le-get k l i h b)) (drop-drop k i l)
 
   -- the reading of one item gives the bytes back
-  abbrev Peels : {A : Type 0} → (List ℕ → ℕ → A) → (A → List ℕ) → ℕ → Type 0
+  abbrev pub Peels : {A : Type 0} → (List ℕ → ℕ → A) → (A → List ℕ) → ℕ → Type 0
   Peels at enc size = (i : ℕ) → i + size ≤ length l → drop i l ≡ enc (at l i) ++ drop (i + size) l
 
-  peel-items : {A : Type 0} (at : List ℕ → ℕ → A) (enc : A → List ℕ) (size : ℕ) → Peels at enc size → (n i : ℕ) → i + size * n ≤ length l
+  pub peel-items : {A : Type 0} (at : List ℕ → ℕ → A) (enc : A → List ℕ) (size : ℕ) → Peels at enc size → (n i : ℕ) → i + size * n ≤ length l
       → drop i l ≡ together enc (itemsFrom at size n l i) ++ drop (i + size * n) l
   unfolding together itemsFrom
   peel-items at enc size p zero i h = let z : i ≡ i + size * 0 = omega arith in ap (λ (j : ℕ). drop j l) z

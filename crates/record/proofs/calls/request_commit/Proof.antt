@@ -35,16 +35,19 @@ request-commit-requires c κs = search needs
 
 keep-requires : tie.Need-keep-requires
 keep-requires c κs =
-    checked-length (now (c .before .before .before .before .before .before .before .before .args .bytes)) (sym (c .before .before .before .before .before .check .ensures) ∙ c .before .before .before .before .if1 .left)
+    let b8 = c .before .before .before .before .before .before .before .before in
+    checked-length (now (b8 .args .bytes)) (sym (c .before .before .before .before .before .check .ensures) ∙ c .before .before .before .before .if1 .left)
 
 same-length-2 : tie.Need-same-length-2
 same-length-2 c = search needs
 
 returns-2 : tie.Need-returns-2
 returns-2 c =
-    let x = c .before .before .before .before .before .before .before .before .before .before .before .args in
-    let e = sym (c .before .before .before .before .before .before .before .before .check .ensures) ∙ c .before .before .before .before .before .before .before .if1 .left in
-    let s = c .before .before .before .before .request-commit .ensures ∙ ap (λ (c : Coordinator). requestCommitOf tree c (x .me)) (c .before .before .before .before .before .read .ensures) in
+    let b8 = c .before .before .before .before .before .before .before .before in
+    let x = b8 .before .before .before .args in
+    let e = sym (b8 .check .ensures) ∙ c .before .before .before .before .before .before .before .if1 .left in
+    let s = c .before .before .before .before .request-commit .ensures
+    ∙ ap (λ (c : Coordinator). requestCommitOf tree c (x .me)) (c .before .before .before .before .before .read .ensures) in
     let w = c .before .before .keep .ensures in (
       w .0 ∙ taken-called (λ (c : Coordinator). requestCommitOf tree c (x .me)) (now (x .bytes)) e _ s,
       w .1 ∙ taken-record (λ (c : Coordinator). requestCommitOf tree c (x .me)) (now (x .bytes)) e _ s,

@@ -26,7 +26,12 @@ unfolding dueFirst
 returns c =
     let x = c .before .before .before .before .before .before .before .args in
     let e : c .before .refuse2 .result ≡ firstOf (dueFirst (now (x .bytes)) (length (now (x .out)))) =
-    rw (c .before .refuse2 .ensures, c .before .before .either .ensures, c .before .before .before .refuse .ensures, c .before .before .before .before .check .ensures) in (
+    rw (
+      c .before .refuse2 .ensures,
+      c .before .before .either .ensures,
+      c .before .before .before .refuse .ensures,
+      c .before .before .before .before .check .ensures,
+    ) in (
       due-refused (now (x .bytes)) (x .me) (x .node) (x .object) (length (now (x .out))) _ e (c .if1 .taken),
       due-left (now (x .bytes)) (x .me) (x .node) (x .object) (now (x .out)) _ e (c .if1 .taken),
     )
@@ -43,9 +48,15 @@ same-length c = search needs
 returns-2 : tie.Need-returns-2
 unfolding dueFirst
 returns-2 c =
-    let x = c .before .before .before .before .before .before .before .before .before .before .before .before .args in
+    let b8 = c .before .before .before .before .before .before .before .before in
+    let x = b8 .before .before .before .before .args in
     let e : c .before .before .before .before .before .before .refuse2 .result ≡ firstOf (dueFirst (now (x .bytes)) (length (now (x .out)))) =
-    rw (c .before .before .before .before .before .before .refuse2 .ensures, c .before .before .before .before .before .before .before .either .ensures, c .before .before .before .before .before .before .before .before .refuse .ensures, c .before .before .before .before .before .before .before .before .before .check .ensures) in
+    rw (
+      c .before .before .before .before .before .before .refuse2 .ensures,
+      c .before .before .before .before .before .before .before .either .ensures,
+      b8 .refuse .ensures,
+      b8 .before .check .ensures,
+    ) in
     let z = sym e ∙ c .before .before .before .before .before .if1 .left in
     let w = c .before .before .write .ensures in (
       w .0 ∙ due-taken (now (x .bytes)) (x .me) (x .node) (x .object) (length (now (x .out))) z _ (c .before .before .before .before .read .ensures),

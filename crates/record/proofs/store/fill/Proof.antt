@@ -28,17 +28,20 @@ same-length c = search needs
 
 returns : tie.Need-returns
 returns c =
-    let x = c .before .before .before .before .before .before .before .before .before .before .before .before .before .before .before .before .before .before .before .before .before .before .before .before .before .before .before .before .args in
-    let d = c .before .before .before .before .before .before .before .before .before .before .before .before .before .before .before .before .before .before .put-distances .ensures in
-    let o = c .before .before .before .before .before .before .before .before .before .before .put-objects .ensures in
+    let b8 = c .before .before .before .before .before .before .before .before in
+    let b16 = b8 .before .before .before .before .before .before .before .before in
+    let b24 = b16 .before .before .before .before .before .before .before .before in
+    let x = b24 .before .before .before .before .args in
+    let d = b16 .before .before .put-distances .ensures in
+    let o = b8 .before .before .put-objects .ensures in
     let r = c .before .before .put-rivals .ensures in (
       rw (
         r .0,
         c .before .before .before .before .before .before .put-votes .ensures,
         o .0,
-        c .before .before .before .before .before .before .before .before .before .before .before .before .before .before .put-quorum .ensures,
+        b8 .before .before .before .before .before .before .put-quorum .ensures,
         d .0,
-        c .before .before .before .before .before .before .before .before .before .before .before .before .before .before .before .before .before .before .before .before .before .before .put-front .ensures,
+        b16 .before .before .before .before .before .before .put-front .ensures,
       )
           (record-stores (x .c) (d .1) (o .1) (r .1) (now (x .bytes))),
       length-bytes (x .c) (d .1) (o .1) (r .1),

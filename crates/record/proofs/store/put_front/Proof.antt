@@ -25,13 +25,15 @@ same-length c = search needs
 
 returns : tie.Need-returns
 returns c =
-    let x = c .before .before .before .before .before .before .before .before .before .before .before .before .before .before .before .before .before .before .before .before .before .args in
+    let b8 = c .before .before .before .before .before .before .before .before in
+    let b16 = b8 .before .before .before .before .before .before .before .before in
+    let x = b16 .before .before .before .before .before .args in
     rw (
       c .before .before .put-u16 .ensures,
       c .before .before .before .before .before .before .put-u82 .ensures,
-      c .before .before .before .before .before .before .before .before .before .before .put-u8 .ensures,
-      c .before .before .before .before .before .before .before .before .before .before .before .before .before .before .put-u322 .ensures,
-      c .before .before .before .before .before .before .before .before .before .before .before .before .before .before .before .before .before .before .put-u32 .ensures,
+      b8 .before .before .put-u8 .ensures,
+      b8 .before .before .before .before .before .before .put-u322 .ensures,
+      b16 .before .before .put-u32 .ensures,
     )
     (front-stores (x .c) (now (x .bytes)))
 

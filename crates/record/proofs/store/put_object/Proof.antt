@@ -52,16 +52,19 @@ same-length c = search needs
 
 returns : tie.Need-returns
 returns c =
-    let x = c .before .before .before .before .before .before .before .before .before .before .before .before .before .before .before .before .before .before .before .before .before .before .before .before .before .before .before .before .before .before .args in
+    let b8 = c .before .before .before .before .before .before .before .before in
+    let b16 = b8 .before .before .before .before .before .before .before .before in
+    let b24 = b16 .before .before .before .before .before .before .before .before in
+    let x = b24 .before .before .before .before .before .before .args in
     rw (
       c .before .before .put-u642 .ensures,
       c .before .before .before .before .before .before .put-u83 .ensures,
       c .before .before .before .before .before .before .before .bit .ensures,
-      c .before .before .before .before .before .before .before .before .before .before .before .put-u64 .ensures,
-      c .before .before .before .before .before .before .before .before .before .before .before .before .before .before .before .put-u32 .ensures,
-      c .before .before .before .before .before .before .before .before .before .before .before .before .before .before .before .before .before .before .before .put-u16 .ensures,
-      c .before .before .before .before .before .before .before .before .before .before .before .before .before .before .before .before .before .before .before .before .before .before .before .put-u82 .ensures,
-      c .before .before .before .before .before .before .before .before .before .before .before .before .before .before .before .before .before .before .before .before .before .before .before .before .before .before .before .put-u8 .ensures,
+      b8 .before .before .before .put-u64 .ensures,
+      b8 .before .before .before .before .before .before .before .put-u32 .ensures,
+      b16 .before .before .before .put-u16 .ensures,
+      b16 .before .before .before .before .before .before .before .put-u82 .ensures,
+      b24 .before .before .before .put-u8 .ensures,
     )
     (object-stores (x .x) (now (x .bytes)) (x .at))
 

@@ -49,10 +49,12 @@ loop-less c = search needs
 
 loop-again : tie.Need-loop-again Inv-loop μ-loop
 loop-again c =
+    let b8 = c .before .before .before .before .before .before .before .before in
     let l = c .before .before .before .before .before .before .loop in
-    let a = c .before .before .before .before .before .before .before .before .args in
+    let a = b8 .args in
     let full : length (a .t2) ≡ 8 = search needs in
-    let p : c .before .before .put-object .last .0 ≡ sets (l .bytes) (43 + 25 * l .i) (objectBytes (getD (a .t2) (l .i) noObject)) = c .before .before .put-object .ensures in (
+    let p : c .before .before .put-object .last .0 ≡ sets (l .bytes) (43 + 25 * l .i) (objectBytes (getD (a .t2) (l .i) noObject)) =
+    c .before .before .put-object .ensures in (
       omega arith,
       ap length p ∙ simp length-sets (l .inv .1),
       ap (λ (m : List ℕ). sets m (43 + 25 * (l .i + 1)) (together (objectBytes) (drop (l .i + 1) (a .t2)))) p

@@ -51,7 +51,8 @@ loop-again c =
     let l = c .before .before .before .before .before .loop in
     let a = c .before .before .before .before .before .before .before .args in
     let full : length (a .t2) ≡ 13 = search needs in
-    let p : c .before .before .put-u32 .last .0 ≡ sets (l .bytes) (249 + 4 * l .i) (le 4 (getD (a .t2) (l .i) 0)) = c .before .before .put-u32 .ensures ∙ put-le 4 (l .bytes) (249 + 4 * l .i) (getD (a .t2) (l .i) 0) in (
+    let p : c .before .before .put-u32 .last .0 ≡ sets (l .bytes) (249 + 4 * l .i) (le 4 (getD (a .t2) (l .i) 0)) =
+    c .before .before .put-u32 .ensures ∙ put-le 4 (l .bytes) (249 + 4 * l .i) (getD (a .t2) (l .i) 0) in (
       omega arith,
       ap length p ∙ simp length-sets (l .inv .1),
       ap (λ (m : List ℕ). sets m (249 + 4 * (l .i + 1)) (together (le 4) (drop (l .i + 1) (a .t2)))) p
