@@ -145,7 +145,8 @@ module _ (st : Station) (L : Ledger) (F : Past) (w : World st L F) (n : ℕ) (b 
             dones = λ d i. on (h d i) (λ j. a .grows .g-late (d .node) (d .tx) (bk .dones d j)) (λ z. z);
             found = found-next F (next pool') τ (a .log-after) sim' (w .valid .records)
                 (λ x t v q r. bk .found .still x t v q (sym (phase-as x) ∙ r))
-                (λ x t v q r. ap (λ (c : Contents ℕ). c .found t) (contents-as x) ∙ bk .found .carried x t v q (asked-as x r))
+                (λ x t v q r. let z = bk .found .carried x t v q (asked-as x r) in
+                (ap (λ (c : Contents ℕ). c .found t) (contents-as x) ∙ z .0, λ u. z .1 (ap (λ (c : Contents ℕ). c .mode t) (sym (contents-as x)) ∙ u)))
                 (λ x t q r. inl (subst (F x t) (ap (λ (c : Contents ℕ). c .found t) (sym (contents-as x)))
                 (bk .found .had x t (asked-as x q) (λ u. r (ap (λ (c : Contents ℕ). c .mode t) (contents-as x) ∙ u)))));
           };

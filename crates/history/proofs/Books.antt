@@ -2,7 +2,7 @@
 -- was found so far (F: the transaction found the value for the object after some earlier step).
 use mathlib.Core.Path.{_≡_, refl, sym, _∙_, ap, subst}
 use mathlib.Core.Logic.{_≢_, _⊎_, inl, inr}
-use mathlib.Core.Bool.{true}
+use mathlib.Core.Bool.{Bool, true, false, cond}
 use mathlib.Core.List.{List}
 use Prim.Native.Nat.{ℕ, zero, suc, _<_, _≤_}
 use native.Mathlib.Omega.{arith}
@@ -17,13 +17,13 @@ use Rattle.coordinator.specs.State.{idlePhase, openPhase, votingPhase, finishin
 use Rattle.clauses.proofs.Facts.{Meets, Agreed}
 use Rattle.station.specs.Station.{Station, putAt}
 use Rattle.protocol.specs.Table.{In}
-use Rattle.protocol.specs.Rules.{unused}
+use Rattle.protocol.specs.Rules.{unused, read, write}
 use Rattle.protocol.specs.State.{Tx, fresh, voting, committed, aborted, Contents, Ends, History, State}
 use Rattle.protocol.specs.Refine.Growth.{Late}
 use Rattle.protocol.specs.Proof.Tables.{on, clash}
 use Rattle.history.specs.Ledger.{Done, Ledger}
 use Rattle.history.specs.Claims.{Shows, Finds}
-use Rattle.history.proofs.Sim.{tx, contentsOf, Owner, Sim}
+use Rattle.history.proofs.Sim.{tx, modeOf, contentsOf, Owner, Sim}
 use Rattle.history.proofs.Carry.{put-all, by-none}
 
 -- ---- which transactions committed, and with what
@@ -58,7 +58,7 @@ pub record Found (F : Past) (st : Station) (h : History ℕ) : Type 0 where
   -- before votes are asked for, it is still found
   pub still : (x : Tx) (t v : ℕ) → F x t v → h .phase x ≡ fresh → Finds st x t v
   -- then it is what the transaction carries
-  pub carried : (x : Tx) (t v : ℕ) → F x t v → Asked h x → h .contents x .found t ≡ v
+  pub carried : (x : Tx) (t v : ℕ) → F x t v → Asked h x → (h .contents x .found t ≡ v) × (h .contents x .mode t ≢ unused)
   -- and whatever it carries was found
   pub had : (x : Tx) (t : ℕ) → Asked h x → h .contents x .mode t ≢ unused → F x t (h .contents x .found t)
 
@@ -112,16 +112,26 @@ module _ (st : Station) (σ : State ℕ) (l : List Tx) (sim : Sim st σ l) (n : 
       on a (λ q. clash (cc)) (λ q. clash (cc))))
 
 -- ---- what is found after one more step
+-- what is shown is open, so it is touched
+pub shown-mode : (c : Coordinator) (s t v : ℕ) → Shows c s t v → contentsOf c .mode t ≢ unused
+shown-mode c s t v f q = touched-mode (eqb (objectAt c t .mode) 0)
+    (sym (ap (λ (b : Bool). cond b (modeOf (objectAt c t .mode)) unused) (f .opened)) ∙ q)
+  where
+    touched-mode : (b : Bool) → cond b read write ≡ unused → ⊥
+    touched-mode true e = clash (cc)
+    touched-mode false e = clash (cc)
+
 module _ (F : Past) (st : Station) (σ : State ℕ) (l : List Tx) (sim : Sim st σ l) (meets : (n : ℕ) → Meets tree (st .records n)) where
   -- the transaction that shows a value is the owner's present one
-  shows-carried : (n s t v : ℕ) → Shows (st .records n) s t v → Asked (σ .history) (tx n s) → σ .history .contents (tx n s) .found t ≡ v
+  shows-carried : (n s t v : ℕ) → Shows (st .records n) s t v → Asked (σ .history) (tx n s)
+      → (σ .history .contents (tx n s) .found t ≡ v) × (σ .history .contents (tx n s) .mode t ≢ unused)
   shows-carried n s t v f a =
       let e : tx n s ≡ tx n (st .records n .serial) = ap (tx n) (sym (f .present)) in
-      let k = asked-contents st σ l sim n (meets n) (f .begun) (subst (Asked (σ .history)) e a) in
-      ap (λ (y : Tx). σ .history .contents y .found t) e ∙ ap (λ (z : Contents ℕ). z .found t) k ∙ f .value
+      let k = ap (σ .history .contents) e ∙ asked-contents st σ l sim n (meets n) (f .begun) (subst (Asked (σ .history)) e a) in
+      (ap (λ (z : Contents ℕ). z .found t) k ∙ f .value, λ q. shown-mode (st .records n) s t v f (sym (ap (λ (z : Contents ℕ). z .mode t) k) ∙ q))
 
   pub found-next : ((x : Tx) (t v : ℕ) → F x t v → σ .history .phase x ≡ fresh → Finds st x t v)
-      → ((x : Tx) (t v : ℕ) → F x t v → Asked (σ .history) x → σ .history .contents x .found t ≡ v)
+      → ((x : Tx) (t v : ℕ) → F x t v → Asked (σ .history) x → (σ .history .contents x .found t ≡ v) × (σ .history .contents x .mode t ≢ unused))
       → ((x : Tx) (t : ℕ) → Asked (σ .history) x → σ .history .contents x .mode t ≢ unused → More F st x t (σ .history .contents x .found t))
       → Found (More F st) st (σ .history)
   found-next a b d = record {

@@ -57,6 +57,15 @@ unfolding stepOf
 taken-record rs answer c c' k = ap (λ (z : ℕ). cond {A = Step} (eqb z 0) (record { number = 0; answer = answer; coordinator = c' })
     (record { number = z; answer = 0; coordinator = c }) .coordinator) (zero-first rs k)
 
+-- a call at a node that is off has a number
+pub off-number : (number : ℕ) → whenOff number ≡ 0 → ⊥
+off-number number = by (eqb number 4) (eqb number 10) refl refl
+  where
+    by : (a b : Bool) → eqb number 4 ≡ a → eqb number 10 ≡ b → cond (a || b) number 5 ≡ 0 → ⊥
+    by true b p q e = let z = eqb-true number 4 p in let y : ⊥ = omega arith in y
+    by false true p q e = let z = eqb-true number 10 q in let y : ⊥ = omega arith in y
+    by false false p q e = let y : ⊥ = omega arith in y
+
 pub told-still : {L : Ledger} → SameTold L L
 told-still = record { serials = refl; modes = refl; news = refl; parties = refl }
 
@@ -88,14 +97,6 @@ module _ (st : Station) (L : Ledger) (F : Past) (w : World st L F) where
   refused-next call number e =
       subst (λ (b : Bool). World st (cond b (noted L call 0 none) L) (More F st)) (sym (ne-eqb number 0 e)) again
 
-  off-number : (number : ℕ) → whenOff number ≡ 0 → ⊥
-  off-number number = by (eqb number 4) (eqb number 10) refl refl
-    where
-      by : (a b : Bool) → eqb number 4 ≡ a → eqb number 10 ≡ b → cond (a || b) number 5 ≡ 0 → ⊥
-      by true b p q e = let z = eqb-true number 4 p in let y : ⊥ = omega arith in y
-      by false true p q e = let z = eqb-true number 10 q in let y : ⊥ = omega arith in y
-      by false false p q e = let y : ⊥ = omega arith in y
-
   -- ---- a host call: its refusals, its answer, the record after it
   module _ (n : ℕ) (call : Call) (rs : List Refusal) (answer : ℕ) (c' : Coordinator) (all : T (numbered rs)) where
     abbrev c : Coordinator
@@ -107,10 +108,14 @@ module _ (st : Station) (L : Ledger) (F : Past) (w : World st L F) where
     by-number : (up b : Bool) → eqb (firstOf rs) 0 ≡ b → (Clear rs → After)
         → Next call (cond up (cond (eqb (cond {A = Step} b (record { number = 0; answer = answer; coordinator = c' })
         (record { number = firstOf rs; answer = 0; coordinator = c }) .number) 0)
-        (record { number = 0; answer = cond {A = Step} b (record { number = 0; answer = answer; coordinator = c' })
-        (record { number = firstOf rs; answer = 0; coordinator = c }) .answer; put = none;
-        station = withRecord st n (cond {A = Step} b (record { number = 0; answer = answer; coordinator = c' })
-        (record { number = firstOf rs; answer = 0; coordinator = c }) .coordinator) })
+        (record {
+          number = 0;
+          answer = cond {A = Step} b (record { number = 0; answer = answer; coordinator = c' })
+              (record { number = firstOf rs; answer = 0; coordinator = c }) .answer;
+          put = none;
+          station = withRecord st n (cond {A = Step} b (record { number = 0; answer = answer; coordinator = c' })
+              (record { number = firstOf rs; answer = 0; coordinator = c }) .coordinator);
+        })
         (refusedWith (cond {A = Step} b (record { number = 0; answer = answer; coordinator = c' }) (record { number = firstOf rs; answer = 0; coordinator = c }) .number) st))
         (refusedWith (whenOff (cond {A = Step} b (record { number = 0; answer = answer; coordinator = c' })
         (record { number = firstOf rs; answer = 0; coordinator = c }) .number)) st))
@@ -125,7 +130,6 @@ module _ (st : Station) (L : Ledger) (F : Past) (w : World st L F) where
     pub host-next : (Clear rs → After) → Next call (hosted st n (stepOf (firstOf rs) answer c c'))
     unfolding hosted stepOf
     host-next f = by-number (contains (st .on) n) (eqb (firstOf rs) 0) refl f
-
 
   -- ---- the calls
   module _ (n : ℕ) where

@@ -22,3 +22,4 @@ pub mod Arrive
 pub mod Calls
 pub mod Answered
 pub mod Served
+pub mod Sends

@@ -41,7 +41,7 @@ use Rattle.history.proofs.Answers.{done-fits, copy-fits, vote-fits, non
 
 -- ---- what an answer tells
 -- whether it is a yes of the root
-root-yes : (a : Message) → Fits a → rootYes (encode a) ≡ (eqb (a .kind) 4 && (eqb (wordOf a) 1 && eqb (a .from) 0))
+pub root-yes : (a : Message) → Fits a → rootYes (encode a) ≡ (eqb (a .kind) 4 && (eqb (wordOf a) 1 && eqb (a .from) 0))
 root-yes a f = rw (kind-of a f, word-of a f, from-of a f)
 
 pub tells-answer : (h : History ℕ) (v : Votes) (sent : List (Copy ℕ)) (a : Message) (f : Fits a) → wellFormed a ≡ true → (a .kind ≡ 3 → ⊥) → (a .kind ≡ 5 → ⊥)

@@ -82,7 +82,6 @@ module _ (st : Station) (L : Ledger) (F : Past) (w : World st L F) where
         };
       }
 
-
 module _ (st : Station) (L : Ledger) (F : Past) (w : World st L F) (k : ℕ) (kept : Bool) (b : List ℕ) (is-b : b ≡ getD (st .pool) k [])
     (waits : k < length (st .pool)) where
   abbrev m : Message
@@ -128,9 +127,10 @@ module _ (st : Station) (L : Ledger) (F : Past) (w : World st L F) (k : ℕ) (ke
           (subst (λ (x : Tx). w .state .history .phase x ≢ fresh) (tx-decoded b) (z .0))
           (subst (λ (x : Tx). Match (w .state .history .contents x) (m .entries)) (tx-decoded b) (z .1)))
           (λ e. outcome-reply st (w .state) (w .log) (w .sim) n small m t (w .valid .images n .1) e
-          (λ u. let z = tells .a-commit (kind-is 5 e) (word-decoded b ∙ u) in
-          (subst (λ (x : Tx). w .state .history .phase x ≡ committed) (tx-decoded b) (z .0),
-          subst (λ (x : Tx). Match (w .state .history .contents x) (m .entries)) (tx-decoded b) (z .1)))
+          (λ u. let z = tells .a-commit (kind-is 5 e) (word-decoded b ∙ u) in (
+            subst (λ (x : Tx). w .state .history .phase x ≡ committed) (tx-decoded b) (z .0),
+            subst (λ (x : Tx). Match (w .state .history .contents x) (m .entries)) (tx-decoded b) (z .1),
+          ))
           (λ u. subst (λ (x : Tx). w .state .history .phase x ≡ aborted) (tx-decoded b) (tells .an-abort (kind-is 5 e) (word-decoded b ∙ u))))
 
       answered-next : (ans : Answer) → Acted st (w .state) (w .log) (w .sim) n m t (step l n m .image) (λ τ l'. Said τ (w .log) l' (txIn m) ans)
@@ -142,8 +142,12 @@ module _ (st : Station) (L : Ledger) (F : Past) (w : World st L F) (k : ℕ) (ke
       answered-next (says c) a = by (kept && full st)
         where
           by : (g : Bool) → Next st L F w (delivery k kept) (cond g (refusedWith 12 st)
-              (record { number = 0; answer = 0; put = some (encode c);
-              station = withPool (withImage (takenOut st k kept) n (step l n m .image)) (pool ++ (encode c ∷ [])) }))
+              (record {
+                number = 0;
+                answer = 0;
+                put = some (encode c);
+                station = withPool (withImage (takenOut st k kept) n (step l n m .image)) (pool ++ (encode c ∷ []));
+              }))
           by true = refused-next st L F w (delivery k kept) 12 (λ e. let z : ⊥ = omega arith in z)
           by false =
               subst (λ (L' : Ledger). World (withPool (withImage (takenOut st k kept) n (step l n m .image)) (pool ++ (encode c ∷ []))) L'

@@ -33,7 +33,7 @@ use Rattle.history.proofs.Sim.{tx, modeOf, contentsOf, Owner, Sim}
 use Rattle.history.proofs.Carry.{put-all}
 use Rattle.history.proofs.Quiet.{idle-owner, done-owner}
 use Rattle.history.proofs.Decide.{put-else, sim-asked, sim-aborted, sim-committed}
-use Rattle.history.proofs.Books.{Decided, Present, Past, More, Asked, Found, Books, Valid, World, changed, asked-contents, found-next, quiet}
+use Rattle.history.proofs.Books.{Decided, Present, Past, More, Asked, Found, Books, Valid, World, changed, found-next, shown-mode, quiet}
 use Rattle.history.proofs.Host.{no-both, other-tx, later-tx, SameTold, SameObjects, objects-still, present-on, same-decided}
 
 -- ---- a transition that moves the phase of the owner's present transaction only
@@ -59,7 +59,7 @@ module _ (st : Station) (L : Ledger) (F : Past) (w : World st L F) (n : ℕ) whe
     pub turned : (L' : Ledger) → ((b : List ℕ) → In b pool → In b (st .pool)) → L' .pool ≡ pool → L' .log ≡ l' → Decided L' (σ' .history)
         → ((i : ℕ) → Present L' i (putAt (st .records) n c' i)) → ((d : Done) → In d (L' .dones) → Late (σ' .ends) (d .node) (d .tx))
         → ((y : Tx) (t v : ℕ) → F y t v → σ' .history .phase y ≡ fresh → Finds st' y t v)
-        → ((y : Tx) (t v : ℕ) → F y t v → Asked (σ' .history) y → σ' .history .contents y .found t ≡ v)
+        → ((y : Tx) (t v : ℕ) → F y t v → Asked (σ' .history) y → (σ' .history .contents y .found t ≡ v) × (σ' .history .contents y .mode t ≢ unused))
         → ((y : Tx) (t : ℕ) → Asked (σ' .history) y → σ' .history .contents y .mode t ≢ unused → More F st' y t (σ' .history .contents y .found t))
         → World st' L' (More F st')
     turned L' sub a b d e f g i j =
@@ -183,9 +183,12 @@ module _ (st : Station) (L : Ledger) (F : Past) (w : World st L F) (n : ℕ) whe
         (λ y t v f q. on (moved y) (λ e. let r = is-voting y e in absurd (clash (cc)))
         (λ z. elsewhere c₁ y t v (z .0) (w .books .found .still y t v f (sym (z .1) ∙ q))))
         (λ y t v f a. on (moved y)
-        (λ e. let g = w .books .found .still y t v f (ap (h .phase) e ∙ x-fresh) in let s = subst (λ (u : Tx). Finds st u t v) e g in
-        ap (λ (u : Contents ℕ). u .found t) (has y e) ∙ ap (λ (u : Object). u .value) (same-open t .1) ∙ s .value)
-        (λ z. ap (λ (u : Contents ℕ). u .found t) (z .2) ∙ w .books .found .carried y t v f (asked-before y (z .1) a)))
+        (λ e. let g = w .books .found .still y t v f (ap (h .phase) e ∙ x-fresh) in let s = subst (λ (u : Tx). Finds st u t v) e g in (
+          ap (λ (u : Contents ℕ). u .found t) (has y e) ∙ ap (λ (u : Object). u .value) (same-open t .1) ∙ s .value,
+          λ q. shown-mode c (c .serial) t v s (sym (ap (λ (u : Contents ℕ). u .mode t) (has y e) ∙ same-mode t) ∙ q),
+        ))
+        (λ z. let k = w .books .found .carried y t v f (asked-before y (z .1) a) in
+        (ap (λ (u : Contents ℕ). u .found t) (z .2) ∙ k .0, λ q. k .1 (ap (λ (u : Contents ℕ). u .mode t) (sym (z .2)) ∙ q))))
         (λ y t a q. on (moved y)
         (λ e. let o = touched t (isOpen c t) refl (λ r. q (ap (λ (u : Contents ℕ). u .mode t) (has y e) ∙ same-mode t ∙ r)) in
         subst (λ (u : Tx). More F (changed st n c₁ (st .pool)) u t (h₁ .contents u .found t)) (sym e)
