@@ -23,3 +23,6 @@ pub mod Calls
 pub mod Answered
 pub mod Served
 pub mod Sends
+pub mod Wide
+pub mod Theorem
+pub mod Claimed

@@ -4,7 +4,8 @@ use mathlib.Core.Path.{_≡_}
 use mathlib.Core.Logic.{_≢_, _⊎_}
 use mathlib.Core.Bool.{true}
 use mathlib.Core.List.{List, _∷_}
-use Prim.Native.Nat.{ℕ, _≤_, _<_}
+use Prim.Native.Nat.{ℕ, _^_, _≤_, _<_}
+use lib.ListN.{length, getD}
 use Rattle.mask.specs.Mask.{contains}
 use Rattle.quorum.specs.declared.Kind.the-variants.{Read}
 use Rattle.quorum.specs.Quorum.{isQuorum}
@@ -13,12 +14,30 @@ use Rattle.coordinator.specs.declared.Coordinator.{Coordinator}
 use Rattle.coordinator.specs.State.{idlePhase, objectAt, isOpen, ready}
 use Rattle.coordinator.specs.System.{tree}
 use Rattle.station.specs.Station.{Station, blankStation}
-use Rattle.station.specs.Step.{Call, found, step}
+use Rattle.station.specs.Step.{Call, begin, openRead, openWrite, setValue, found, reselect, requestCommit, abort, send, delivery, drop, switch, step}
 use Rattle.station.specs.Run.{after, trace}
 use Rattle.protocol.specs.Table.{In, Suffix, times}
 use Rattle.protocol.specs.Rules.{unused, write}
 use Rattle.protocol.specs.State.{Tx, Tx-discrete}
 use Rattle.history.specs.Ledger.{Done, Ledger, ledger, current, fed, givenTo, lastValue}
+
+-- A step's arguments are of their C types: thirteen distances of 16 bits, a timestamp of 32 bits, a value of 64 bits. All others may be any number.
+abbrev pub Sixteen : List ℕ → Type 0
+Sixteen d = (length d ≡ 13) × ((i : ℕ) → getD d i 0 < 2 ^ 16)
+
+abbrev pub Typed : Call → Type 0
+Typed (begin n w) = (w .timestamp < 2 ^ 32) × Sixteen (w .distances)
+Typed (openRead n t) = Unit {0}
+Typed (openWrite n t) = Unit {0}
+Typed (setValue n t v) = v < 2 ^ 64
+Typed (found n t) = Unit {0}
+Typed (reselect n live d) = Sixteen d
+Typed (requestCommit n) = Unit {0}
+Typed (abort n) = Unit {0}
+Typed (send n to t) = Unit {0}
+Typed (delivery k kept) = Unit {0}
+Typed (drop k) = Unit {0}
+Typed (switch n up) = Unit {0}
 
 -- A record's present transaction has this serial, has the object open and ready, and found the value.
 pub record Shows (c : Coordinator) (serial t v : ℕ) : Type 0 where

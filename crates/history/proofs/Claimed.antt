@@ -1,0 +1,238 @@
+-- What a good history and state has: the claims of demand 3, carried over from the abstract state. Then the theorem over every list of steps.
+use mathlib.Core.Path.{_≡_, refl, sym, _∙_, ap, subst}
+use mathlib.Core.Logic.{_≢_, _⊎_, inl, inr}
+use mathlib.Core.Bool.{Bool, true, false, cond, not, _||_}
+use mathlib.Core.List.{List, [], _∷_}
+use Prim.Native.Nat.{ℕ, _<_, _≤_}
+use native.Mathlib.Omega.{arith}
+use lib.Dec.{eqb, ltb}
+use borrow.Author.Tests.{eqb-true, eqb-false, ltb-true, eq-eqb, ne-eqb}
+use Rattle.mask.specs.Mask.{contains}
+use Rattle.numbers.specs.Refusal.{firstOf}
+use Rattle.quorum.specs.declared.Kind.the-variants.{Read}
+use Rattle.quorum.specs.Quorum.{isQuorum}
+use Rattle.image.specs.Layout.{shape, value, version, versionField}
+use Rattle.image.specs.Blank.{blankAs}
+use Rattle.image.proofs.Blanks.{blank-zero}
+use Rattle.image.proofs.Each.{lt-or-le}
+use Rattle.coordinator.specs.declared.Object.{Object}
+use Rattle.coordinator.specs.declared.Coordinator.{Coordinator}
+use Rattle.coordinator.specs.declared.Step.{Step}
+use Rattle.coordinator.specs.System.{tree}
+use Rattle.coordinator.specs.State.{eight, idlePhase, idleAfter, placeOf, objectAt, isOpen, ready, stepOf}
+use Rattle.coordinator.specs.Calls.{foundRefusals, foundOf}
+use Rattle.coordinator.proofs.Refusals.{clear}
+use Rattle.clauses.proofs.Places.{place-open}
+use Rattle.station.specs.Station.{Station, withRecord}
+use Rattle.station.specs.Step.{Call, found, Outcome, refusedWith, taken, hosted, whenOff, step}
+use Rattle.station.specs.Run.{eventOf, after, trace}
+use Rattle.protocol.specs.Table.{In, Suffix, times, select}
+use Rattle.protocol.specs.Rules.{Mode, unused, write}
+use Rattle.protocol.specs.State.{Tx, Tx-discrete, fresh, committed, Contents, State}
+use Rattle.protocol.specs.Replay.{replay, given, committed?}
+use Rattle.protocol.specs.Claims.{AllApplied, Claims}
+use Rattle.protocol.specs.Log.{BaseClaims}
+use Rattle.protocol.specs.Proof.Tables.{on, clash}
+use Rattle.protocol.specs.Proof.Lists.{select-ext, given-ext, replay-ext, in-select, suffix-whole, suffix-tail}
+use Rattle.protocol.specs.Proof.Core.{claims, committed-good}
+use Rattle.protocol.specs.Proof.Log.{base-claims}
+use Rattle.protocol.specs.Refine.Messages.{done-applied}
+use Rattle.history.specs.Ledger.{Done, Ledger, nothingYet, note, ledger, current, in?, fed, turn, givenTo, lastValue}
+use Rattle.history.specs.Claims.{Typed, Shows, Finds, Settled, Newest, reached, told, Demand3}
+use Rattle.history.proofs.Quorums.{quorums, rules, top, of-mask}
+use Rattle.history.proofs.Sim.{tx, contentsOf, Owner, Sim}
+use Rattle.history.proofs.Books.{Decided, Present, Past, More, World}
+use Rattle.history.proofs.Calls.{off-number, not-false}
+use Rattle.history.proofs.Theorem.{Good, good-next, good-past, blank-good}
+
+module _ (st : Station) (L : Ledger) (F : Past) (g : Good st L F) where
+  abbrev w : World st L F
+  w = g .world
+
+  abbrev σ : State ℕ
+  σ = w .state
+
+  abbrev d : Decided L (σ .history)
+  d = w .books .decided
+
+  base : BaseClaims rules σ (w .log)
+  base = base-claims rules top σ (w .sim .kept .inv) (w .log) (w .sim .kept .log)
+
+  core : Claims rules σ
+  core = claims rules σ (w .sim .kept .inv)
+
+  -- what replay is fed is the same
+  fed-as : fed L ≡ Rattle.protocol.specs.Log.fed σ (w .log)
+  fed-as = ap (select (λ x. in? x (L .committed))) (w .books .log-as)
+      ∙ select-ext (λ x. in? x (L .committed)) (committed? (σ .history)) (w .log) (λ x i. (d .told-so x, d .is-told x))
+
+  fed-committed : (x : Tx) → In x (Rattle.protocol.specs.Log.fed σ (w .log)) → σ .history .phase x ≡ committed
+  fed-committed x i = in-select (committed? (σ .history)) (w .log) x i .1
+
+  -- and so is each turn
+  turn-as : (x : Tx) → σ .history .phase x ≡ committed → (t a : ℕ) → turn L x t a ≡ Rattle.protocol.specs.Replay.turn (σ .history .contents) x t a
+  turn-as x p t a = rw (d .its-mode x p t, d .its-new x p t)
+
+  given-as : (x : Tx) (t : ℕ) → givenTo L x t ≡ Rattle.protocol.specs.Replay.givenTo rules (σ .history .contents) x (Rattle.protocol.specs.Log.fed σ (w .log)) t
+  unfolding givenTo
+  given-as x t = ap (λ (l : List Tx). given Tx-discrete 0 (turn L) x l t) fed-as
+      ∙ given-ext Tx-discrete 0 (Rattle.protocol.specs.Replay.turn (σ .history .contents)) (turn L) x (Rattle.protocol.specs.Log.fed σ (w .log)) t
+      (λ y i a. turn-as y (fed-committed y i) t a)
+
+  last-as : (t : ℕ) → lastValue L t ≡ Rattle.protocol.specs.Replay.lastValue rules (σ .history .contents) (Rattle.protocol.specs.Log.fed σ (w .log)) t
+  unfolding lastValue
+  last-as t = ap (λ (l : List Tx). replay 0 (turn L) l t) fed-as
+      ∙ replay-ext 0 (Rattle.protocol.specs.Replay.turn (σ .history .contents)) (turn L) (Rattle.protocol.specs.Log.fed σ (w .log)) t
+      (λ y i a. turn-as y (fed-committed y i) t a)
+
+  -- ---- (0)
+  pub is-logged-once : (x : Tx) → In x (L .committed) → times Tx-discrete x (L .log) ≡ 1
+  is-logged-once x i = ap (times Tx-discrete x) (w .books .log-as) ∙ base .logged-once x (d .told-so x i)
+
+  pub is-fed-once : (x : Tx) → In x (L .committed) → times Tx-discrete x (fed L) ≡ 1
+  is-fed-once x i = ap (times Tx-discrete x) fed-as ∙ base .fed-once x (d .told-so x i)
+
+  -- ---- (a)
+  pub is-serial : (x : Tx) (t v : ℕ) → In x (L .committed) → F x t v → v ≡ givenTo L x t
+  is-serial x t v i f =
+      let p = d .told-so x i in
+      let c = w .books .found .carried x t v f (inr p) in
+      sym (c .0) ∙ base .serial x t p (c .1) ∙ sym (given-as x t)
+
+  pub was-found : (x : Tx) (t : ℕ) → In x (L .committed) → L .mode x t ≢ unused → F x t (givenTo L x t)
+  was-found x t i q =
+      let p = d .told-so x i in
+      let touched : σ .history .contents x .mode t ≢ unused = λ e. q (d .its-mode x p t ∙ e) in
+      subst (F x t) (base .serial x t p touched ∙ sym (given-as x t)) (w .books .found .had x t (inr p) touched)
+
+  -- ---- (b)
+  source-as : (t v : ℕ) → (v ≡ 0) ⊎ ((y : Tx) × (σ .history .phase y ≡ committed) × (σ .history .contents y .mode t ≡ write) × (v ≡ σ .history .contents y .new t))
+      → (v ≡ 0) ⊎ ((y : Tx) × In y (L .committed) × (L .mode y t ≡ write) × (v ≡ L .new y t))
+  source-as t v (inl e) = inl e
+  source-as t v (inr z) = inr (z .0, d .is-told (z .0) (z .1), d .its-mode (z .0) (z .1) t ∙ z .2, z .3 ∙ sym (d .its-new (z .0) (z .1) t))
+
+  pub is-sourced : (x : Tx) (t v : ℕ) → Finds st x t v → (v ≡ 0) ⊎ ((y : Tx) × In y (L .committed) × (L .mode y t ≡ write) × (v ≡ L .new y t))
+  is-sourced x t v f =
+      let c = st .records (x .owner) in
+      let z = place-open (c .objects) (c .count) t (ltb-true (placeOf c t) eight (f .opened)) in
+      on (w .sim .owners (x .owner) .found (placeOf c t))
+      (λ q. inl (sym (f .value) ∙ q .1))
+      (λ i. source-as t v (subst (λ (a : ℕ). (a ≡ 0) ⊎ ((y : Tx) × (σ .history .phase y ≡ committed) × (σ .history .contents y .mode t ≡ write) × (a ≡ σ .history .contents y .new t)))
+      (f .value) (subst (λ (o : ℕ). (objectAt c t .value ≡ 0) ⊎ ((y : Tx) × (σ .history .phase y ≡ committed) × (σ .history .contents y .mode o ≡ write)
+      × (objectAt c t .value ≡ σ .history .contents y .new o))) (z .1 .1) (core .sent _ i))))
+
+  -- ---- (c)
+  all-applied : Settled L → AllApplied (σ .votes) (σ .history)
+  all-applied s x n p q =
+      done-applied rules σ (w .sim .kept .inv) n x p q
+      (w .books .dones (record { node = n; tx = x }) (s x (d .is-told x p) n (d .its-party x p n ∙ q)))
+
+  pub is-newest : Settled L → (q : ℕ) → isQuorum Read q ≡ true → (n t : ℕ) → n < 13 → contains q n ≡ true → t < 64 → Newest st q n t
+      → value (st .images n) t ≡ lastValue L t
+  is-newest s q r n t small i known new =
+      sym (w .sim .reads .r-value n t)
+      ∙ core .newest (all-applied s) (contains q)
+      (λ x p. quorums .meet (contains q) (σ .history .contents x .participants) (of-mask Read q r) (committed-good rules σ (w .sim .kept .inv) x p)) n t
+      (λ m j. subst (λ (k : ℕ). k ≤ σ .store .version n t) (sym (w .sim .reads .r-version m t))
+      (subst (λ (k : ℕ). version (st .images m) t ≤ k) (sym (w .sim .reads .r-version n t)) (below m j)))
+      ∙ sym (base .last t) ∙ sym (last-as t)
+    where
+      below : (m : ℕ) → contains q m ≡ true → version (st .images m) t ≤ version (st .images n) t
+      below m j = on (lt-or-le m 13) (λ h. new m h j)
+          (λ h. subst (λ (k : ℕ). k ≤ version (st .images n) t)
+          (sym (ap (λ (l : List ℕ). version l t) (g .wide .beyond m h) ∙ blank-zero (versionField shape) t tt tt tt)) (omega arith))
+
+-- ---- an accepted found call shows what is found
+found-taken : (st : Station) (n t : ℕ) → step st (found n t) .number ≡ 0
+    → (firstOf (foundRefusals tree (st .records n) n t) ≡ 0) × (step st (found n t) .answer ≡ objectAt (st .records n) t .value)
+unfolding step hosted foundOf stepOf
+found-taken st n t e = by (contains (st .on) n) (eqb number 0) refl e
+  where
+    c : Coordinator
+    c = st .records n
+
+    number : ℕ
+    number = firstOf (foundRefusals tree c n t)
+
+    s : Bool → Step
+    s b = cond b (record { number = 0; answer = objectAt c t .value; coordinator = c }) (record { number = number; answer = 0; coordinator = c })
+
+    out : Bool → Bool → Outcome
+    out up b = cond up (cond (eqb (s b .number) 0) (taken (s b .answer) (withRecord st n (s b .coordinator))) (refusedWith (s b .number) st))
+        (refusedWith (whenOff (s b .number)) st)
+
+    by : (up b : Bool) → eqb number 0 ≡ b → out up b .number ≡ 0 → (number ≡ 0) × (out up b .answer ≡ objectAt c t .value)
+    by true true p q = (eqb-true number 0 p, refl)
+    by true false p q = absurd (refused-number (eqb number 0) p q)
+      where
+        refused-number : (x : Bool) → x ≡ false → cond x (taken 0 (withRecord st n c)) (refusedWith number st) .number ≡ 0 → ⊥
+        refused-number true e f = let z : true ≡ false = e in clash (cc)
+        refused-number false e f = eqb-false number 0 p f
+    by false true p q = absurd (off-number 0 q)
+    by false false p q = absurd (off-number number q)
+
+pub shown-by : (st : Station) (n t s : ℕ) → st .records n .serial ≡ s → step st (found n t) .number ≡ 0 → Shows (st .records n) s t (step st (found n t) .answer)
+unfolding foundRefusals
+shown-by st n t s e q =
+    let c = st .records n in
+    let z = found-taken st n t q in
+    let k = clear (foundRefusals tree c n t) tt (z .0) in
+    record {
+      begun = λ i. absurd (let x = k .1 .0 in let y = eq-eqb (c .phase) idlePhase i in clash (cc));
+      present = e;
+      opened = not-false (isOpen c t) (k .1 .1 .0);
+      is-ready = not-false (ready tree (objectAt c t)) (k .1 .1 .1 .0);
+      value = sym (z .1);
+    }
+
+-- ---- every list of steps
+abbrev pub AllTyped : List Call → Type 0
+AllTyped [] = Unit {0}
+AllTyped (c ∷ cs) = Typed c × AllTyped cs
+
+module _ (up : ℕ) where
+  -- found after some earlier list
+  abbrev Earlier : List Call → Past
+  Earlier cs x t v = (ds : List Call) × Suffix ds cs × Finds (reached up ds) x t v
+
+  nothing-found : (x : Tx) (t v : ℕ) → Earlier [] x t v → ⊥
+  unfolding idleAfter
+  nothing-found x t v z = z .2 .begun (ap (λ (cs : List Call). reached up cs .records (x .owner) .phase) (z .1))
+
+  longer : (c : Call) (cs : List Call) (x : Tx) (t v : ℕ) → More (Earlier cs) (reached up (c ∷ cs)) x t v → Earlier (c ∷ cs) x t v
+  longer c cs x t v (inl z) = (z .0, inr (z .1), z .2)
+  longer c cs x t v (inr f) = (c ∷ cs, inl refl, f)
+
+  shorter : (c : Call) (cs : List Call) (x : Tx) (t v : ℕ) → Earlier (c ∷ cs) x t v → More (Earlier cs) (reached up (c ∷ cs)) x t v
+  shorter c cs x t v z = on (z .1) (λ e. inr (subst (λ (ds : List Call). Finds (reached up ds) x t v) e (z .2))) (λ s. inl (z .0, s, z .2))
+
+  pub always-good : (cs : List Call) → AllTyped cs → Good (reached up cs) (told up cs) (Earlier cs)
+  unfolding ledger
+  always-good [] a = blank-good up (Earlier []) nothing-found
+  always-good (c ∷ cs) a =
+      good-past (reached up (c ∷ cs)) (told up (c ∷ cs)) (More (Earlier cs) (reached up (c ∷ cs))) (Earlier (c ∷ cs)) (longer c cs) (shorter c cs)
+      (good-next (reached up cs) (told up cs) (Earlier cs) (always-good cs (a .1)) c (a .0))
+
+  typed-suffix : (ds cs : List Call) → Suffix ds cs → AllTyped cs → AllTyped ds
+  typed-suffix ds [] e a = subst AllTyped (sym e) tt
+  typed-suffix ds (c ∷ cs) (inl e) a = subst AllTyped (sym e) a
+  typed-suffix ds (c ∷ cs) (inr s) a = typed-suffix ds cs s (a .1)
+
+  -- THE THEOREM: for every list of steps, whichever nodes are on
+  pub demand-3 : (cs : List Call) → AllTyped cs → Demand3 up cs
+  demand-3 cs a = let g = always-good cs a in record {
+    logged-once = is-logged-once _ _ _ g;
+    fed-once = is-fed-once _ _ _ g;
+    was-ready = was-found _ _ _ g;
+    serial = λ x t v ds i s f. is-serial _ _ _ g x t v i (ds, s, f);
+    shown = λ x n t ds i s e q.
+        let h = always-good ds (typed-suffix ds cs (suffix-tail (found n t) ds cs s) a) in
+        is-serial _ _ _ g x t _ i (
+          ds,
+          suffix-tail (found n t) ds cs s,
+          subst (λ (y : Tx). Finds (reached up ds) y t (step (reached up ds) (found n t) .answer)) e
+              (shown-by (reached up ds) n t (told up ds .serials n) (sym (h .world .books .present n .serial-as)) q),
+        );
+    sourced = is-sourced _ _ _ g;
+    newest = is-newest _ _ _ g;
+  }
