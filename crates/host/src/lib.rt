@@ -2,6 +2,7 @@
 
 mod images;
 mod messages;
+mod records;
 
 ghost use mathlib.Core.Path.{_≡_};
 ghost use mathlib.Core.Bool.{cond};
