@@ -323,7 +323,8 @@ unfolding bytesOf frontBytes quorumBytes voteBytes
 bytes-small c f =
     all-bytes (bytesOf c)
     (join (frontBytes c) _
-    (join (le 4 (c .serial)) _ (all-le 4 (c .serial)) (join (le 4 (c .timestamp)) _ (all-le 4 (c .timestamp)) (f .outcome-8, (f .phase-8, all-le 2 (c .live)))))
+    (join (le 4 (c .serial)) _ (all-le 4 (c .serial)) (join (le 4 (c .timestamp)) _ (all-le 4 (c .timestamp))
+    (f .outcome-8, (f .phase-8, all-le 2 (c .live)))))
     (join (together (le 2) (c .distances)) _ (all-numbers-small 2 (c .distances))
     (join (quorumBytes c) _
     (join (le 2 (c .quorum)) _ (all-le 2 (c .quorum)) (join (le 2 (c .contacted)) _ (all-le 2 (c .contacted)) (mod-lt (c .count) (lit< tt), tt)))
