@@ -345,8 +345,8 @@ senna_called senna_coordinator_abort(uint8_t *record, size_t length, uint8_t me)
  * Delivers a message; answers what it brought about, SENNA_NOTHING to SENNA_FINISHED. One that does not fit the transaction changes
  * nothing and has no number. message and record are apart.
  *
- * Numbers, the lowest that fits: SENNA_LENGTH and SENNA_DAMAGED of the record, SENNA_LENGTH (size is not SENNA_MESSAGE_MIN to
- * SENNA_MESSAGE_MAX), SENNA_GARBLED, SENNA_STRANGER (for another node), SENNA_OUT_OF_TURN (a fetch, an ask or an outcome).
+ * Numbers, the lowest that fits: SENNA_LENGTH (of the record, or size is not SENNA_MESSAGE_MIN to SENNA_MESSAGE_MAX), SENNA_DAMAGED,
+ * SENNA_GARBLED, SENNA_STRANGER (me above 12, or for another node), SENNA_OUT_OF_TURN (a fetch, an ask or an outcome).
  */
 senna_called senna_coordinator_receive(uint8_t *record, size_t length, uint8_t me, const uint8_t *message, size_t size);
 

@@ -114,6 +114,8 @@ static void damaged(void)
     memcpy(before, record, sizeof record);
     check(senna_check_record(record, sizeof record) == SENNA_DAMAGED, "a phase above 3");
     refused(senna_coordinator_abort(record, sizeof record, ME), SENNA_DAMAGED, "a damaged record");
+    refused(senna_coordinator_receive(record, sizeof record, ME, message, 14), SENNA_LENGTH, "a short message to a damaged record");
+    refused(senna_coordinator_receive(record, sizeof record, ME, message, 15), SENNA_DAMAGED, "a garbled message to a damaged record");
     check(senna_coordinator_phase(record, sizeof record) == 0, "an accessor gives 0");
     check(senna_coordinator_due(record, sizeof record, ME, 0, 0, message, 127).number == SENNA_LENGTH, "the buffer's length comes first");
     check(due(0, 0).number == SENNA_DAMAGED && message[0] == 0xa5, "nothing is written for a damaged record");

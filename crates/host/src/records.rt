@@ -10,7 +10,7 @@ ghost use Rattle.coordinator.specs.State.{noObject, ready};
 ghost use Rattle.coordinator.specs.Calls.{openOf, setOf, foundOf, requestCommitOf, abortOf};
 ghost use Rattle.coordinator.specs.Receive.{receiveOf};
 ghost use Rattle.record.specs.Record.{check, shown};
-ghost use Rattle.record.specs.Call.{calledOf, recordAfter, blankNumber, blankAfter, recordDue, recordDueBuffer};
+ghost use Rattle.record.specs.Call.{calledOf, recordAfter, receivedOf, blankNumber, blankAfter, recordDue, recordDueBuffer};
 ghost use Rattle.host.specs.Records.{answerWith, bytesWith, beginStep, reselectStep, valueOf};
 use crate::DISTANCES;
 use crate::distances_of;
@@ -144,10 +144,10 @@ pub extern "C" fn senna_coordinator_abort(bytes: &mut [u8], me: u8) -> Called
     record::abort(bytes, me)
 }
 
-// Delivers a message; answers what it brought about. Ruled out: commit by a majority; a message for another node taken.
+// Delivers a message; answers what it brought about. Ruled out: commit by a majority; 2 for a damaged record and a message of 14 bytes.
 #[no_mangle]
 pub extern "C" fn senna_coordinator_receive(bytes: &mut [u8], me: u8, message: &[u8]) -> Called
-    ensures { λ r. ⌜ r ≡ calledOf (λ (c : Coordinator). receiveOf tree c me (now (message .entry))) (now (bytes .entry)) ⌝ }
+    ensures { λ r. ⌜ r ≡ receivedOf me (now (message .entry)) (now (bytes .entry)) ⌝ }
     ensures { λ r. ⌜ now (bytes .exit) ≡ recordAfter (λ (c : Coordinator). receiveOf tree c me (now (message .entry))) (now (bytes .entry)) ⌝ }
 {
     record::receive(bytes, me, message)
