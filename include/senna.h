@@ -1,6 +1,6 @@
 /*
- * senna.h: replicated objects on a tree of thirteen nodes: the quorums, the messages between nodes, a node's stored image, and the
- * replica that answers messages from it.
+ * senna.h: replicated objects on a tree of thirteen nodes: the quorums, the messages between nodes, a node's stored image, the
+ * replica that answers messages from it, and the record of the node's own transaction.
  *
  * Link with libhost.a, which `rt staticlib host` writes to target/staticlib/. Nothing else is needed.
  *
@@ -36,6 +36,7 @@ extern "C" {
 #define SENNA_MESSAGE_MIN 15  /* bytes of the shortest message */
 #define SENNA_MESSAGE_MAX 128 /* bytes of the longest message, and of the smallest buffer for one */
 #define SENNA_IMAGE 1207      /* bytes of a stored image */
+#define SENNA_RECORD 301      /* bytes of a coordinator's record */
 
 /* Numbers. A call answers 0, or why it refuses; where several fit, the lowest unless its comment says otherwise. */
 #define SENNA_OK 0
@@ -286,6 +287,143 @@ senna_received senna_replica_receive(uint8_t *image, size_t image_length, uint8_
  * 0 also where it refuses. Never refuses itself. Only reads the bytes at image and message; no heap; re-entrant.
  */
 uint8_t senna_replica_answers(const uint8_t *image, size_t image_length, uint8_t me, const uint8_t *message, size_t length);
+
+/*
+ * Records. What a node keeps of its own transaction, as its coordinator, is a record of SENNA_RECORD bytes. Numbers are little-endian:
+ *   last serial 4, last timestamp 4, last outcome 1, phase 1
+ *   live nodes 2, thirteen distances of 2, the present read quorum 2, the contacted nodes 2
+ *   how many objects are open 1, then eight places in the order of opening: object 1, mode 1, the nodes whose copies came 2, version
+ *   found 4, value found 8, whether a new value was given 1, new value 8
+ *   the participants 2, who voted yes 2, who said done 2, thirteen serials of rivals of 4, by owner
+ *
+ * A record begins as senna_blank_record makes it, and the calls below change it in place. Every call takes the record first, then me, the
+ * node's own number. A record that no call could have left so is damaged.
+ *
+ * Numbers of every call: SENNA_LENGTH (length is not SENNA_RECORD, or another lent length is wrong) and SENNA_DAMAGED come first, then
+ * SENNA_STRANGER for me above 12, then what its comment says, the lowest that fits unless it says otherwise. On a refusal every lent
+ * byte is as it was.
+ */
+
+/* Phases. */
+#define SENNA_IDLE 0      /* no transaction; the rest of the record is blank but for the last serial, timestamp and outcome */
+#define SENNA_OPEN 1      /* objects are opened and read */
+#define SENNA_VOTING 2    /* votes are asked for */
+#define SENNA_FINISHING 3 /* the outcome is told until every participant says done */
+
+/* What a delivery brought about. Committed and aborted are a transaction's outcomes too; 0 is none yet. */
+#define SENNA_NOTHING 0
+#define SENNA_COMMITTED 1
+#define SENNA_ABORTED 2
+#define SENNA_READY 3    /* copies of an object have come from a read quorum */
+#define SENNA_FINISHED 4 /* the last done came: the record is idle */
+
+/* The answer of a call on a record. On a refusal answer is 0. */
+typedef struct senna_called {
+    uint8_t number;  /* SENNA_OK, or why the call refuses */
+    uint64_t answer; /* what its comment says, else 0 */
+} senna_called;
+
+/* The answer of senna_coordinator_found. On a refusal value is 0. */
+typedef struct senna_value {
+    uint8_t number; /* SENNA_OK, or why the call refuses */
+    int64_t value;
+} senna_value;
+
+/*
+ * Whether bytes are a record: SENNA_LENGTH (length is not SENNA_RECORD), SENNA_DAMAGED (a rule is broken), SENNA_OK.
+ * Only reads the bytes at record; no heap; re-entrant.
+ */
+uint8_t senna_check_record(const uint8_t *record, size_t length);
+
+/*
+ * Writes the record of a node that never began a transaction: all zeros. Number: SENNA_LENGTH (length is not SENNA_RECORD), and then
+ * nothing is written. Only writes to record; no heap; re-entrant.
+ */
+uint8_t senna_blank_record(uint8_t *record, size_t length);
+
+/*
+ * Begins a transaction with the next serial; answers the chosen read quorum.
+ *
+ * live       the nodes that may be chosen, at most SENNA_ALL
+ * distances  SENNA_DISTANCES bytes, as for senna_nearest_read; another size is SENNA_LENGTH
+ * timestamp  above the last one
+ *
+ * Numbers: SENNA_STRANGER (also live above SENNA_ALL), SENNA_BUSY (the phase is not SENNA_IDLE; before the next), SENNA_OUT_OF_TURN
+ * (timestamp not above the last), SENNA_NO_QUORUM, SENNA_USED_UP (the last serial is 4294967295).
+ */
+senna_called senna_coordinator_begin(uint8_t *record, size_t length, uint8_t me, uint16_t live, const uint8_t *distances, size_t size,
+                                     uint32_t timestamp);
+
+/*
+ * Takes a fresh live mask and distances while open; answers the newly chosen read quorum, which is contacted if an object is open.
+ * Numbers: SENNA_STRANGER (also live above SENNA_ALL), SENNA_OUT_OF_TURN (not SENNA_OPEN), SENNA_NO_QUORUM.
+ */
+senna_called senna_coordinator_reselect(uint8_t *record, size_t length, uint8_t me, uint16_t live, const uint8_t *distances, size_t size);
+
+/*
+ * Opens an object, to read it or to write it; the present read quorum is contacted.
+ * Numbers: SENNA_OUT_OF_TURN (not SENNA_OPEN), SENNA_NO_SUCH_OBJECT (above 63, or opened already), SENNA_EIGHT_OPEN.
+ */
+senna_called senna_coordinator_open_read(uint8_t *record, size_t length, uint8_t me, uint8_t object);
+senna_called senna_coordinator_open_write(uint8_t *record, size_t length, uint8_t me, uint8_t object);
+
+/*
+ * Gives an object that was opened to write its new value; the last one given counts.
+ * Numbers: SENNA_OUT_OF_TURN (not SENNA_OPEN), SENNA_NO_SUCH_OBJECT (not opened, or opened to read).
+ */
+senna_called senna_coordinator_set_value(uint8_t *record, size_t length, uint8_t me, uint8_t object, int64_t value);
+
+/*
+ * The value found for an opened object, in every phase but SENNA_IDLE. The record stays as it is.
+ * Numbers: SENNA_OUT_OF_TURN (SENNA_IDLE), SENNA_NO_SUCH_OBJECT (not opened), SENNA_NOT_READY.
+ */
+senna_value senna_coordinator_found(uint8_t *record, size_t length, uint8_t me, uint8_t object);
+
+/*
+ * Asks for votes; answers the participants, who are the nearest write quorum and every contacted node.
+ * Numbers, in this order: SENNA_OUT_OF_TURN (not SENNA_OPEN), SENNA_NOT_READY (no object, one not ready, or one to write without its
+ * new value), SENNA_NO_QUORUM, SENNA_USED_UP (a written version is 4294967295).
+ */
+senna_called senna_coordinator_request_commit(uint8_t *record, size_t length, uint8_t me);
+
+/* Gives the transaction up. Number: SENNA_OUT_OF_TURN (neither SENNA_OPEN nor SENNA_VOTING). */
+senna_called senna_coordinator_abort(uint8_t *record, size_t length, uint8_t me);
+
+/*
+ * Delivers a message; answers what it brought about, SENNA_NOTHING to SENNA_FINISHED. One that does not fit the transaction changes
+ * nothing and has no number. message and record are apart.
+ *
+ * Numbers, the lowest that fits: SENNA_LENGTH (of the record, or size is not SENNA_MESSAGE_MIN to SENNA_MESSAGE_MAX), SENNA_DAMAGED,
+ * SENNA_GARBLED, SENNA_STRANGER (me above 12, or for another node), SENNA_OUT_OF_TURN (a fetch, an ask or an outcome).
+ */
+senna_called senna_coordinator_receive(uint8_t *record, size_t length, uint8_t me, const uint8_t *message, size_t size);
+
+/*
+ * Writes the message that is due to a node, and while SENNA_OPEN for an object; in other phases object does not matter. The record is
+ * only read. Nothing due: SENNA_OK with length 0, and nothing is written.
+ *
+ * out   where the message goes; the bytes behind it are left alone
+ * size  the bytes at out, at least SENNA_MESSAGE_MAX
+ *
+ * Numbers: SENNA_LENGTH (of either), SENNA_DAMAGED, SENNA_STRANGER (me or node above 12), SENNA_NO_SUCH_OBJECT (while SENNA_OPEN: above
+ * 63, or not opened).
+ */
+senna_written senna_coordinator_due(const uint8_t *record, size_t length, uint8_t me, uint8_t node, uint8_t object, uint8_t *out,
+                                    size_t size);
+
+/*
+ * What a record says, for a host that resumes from kept bytes; 0 where the bytes are no record. The i-th object is counted from 0 in
+ * the order of opening, and is 0 past the count. They only read the bytes at record; no heap; re-entrant.
+ */
+uint8_t senna_coordinator_phase(const uint8_t *record, size_t length);
+uint32_t senna_coordinator_serial(const uint8_t *record, size_t length);
+uint32_t senna_coordinator_timestamp(const uint8_t *record, size_t length);
+uint8_t senna_coordinator_outcome(const uint8_t *record, size_t length);
+uint16_t senna_coordinator_participants(const uint8_t *record, size_t length);
+size_t senna_coordinator_count(const uint8_t *record, size_t length);
+uint8_t senna_coordinator_object(const uint8_t *record, size_t length, uint8_t i);
+uint8_t senna_coordinator_mode(const uint8_t *record, size_t length, uint8_t i);
+uint8_t senna_coordinator_is_ready(const uint8_t *record, size_t length, uint8_t i);
 
 #ifdef __cplusplus
 }

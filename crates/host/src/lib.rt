@@ -2,6 +2,7 @@
 
 mod images;
 mod messages;
+mod records;
 mod replicas;
 
 ghost use mathlib.Core.Path.{_≡_};

@@ -1,7 +1,9 @@
 -- What the proofs of the functions share: equal fields (Made), loops that read items (Items), bytes stored piece by piece (Stores), a call on
--- bytes (OnBytes). The laws of the layout: RoundTrip.
+-- bytes (OnBytes). The laws of the layout (RoundTrip), and that every call leaves a
+-- record (Kept).
 pub mod Made
 pub mod Items
 pub mod Stores
 pub mod OnBytes
 pub mod RoundTrip
+pub mod Kept

@@ -8,13 +8,15 @@ use lib.Dec.{eqb}
 use lib.ListN.{length}
 use borrow.Author.Tests.{eq-eqb, ne-eqb, eqb-true}
 use Rattle.numbers.specs.Refusal.{firstOf}
+use Rattle.wire.specs.Decode.{checkOf}
 use Rattle.wire.specs.Write.{answer}
 use Rattle.coordinator.specs.declared.Coordinator.{Coordinator}
 use Rattle.coordinator.specs.declared.Step.{Step}
 use Rattle.coordinator.specs.System.{tree}
+use Rattle.coordinator.specs.Receive.{receiveRefusals, receiveOf}
 use Rattle.due.specs.Due.{dueWritten, dueBuffer}
 use Rattle.record.specs.Record.{recordOf, check}
-use Rattle.record.specs.Call.{called, calledOf, kept, recordAfter, dueFirst, recordDue, recordDueBuffer}
+use Rattle.record.specs.Call.{called, calledOf, kept, recordAfter, receivedOf, dueFirst, recordDue, recordDueBuffer}
 
 -- bytes that are a record have its length
 long : (b : Bool) (n : ℕ) → cond b n 1 ≡ 0 → b ≡ true
@@ -53,6 +55,25 @@ module _ (f : Coordinator → Step) (l : List ℕ) where
           let n : f (recordOf l) .number ≡ 0 → ⊥ = (λ z. h (simp e z)) in
           simp (e, ne-eqb (f (recordOf l) .number) 0 n)
       by false e = simp e
+
+-- ---- a delivery
+module _ (me : ℕ) (m l : List ℕ) where
+  pub short-answer : eqb (checkOf m) 1 ≡ true → called 1 0 ≡ receivedOf me m l
+  unfolding receivedOf
+  short-answer t = simp t
+
+  -- a message of another length is refused by the call itself, so the bytes are left
+  pub short-bytes : eqb (checkOf m) 1 ≡ true → l ≡ recordAfter (λ (c : Coordinator). receiveOf tree c me m) l
+  unfolding recordAfter kept receiveOf receiveRefusals
+  short-bytes t = simp t (sym (same (eqb (check l) 0) l))
+    where
+      same : (b : Bool) (l : List ℕ) → cond b l l ≡ l
+      same true l = refl
+      same false l = refl
+
+  pub long-answer : eqb (checkOf m) 1 ≡ false → calledOf (λ (c : Coordinator). receiveOf tree c me m) l ≡ receivedOf me m l
+  unfolding receivedOf
+  long-answer t = simp t
 
 -- ---- what is due
 module _ (l : List ℕ) (me node object : ℕ) where

@@ -6,9 +6,10 @@ use Prim.Native.Nat.{ℕ, zero, suc, _+_, _*_, _/_, _%_, _^_, _<_, _≤_}
 use native.Mathlib.Nat.{mod-lt}
 use native.Mathlib.Numerals.{add-one}
 use native.Mathlib.Omega.{arith}
-use lib.Dec.{eqb, leb, lit<, leb→le}
-use borrow.Author.Tests.{leb-true, eqb-true, eqb-false}
+use lib.Dec.{eqb, leb, lit<, lit≤, leb→le}
+use borrow.Author.Tests.{eqb-true, eqb-false, le-leb}
 use lib.ListN.{length, getD, drop, drop-of-length-le}
+use lib.Seq.{getD-drop}
 use Rattle.mask.proofs.Tests.{and-left, and-right, T-true, compared}
 use Rattle.octets.specs.Octets.{get, le}
 use Rattle.octets.proofs.Laws.{Bytes, length-le}
@@ -65,6 +66,34 @@ object-at l x i y f h =
     (ap (λ (n : ℕ). eqb n 1) (byte-at l (i + 16) (cond (x .given) 1 0) _ h16) ∙ given-read (x .given))
     (number-at l 8 (i + 17) (x .new) y (f .valued .new-64) h17)
 
+-- whether a value was given is 0 or 1
+given-at : (l : List ℕ) (x : Object) (i : ℕ) (y : List ℕ) → drop i l ≡ objectBytes x ++ y → getD l (i + 16) 0 ≡ cond (x .given) 1 0
+unfolding objectBytes le
+given-at l x i y h = sym (getD-drop i l 16 0) ∙ ap (λ (m : List ℕ). getD m 16 0) h
+
+given-low : (b : Bool) → cond b 1 0 ≤ 1
+given-low true = lit≤ tt
+given-low false = lit≤ tt
+
+given-in : (l : List ℕ) (xs : List Object) (i : ℕ) (y : List ℕ) → drop i l ≡ together objectBytes xs ++ y → (j : ℕ) → j < length xs
+    → getD l (i + 25 * j + 16) 0 ≤ 1
+unfolding together
+given-in l [] i y h j k = absurd (let z : ⊥ = omega arith in z)
+given-in l (x ∷ xs) i y h zero k =
+    let z : i + 16 ≡ i + 25 * 0 + 16 = omega arith in
+    let g = given-at l x i (together objectBytes xs ++ y) (h ∙ append-assoc (objectBytes x) (together objectBytes xs) y) in
+    subst (λ (n : ℕ). n ≤ 1) (sym g ∙ ap (λ (n : ℕ). getD l n 0) z) (given-low (x .given))
+given-in l (x ∷ xs) i y h (suc j) k =
+    let z : i + 25 + 25 * j + 16 ≡ i + 25 * suc j + 16 = omega arith in
+    let t = h ∙ append-assoc (objectBytes x) (together objectBytes xs) y in
+    subst (λ (n : ℕ). getD l n 0 ≤ 1) z
+    (given-in l xs (i + 25) y (next l i 25 (objectBytes x) (together objectBytes xs ++ y) (length-object x) t) j (omega arith))
+
+given-all : (n : ℕ) (l : List ℕ) → ((j : ℕ) → j < n → getD l (43 + 25 * j + 16) 0 ≤ 1) → givenOk n l ≡ true
+unfolding givenOk
+given-all zero l h = refl
+given-all (suc n) l h = simp (given-all n l (λ j k. h j (omega arith)), le-leb (getD l (43 + 25 * n + 16) 0) 1 (h n (omega arith)))
+
 -- a fact about every place is one about every element
 all-numbers : (n : ℕ) (l : List ℕ) → ((i : ℕ) → getD l i 0 < n) → All (λ (v : ℕ). v < n) l
 all-numbers n [] h = tt
@@ -108,6 +137,9 @@ module _ (c : Coordinator) (f : Fits c) where
 
   at43 : drop 43 l ≡ objects
   at43 = after-piece l 5 38 43 (quorumBytes c) objects (length-quorum c) refl at38
+
+  pub given-bytes : givenOk 8 (bytesOf c) ≡ true
+  given-bytes = given-all 8 l (λ j k. given-in l (c .objects) 43 votes at43 j (omega (arith, f .objects-8)))
 
   at243 : drop 243 l ≡ votes
   at243 =
@@ -323,7 +355,8 @@ unfolding bytesOf frontBytes quorumBytes voteBytes
 bytes-small c f =
     all-bytes (bytesOf c)
     (join (frontBytes c) _
-    (join (le 4 (c .serial)) _ (all-le 4 (c .serial)) (join (le 4 (c .timestamp)) _ (all-le 4 (c .timestamp)) (f .outcome-8, (f .phase-8, all-le 2 (c .live)))))
+    (join (le 4 (c .serial)) _ (all-le 4 (c .serial)) (join (le 4 (c .timestamp)) _ (all-le 4 (c .timestamp))
+    (f .outcome-8, (f .phase-8, all-le 2 (c .live)))))
     (join (together (le 2) (c .distances)) _ (all-numbers-small 2 (c .distances))
     (join (quorumBytes c) _
     (join (le 2 (c .quorum)) _ (all-le 2 (c .quorum)) (join (le 2 (c .contacted)) _ (all-le 2 (c .contacted)) (mod-lt (c .count) (lit< tt), tt)))

@@ -7,11 +7,12 @@ use lib.ListN.{length}
 use Rattle.numbers.specs.Numbers.{wrongLength, damaged}
 use Rattle.numbers.specs.Refusal.{Refusal, refuse, firstOf}
 use Rattle.wire.specs.declared.Written.{Written}
-use Rattle.wire.specs.Decode.{longest}
+use Rattle.wire.specs.Decode.{longest, checkOf}
 use Rattle.coordinator.specs.declared.Coordinator.{Coordinator}
 use Rattle.coordinator.specs.declared.Step.{Step}
 use Rattle.coordinator.specs.System.{tree}
 use Rattle.coordinator.specs.State.{blankRecord}
+use Rattle.coordinator.specs.Receive.{receiveOf}
 use Rattle.due.specs.Due.{dueWritten, dueBuffer}
 use Rattle.record.specs.declared.Called.{Called}
 use Rattle.record.specs.Layout.{recordSize}
@@ -30,6 +31,11 @@ kept s l = cond (eqb (s .number) 0) (bytesOf (s .coordinator)) l
 
 unfoldable pub recordAfter : (Coordinator → Step) → List ℕ → List ℕ
 recordAfter f l = cond (eqb (check l) 0) (kept (f (recordOf l)) l) l
+
+-- ---- a delivery: 1 for either length, then as any call
+unfoldable pub receivedOf : ℕ → List ℕ → List ℕ → Called
+receivedOf me message l =
+    cond (eqb (checkOf message) wrongLength) (called wrongLength 0) (calledOf (λ (c : Coordinator). receiveOf tree c me message) l)
 
 -- ---- a blank record written: 1 for another length
 unfoldable pub blankNumber : List ℕ → ℕ

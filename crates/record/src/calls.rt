@@ -5,7 +5,7 @@ ghost use Rattle.coordinator.specs.declared.Coordinator.{Coordinator};
 ghost use Rattle.coordinator.specs.System.{tree};
 ghost use Rattle.coordinator.specs.Calls.{beginOf, openOf, setOf, foundOf, reselectOf, requestCommitOf, abortOf};
 ghost use Rattle.coordinator.specs.Receive.{receiveOf};
-ghost use Rattle.record.specs.Call.{called, calledOf, kept, recordAfter, recordDue, recordDueBuffer};
+ghost use Rattle.record.specs.Call.{called, calledOf, kept, recordAfter, receivedOf, recordDue, recordDueBuffer};
 use crate::Called;
 use crate::load::read;
 use crate::store::write;
@@ -143,11 +143,15 @@ pub fn abort(bytes: &mut [u8], me: u8) -> Called
     keep(bytes, s)
 }
 
-// Delivers a message; answers what it brought about. Ruled out: a message for another node taken; a yes that leaves the bytes as they were.
+// Delivers a message; answers what it brought about: 1 for either length, then as any call.
+// Ruled out: 2 for a damaged record and a message of 14 bytes; a yes that leaves the bytes as they were.
 pub fn receive(bytes: &mut [u8], me: u8, message: &[u8]) -> Called
-    ensures { λ r. ⌜ r ≡ calledOf (λ (c : Coordinator). receiveOf tree c me (now (message .entry))) (now (bytes .entry)) ⌝ }
+    ensures { λ r. ⌜ r ≡ receivedOf me (now (message .entry)) (now (bytes .entry)) ⌝ }
     ensures { λ r. ⌜ now (bytes .exit) ≡ recordAfter (λ (c : Coordinator). receiveOf tree c me (now (message .entry))) (now (bytes .entry)) ⌝ }
 {
+    if wire::check(message) == numbers::LENGTH {
+        return failed(numbers::LENGTH);
+    }
     let number = check(bytes);
     if number != 0 {
         return failed(number);

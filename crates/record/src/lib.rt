@@ -15,6 +15,8 @@ pub use calls::request_commit;
 pub use calls::reselect;
 pub use calls::set_value;
 pub use calls::write_due;
+use coordinator::NODES;
+use coordinator::OBJECTS;
 pub use load::read;
 pub use store::blank;
 pub use store::write;
@@ -56,7 +58,7 @@ const LIVE: usize = PHASE + 1;
 
 const DISTANCES: usize = LIVE + 2;
 
-const QUORUM: usize = DISTANCES + DISTANCE_SIZE * 13;
+const QUORUM: usize = DISTANCES + DISTANCE_SIZE * NODES;
 
 const CONTACTED: usize = QUORUM + 2;
 
@@ -64,7 +66,7 @@ const COUNT: usize = CONTACTED + 2;
 
 const OBJECTS_PLACE: usize = COUNT + 1;
 
-const PARTICIPANTS: usize = OBJECTS_PLACE + OBJECT_SIZE * 8;
+const PARTICIPANTS: usize = OBJECTS_PLACE + OBJECT_SIZE * OBJECTS;
 
 const YES: usize = PARTICIPANTS + 2;
 
@@ -73,7 +75,7 @@ const DONE: usize = YES + 2;
 const RIVALS: usize = DONE + 2;
 
 // The size of a record.
-pub const SIZE: usize = RIVALS + RIVAL_SIZE * 13;
+pub const SIZE: usize = RIVALS + RIVAL_SIZE * NODES;
 
 // The fields of an object, from its first byte on.
 const MODE_IN: usize = 1;

@@ -1,0 +1,38 @@
+-- `host::records::senna_coordinator_set_value`: the bits of the value.
+use mathlib.Core.Path.{_≡_, ap, _∙_}
+use lib.IntN.{ℤ}
+use mir.Syntax.{w64}
+use mir.Val.{toZ, ofZ}
+use Rattle.octets.specs.Signed.{bitsOf}
+use Prim.Native.Nat.{ℕ}
+use denote.Ref.{now}
+use Rattle.coordinator.specs.declared.Coordinator.{Coordinator}
+use Rattle.coordinator.specs.declared.Step.{Step}
+use Rattle.coordinator.specs.Calls.{setOf}
+use Rattle.record.specs.Call.{calledOf, recordAfter}
+use borrow.Author.Needs.{needs}
+use Rattle.host.proofs.records.senna_coordinator_set_value.Statement.{statement}
+use Rattle.host.proofs.records.senna_coordinator_set_value.Tie as tie
+
+bits-requires : tie.Need-bits-requires
+bits-requires c κs = search needs
+
+set-value-requires : tie.Need-set-value-requires
+set-value-requires c κs = search needs
+
+same-length : tie.Need-same-length
+same-length c = search needs
+
+returns : tie.Need-returns
+returns c =
+    let x = c .before .before .before .before .before .before .args in
+    let l = now (x .bytes) in
+    let s : ℕ → Coordinator → Step = λ v k. setOf k (x .me) (x .object) v in
+    let back : toZ w64 (ofZ w64 (x .value)) ≡ x .value = search needs in
+    let d = ap s (c .before .before .before .bits .ensures ∙ ap (λ (z : ℤ). bitsOf z) back) in
+    let w = c .before .before .set-value .ensures in
+    (w .0 ∙ ap (λ (f : Coordinator → Step). calledOf f l) d, w .1 ∙ ap (λ (f : Coordinator → Step). recordAfter f l) d)
+
+pub senna-coordinator-set-value-spec : {M : Type 1} → statement M
+senna-coordinator-set-value-spec =
+    tie.close (tie.spec bits-requires set-value-requires same-length returns)

@@ -1,0 +1,246 @@
+// A coordinator's record for C: checked, made blank, each call on it, what is due, and what it says. Each function states the same equation as
+// what it wraps.
+ghost use mathlib.Core.Path.{_≡_};
+ghost use mathlib.Core.Bool.{cond};
+ghost use lib.ListN.{length, getD};
+ghost use Rattle.octets.specs.Signed.{bitsOf};
+ghost use Rattle.coordinator.specs.declared.Coordinator.{Coordinator};
+ghost use Rattle.coordinator.specs.System.{tree};
+ghost use Rattle.coordinator.specs.State.{noObject, ready};
+ghost use Rattle.coordinator.specs.Calls.{openOf, setOf, foundOf, requestCommitOf, abortOf};
+ghost use Rattle.coordinator.specs.Receive.{receiveOf};
+ghost use Rattle.record.specs.Record.{check, shown};
+ghost use Rattle.record.specs.Call.{calledOf, recordAfter, receivedOf, blankNumber, blankAfter, recordDue, recordDueBuffer};
+ghost use Rattle.host.specs.Records.{answerWith, bytesWith, beginStep, reselectStep, valueOf};
+use crate::DISTANCES;
+use crate::distances_of;
+use coordinator::BeginWith;
+use record::Called;
+use wire::Written;
+
+// What a call for a value answers: a number, and where it is 0 the value.
+#[repr(C)]
+pub struct Value {
+    pub number: u8,
+    pub value: i64,
+}
+
+// The number of a record. Ruled out: 2 for bytes of another length; 0 for a record that breaks a clause.
+#[no_mangle]
+pub extern "C" fn senna_check_record(bytes: &[u8]) -> u8
+    ensures { λ r. ⌜ r ≡ check (now (bytes .entry)) ⌝ }
+{
+    record::check(bytes)
+}
+
+// Makes a record blank. Ruled out: a byte of a buffer of another length altered; a serial kept.
+#[no_mangle]
+pub extern "C" fn senna_blank_record(bytes: &mut [u8]) -> u8
+    ensures { λ r. ⌜ r ≡ blankNumber (now (bytes .entry)) ⌝ }
+    ensures { λ r. ⌜ now (bytes .exit) ≡ blankAfter (now (bytes .entry)) ⌝ }
+{
+    record::blank(bytes)
+}
+
+// The distances have another length.
+fn wrong_length() -> Called
+    ensures { λ r. ⌜ r ≡ record { number = 1; answer = 0 } ⌝ }
+{
+    Called {
+        number: numbers::LENGTH,
+        answer: 0,
+    }
+}
+
+// Begins a transaction; answers the chosen read quorum. Ruled out: 10 for distances of 25 bytes; a distance read high byte first.
+#[no_mangle]
+pub extern "C" fn senna_coordinator_begin(
+    bytes: &mut [u8],
+    me: u8,
+    live: u16,
+    distances: &[u8],
+    timestamp: u32,
+) -> Called
+    ensures { λ r. ⌜ r ≡ answerWith (now (distances .entry)) (beginStep me live (now (distances .entry)) timestamp) (now (bytes .entry)) ⌝ }
+    ensures { λ r. ⌜ now (bytes .exit) ≡ bytesWith (now (distances .entry)) (beginStep me live (now (distances .entry)) timestamp) (now (bytes .entry)) ⌝ }
+{
+    if distances.len() != DISTANCES {
+        return wrong_length();
+    }
+    let d = distances_of(distances);
+    let w = BeginWith {
+        live,
+        distances: d,
+        timestamp,
+    };
+    record::begin(bytes, me, w)
+}
+
+// Takes a fresh live mask and distances; answers the chosen read quorum. Ruled out: 8 for distances of 25 bytes; the old quorum answered.
+#[no_mangle]
+pub extern "C" fn senna_coordinator_reselect(
+    bytes: &mut [u8],
+    me: u8,
+    live: u16,
+    distances: &[u8],
+) -> Called
+    ensures { λ r. ⌜ r ≡ answerWith (now (distances .entry)) (reselectStep me live (now (distances .entry))) (now (bytes .entry)) ⌝ }
+    ensures { λ r. ⌜ now (bytes .exit) ≡ bytesWith (now (distances .entry)) (reselectStep me live (now (distances .entry))) (now (bytes .entry)) ⌝ }
+{
+    if distances.len() != DISTANCES {
+        return wrong_length();
+    }
+    let d = distances_of(distances);
+    record::reselect(bytes, me, live, d)
+}
+
+// Opens an object to read it. Ruled out: an open to write; the record written back at a refusal.
+#[no_mangle]
+pub extern "C" fn senna_coordinator_open_read(bytes: &mut [u8], me: u8, object: u8) -> Called
+    ensures { λ r. ⌜ r ≡ calledOf (λ (c : Coordinator). openOf c me object 0) (now (bytes .entry)) ⌝ }
+    ensures { λ r. ⌜ now (bytes .exit) ≡ recordAfter (λ (c : Coordinator). openOf c me object 0) (now (bytes .entry)) ⌝ }
+{
+    record::open_read(bytes, me, object)
+}
+
+// Opens an object to write it. Ruled out: an open to read; a ninth object taken.
+#[no_mangle]
+pub extern "C" fn senna_coordinator_open_write(bytes: &mut [u8], me: u8, object: u8) -> Called
+    ensures { λ r. ⌜ r ≡ calledOf (λ (c : Coordinator). openOf c me object 1) (now (bytes .entry)) ⌝ }
+    ensures { λ r. ⌜ now (bytes .exit) ≡ recordAfter (λ (c : Coordinator). openOf c me object 1) (now (bytes .entry)) ⌝ }
+{
+    record::open_write(bytes, me, object)
+}
+
+// Gives a written object its new value. Ruled out: the value with its sign lost; a value set on a read.
+#[no_mangle]
+pub extern "C" fn senna_coordinator_set_value(
+    bytes: &mut [u8],
+    me: u8,
+    object: u8,
+    value: i64,
+) -> Called
+    ensures { λ r. ⌜ r ≡ calledOf (λ (c : Coordinator). setOf c me object (bitsOf value)) (now (bytes .entry)) ⌝ }
+    ensures { λ r. ⌜ now (bytes .exit) ≡ recordAfter (λ (c : Coordinator). setOf c me object (bitsOf value)) (now (bytes .entry)) ⌝ }
+{
+    record::set_value(bytes, me, object, octets::bits(value))
+}
+
+// Asks for votes; answers the participants. Ruled out: 8 before 11; a set without the contacted nodes.
+#[no_mangle]
+pub extern "C" fn senna_coordinator_request_commit(bytes: &mut [u8], me: u8) -> Called
+    ensures { λ r. ⌜ r ≡ calledOf (λ (c : Coordinator). requestCommitOf tree c me) (now (bytes .entry)) ⌝ }
+    ensures { λ r. ⌜ now (bytes .exit) ≡ recordAfter (λ (c : Coordinator). requestCommitOf tree c me) (now (bytes .entry)) ⌝ }
+{
+    record::request_commit(bytes, me)
+}
+
+// Gives the transaction up. Ruled out: a finishing one aborted; a damaged record taken.
+#[no_mangle]
+pub extern "C" fn senna_coordinator_abort(bytes: &mut [u8], me: u8) -> Called
+    ensures { λ r. ⌜ r ≡ calledOf (λ (c : Coordinator). abortOf c me) (now (bytes .entry)) ⌝ }
+    ensures { λ r. ⌜ now (bytes .exit) ≡ recordAfter (λ (c : Coordinator). abortOf c me) (now (bytes .entry)) ⌝ }
+{
+    record::abort(bytes, me)
+}
+
+// Delivers a message; answers what it brought about. Ruled out: commit by a majority; 2 for a damaged record and a message of 14 bytes.
+#[no_mangle]
+pub extern "C" fn senna_coordinator_receive(bytes: &mut [u8], me: u8, message: &[u8]) -> Called
+    ensures { λ r. ⌜ r ≡ receivedOf me (now (message .entry)) (now (bytes .entry)) ⌝ }
+    ensures { λ r. ⌜ now (bytes .exit) ≡ recordAfter (λ (c : Coordinator). receiveOf tree c me (now (message .entry))) (now (bytes .entry)) ⌝ }
+{
+    record::receive(bytes, me, message)
+}
+
+// Answers the value found for a ready object. Ruled out: the new value; a value with its sign lost.
+#[no_mangle]
+pub extern "C" fn senna_coordinator_found(bytes: &mut [u8], me: u8, object: u8) -> Value
+    ensures { λ r. ⌜ r ≡ valueOf (calledOf (λ (c : Coordinator). foundOf tree c me object) (now (bytes .entry))) ⌝ }
+    ensures { λ r. ⌜ now (bytes .exit) ≡ recordAfter (λ (c : Coordinator). foundOf tree c me object) (now (bytes .entry)) ⌝ }
+{
+    let x = record::found(bytes, me, object);
+    Value {
+        number: x.number,
+        value: octets::signed(x.answer),
+    }
+}
+
+// Writes what is due to a node. Ruled out: 2 before 1 for a short buffer; a buffer altered where nothing is due.
+#[no_mangle]
+pub extern "C" fn senna_coordinator_due(
+    bytes: &[u8],
+    me: u8,
+    node: u8,
+    object: u8,
+    out: &mut [u8],
+) -> Written
+    ensures { λ r. ⌜ r ≡ recordDue (now (bytes .entry)) me node object (length (now (out .entry))) ⌝ }
+    ensures { λ r. ⌜ now (out .exit) ≡ recordDueBuffer (now (bytes .entry)) me node object (now (out .entry)) ⌝ }
+{
+    record::write_due(bytes, me, node, object, out)
+}
+
+// What a record says; zeros for bytes that are no record. Each rules out, among others: the field beside it; a damaged record's own bytes.
+#[no_mangle]
+pub extern "C" fn senna_coordinator_phase(bytes: &[u8]) -> u8
+    ensures { λ r. ⌜ r ≡ shown (now (bytes .entry)) .phase ⌝ }
+{
+    record::phase(bytes)
+}
+
+#[no_mangle]
+pub extern "C" fn senna_coordinator_serial(bytes: &[u8]) -> u32
+    ensures { λ r. ⌜ r ≡ shown (now (bytes .entry)) .serial ⌝ }
+{
+    record::serial(bytes)
+}
+
+#[no_mangle]
+pub extern "C" fn senna_coordinator_timestamp(bytes: &[u8]) -> u32
+    ensures { λ r. ⌜ r ≡ shown (now (bytes .entry)) .timestamp ⌝ }
+{
+    record::timestamp(bytes)
+}
+
+#[no_mangle]
+pub extern "C" fn senna_coordinator_outcome(bytes: &[u8]) -> u8
+    ensures { λ r. ⌜ r ≡ shown (now (bytes .entry)) .outcome ⌝ }
+{
+    record::outcome(bytes)
+}
+
+#[no_mangle]
+pub extern "C" fn senna_coordinator_participants(bytes: &[u8]) -> u16
+    ensures { λ r. ⌜ r ≡ shown (now (bytes .entry)) .participants ⌝ }
+{
+    record::participants(bytes)
+}
+
+#[no_mangle]
+pub extern "C" fn senna_coordinator_count(bytes: &[u8]) -> usize
+    ensures { λ r. ⌜ r ≡ shown (now (bytes .entry)) .count ⌝ }
+{
+    record::count(bytes)
+}
+
+#[no_mangle]
+pub extern "C" fn senna_coordinator_object(bytes: &[u8], i: u8) -> u8
+    ensures { λ r. ⌜ r ≡ getD (shown (now (bytes .entry)) .objects) i noObject .object ⌝ }
+{
+    record::object(bytes, i)
+}
+
+#[no_mangle]
+pub extern "C" fn senna_coordinator_mode(bytes: &[u8], i: u8) -> u8
+    ensures { λ r. ⌜ r ≡ getD (shown (now (bytes .entry)) .objects) i noObject .mode ⌝ }
+{
+    record::mode(bytes, i)
+}
+
+#[no_mangle]
+pub extern "C" fn senna_coordinator_is_ready(bytes: &[u8], i: u8) -> u8
+    ensures { λ r. ⌜ r ≡ cond (ready tree (getD (shown (now (bytes .entry)) .objects) i noObject)) 1 0 ⌝ }
+{
+    if record::is_ready(bytes, i) { 1 } else { 0 }
+}

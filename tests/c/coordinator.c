@@ -1,0 +1,133 @@
+/*
+ * The C functions for a coordinator's record, called through include/senna.h as a host would: one transaction from begin to the last done, with
+ * the answers of the other nodes written by the library's own writers; the refusals on the way; damaged bytes; and that a refusal leaves them.
+ */
+#include "check.h"
+
+static_assert(sizeof(senna_called) == 16 && offsetof(senna_called, answer) == 8, "the layout that the library returns");
+static_assert(sizeof(senna_value) == 16 && offsetof(senna_value, value) == 8, "the layout that the library returns");
+static_assert(SENNA_RECORD == 12 + 2 * SENNA_NODES + 5 + 25 * SENNA_ENTRIES + 6 + 4 * SENNA_NODES, "the sizes agree");
+
+enum { ME = 3, OBJECT = 40, OTHER = 7 };
+
+static uint8_t record[SENNA_RECORD];
+static uint8_t before[SENNA_RECORD];
+static uint8_t message[SENNA_MESSAGE_MAX];
+static uint8_t distances[SENNA_DISTANCES];
+
+static void refused(senna_called got, unsigned number, const char *what)
+{
+    check(got.number == number && got.answer == 0, what);
+    check(memcmp(record, before, sizeof record) == 0, "a refusal leaves every byte");
+}
+
+static void taken(senna_called got, uint64_t answer, const char *what)
+{
+    check(got.number == SENNA_OK && got.answer == answer, what);
+    check(senna_check_record(record, sizeof record) == SENNA_OK, "a record stays one");
+    memcpy(before, record, sizeof record);
+}
+
+static senna_called deliver(senna_written w)
+{
+    check(w.number == SENNA_OK, "the answer is written");
+    return senna_coordinator_receive(record, sizeof record, ME, message, w.length);
+}
+
+static senna_entry copy_of(unsigned object, unsigned mode, uint32_t version, int64_t value)
+{
+    senna_entry e;
+    e.object = (uint8_t)object;
+    e.mode = (uint8_t)mode;
+    e.version = version;
+    e.value = value;
+    return e;
+}
+
+static senna_written due(unsigned node, unsigned object)
+{
+    memset(message, 0xa5, sizeof message);
+    return senna_coordinator_due(record, sizeof record, ME, (uint8_t)node, (uint8_t)object, message, sizeof message);
+}
+
+/* One transaction that reads one object and writes another, with node 0 as the read quorum. */
+static void one_transaction(void)
+{
+    senna_serials rivals;
+    unsigned node;
+    senna_value found;
+    memset(&rivals, 0, sizeof rivals);
+    check(senna_blank_record(record, sizeof record) == SENNA_OK, "a blank record");
+    memcpy(before, record, sizeof record);
+    refused(senna_coordinator_begin(record, sizeof record, ME, SENNA_ALL, distances, 25, 5), SENNA_LENGTH, "25 bytes of distances");
+    refused(senna_coordinator_begin(record, sizeof record, 13, SENNA_ALL, distances, sizeof distances, 5), SENNA_STRANGER, "node 13");
+    refused(senna_coordinator_begin(record, sizeof record, ME, 0, distances, sizeof distances, 5), SENNA_NO_QUORUM, "nobody is live");
+    taken(senna_coordinator_begin(record, sizeof record, ME, SENNA_ALL, distances, sizeof distances, 5), 1, "begin chooses the root");
+    refused(senna_coordinator_begin(record, sizeof record, ME, SENNA_ALL, distances, sizeof distances, 9), SENNA_BUSY, "a second begin");
+    refused(senna_coordinator_request_commit(record, sizeof record, ME), SENNA_NOT_READY, "no object yet");
+    taken(senna_coordinator_open_write(record, sizeof record, ME, OBJECT), 0, "open to write");
+    taken(senna_coordinator_open_read(record, sizeof record, ME, OTHER), 0, "open to read");
+    refused(senna_coordinator_open_read(record, sizeof record, ME, OBJECT), SENNA_NO_SUCH_OBJECT, "opened twice");
+    refused(senna_coordinator_set_value(record, sizeof record, ME, OTHER, 1), SENNA_NO_SUCH_OBJECT, "a value set on a read");
+    taken(senna_coordinator_set_value(record, sizeof record, ME, OBJECT, -6), 0, "a new value");
+    check(senna_coordinator_count(record, sizeof record) == 2, "two objects");
+    check(senna_coordinator_object(record, sizeof record, 0) == OBJECT && senna_coordinator_mode(record, sizeof record, 0) == 1, "the first");
+    check(senna_coordinator_is_ready(record, sizeof record, 0) == 0, "not ready yet");
+    check(due(0, OBJECT).length == 29 && message[0] == 1 && message[2] == 0 && message[13] == OBJECT && message[14] == 1, "a fetch to the root");
+    check(due(1, OBJECT).length == 0 && message[0] == 0xa5, "nothing is due to another");
+    taken(deliver(senna_write_copy(message, sizeof message, 0, ME, 1, 5, copy_of(OBJECT, 1, 8, -90))), SENNA_READY, "the copy makes it ready");
+    taken(deliver(senna_write_copy(message, sizeof message, 0, ME, 1, 5, copy_of(OTHER, 0, 2, 11))), SENNA_READY, "and the other");
+    taken(deliver(senna_write_copy(message, sizeof message, 0, ME, 1, 5, copy_of(OBJECT, 1, 9, 0))), SENNA_NOTHING, "a late copy changes nothing");
+    found = senna_coordinator_found(record, sizeof record, ME, OBJECT);
+    check(found.number == SENNA_OK && found.value == -90, "the value found");
+    check(memcmp(record, before, sizeof record) == 0, "found leaves every byte");
+    taken(senna_coordinator_request_commit(record, sizeof record, ME), 439, "the participants");
+    check(senna_coordinator_participants(record, sizeof record) == 439, "and they are kept");
+    check(due(0, 0).length == 43 && message[0] == 3 && message[12] == 2 && message[13] == OTHER && message[27] == OBJECT, "an ask, ascending");
+    check(message[29] == 8 && message[33] == 0xfa && message[40] == 0xff, "with the version found and the new value");
+    rivals.serial[6] = 77;
+    for (node = 0; node < SENNA_NODES; node++) {
+        if ((439 >> node) % 2 == 1) {
+            taken(deliver(senna_write_vote(message, sizeof message, (uint8_t)node, ME, 1, 5, rivals, 1)),
+                  node == 8 ? SENNA_COMMITTED : SENNA_NOTHING, "a yes");
+        }
+    }
+    check(due(0, 0).length == 44 && message[0] == 5 && message[43] == 1, "a commit with the entries");
+    check(due(6, 0).length == 20 && message[0] == 7 && message[14] == 6 && message[15] == 77, "a yield to the rival's owner");
+    for (node = 0; node < SENNA_NODES; node++) {
+        if ((439 >> node) % 2 == 1) {
+            taken(deliver(senna_write_done(message, sizeof message, (uint8_t)node, ME, 1, 5)), node == 8 ? SENNA_FINISHED : SENNA_NOTHING, "a done");
+        }
+    }
+    check(senna_coordinator_phase(record, sizeof record) == SENNA_IDLE, "idle again");
+    check(senna_coordinator_outcome(record, sizeof record) == SENNA_COMMITTED, "committed");
+    check(senna_coordinator_serial(record, sizeof record) == 1 && senna_coordinator_timestamp(record, sizeof record) == 5, "the lasting part");
+    refused(senna_coordinator_begin(record, sizeof record, ME, SENNA_ALL, distances, sizeof distances, 5), SENNA_OUT_OF_TURN, "the same timestamp");
+}
+
+/* Bytes that are no record. */
+static void damaged(void)
+{
+    senna_blank_record(record, sizeof record);
+    check(senna_check_record(record, sizeof record - 1) == SENNA_LENGTH, "a byte less");
+    record[9] = 4;
+    memcpy(before, record, sizeof record);
+    check(senna_check_record(record, sizeof record) == SENNA_DAMAGED, "a phase above 3");
+    refused(senna_coordinator_abort(record, sizeof record, ME), SENNA_DAMAGED, "a damaged record");
+    refused(senna_coordinator_receive(record, sizeof record, ME, message, 14), SENNA_LENGTH, "a short message to a damaged record");
+    refused(senna_coordinator_receive(record, sizeof record, ME, message, 15), SENNA_DAMAGED, "a garbled message to a damaged record");
+    check(senna_coordinator_phase(record, sizeof record) == 0, "an accessor gives 0");
+    check(senna_coordinator_due(record, sizeof record, ME, 0, 0, message, 127).number == SENNA_LENGTH, "the buffer's length comes first");
+    check(due(0, 0).number == SENNA_DAMAGED && message[0] == 0xa5, "nothing is written for a damaged record");
+}
+
+int main(void)
+{
+    unsigned at;
+    for (at = 0; at < SENNA_NODES; at++) {
+        distances[2 * at] = 1;
+    }
+    one_transaction();
+    damaged();
+    return closing();
+}
