@@ -30,7 +30,7 @@ use borrow.Author.Tests.{eqb-true}
 use Rattle.history.proofs.Images.{and-true}
 use Rattle.history.specs.Ledger.{Done, Ledger, txOf, isCommit, isDone, poolPut, logPut, donesPut, withPut, withDelivered}
 use Rattle.history.proofs.Sim.{Tells, Sim}
-use Rattle.history.proofs.Carry.{put-all, by-pool}
+use Rattle.history.proofs.Carry.{put-all, onward, tells-on, by-pool}
 use Rattle.history.proofs.Books.{Decided, Present, Past, More, Asked, Valid, World, found-next}
 use Rattle.history.proofs.Host.{SameTold, objects-still, present-on}
 use Rattle.history.proofs.Words.{txIn, kind-of, from-of, tx-decoded}
@@ -127,9 +127,10 @@ module _ (st : Station) (L : Ledger) (F : Past) (w : World st L F) (n : ℕ) (b 
 
     pub arrived : (p : Option (List ℕ)) (pool' : List (List ℕ)) → poolPut p pool ≡ pool' → a .log-after ≡ logPut p (w .log)
         → ((y : List ℕ) → In y pool' → In y pool ⊎ (Tells (τ .history) (τ .votes) (τ .sent) y × Bytes y))
+        → ((y : List ℕ) → In y (poolPut p (L .puts)) → In y (L .puts) ⊎ Tells (τ .history) (τ .votes) (τ .sent) y)
         → ((d : Done) → In d (donesPut b p (L .dones)) → In d (L .dones) ⊎ Late (τ .ends) (d .node) (d .tx))
         → World (next pool') (told p) (More F (next pool'))
-    arrived p pool' e f g h =
+    arrived p pool' e f g gp h =
         let sim' = by-pool (withImage st n image) (a .log-after) (a .sim-after) pool' (st .on) (λ y i. on (g y i) (λ j. inl (sub y j)) (λ z. inr (z .0))) in
         let bk = w .books in
         record {
@@ -139,6 +140,7 @@ module _ (st : Station) (L : Ledger) (F : Past) (w : World st L F) (n : ℕ) (b 
           valid = valid-next pool' (λ y i. on (g y i) (λ j. w .valid .messages y (sub y j)) (λ z. z .1));
           books = record {
             pool-as = e;
+            puts-true = λ y i. on (gp y i) (λ j. tells-on (onward (a .grows)) y (bk .puts-true y j)) (λ z. z);
             log-as = ap (logPut p) (bk .log-as) ∙ sym f;
             decided = decided-as p;
             present = λ i. present-on L (told p) i (st .records i) (st .records i) (objects-still (st .records i)) (same-told p) (bk .present i);
@@ -154,7 +156,7 @@ module _ (st : Station) (L : Ledger) (F : Past) (w : World st L F) (n : ℕ) (b 
 
   -- no answer
   pub silent-world : Acted st σ (w .log) (w .sim) n m k image (λ τ l'. l' ≡ w .log) → World (next pool) (told none) (More F (next pool))
-  silent-world a = arrived _ a none pool refl (a .told) (λ y i. inl i) (λ d i. inl i)
+  silent-world a = arrived _ a none pool refl (a .told) (λ y i. inl i) (λ y i. inl i) (λ d i. inl i)
 
   -- an answer at the pool's end
   put-cases : (y c : List ℕ) → In y (pool ++ (c ∷ [])) → In y pool ⊎ (y ≡ c)
@@ -172,6 +174,8 @@ module _ (st : Station) (L : Ledger) (F : Past) (w : World st L F) (n : ℕ) (b 
       arrived _ a (some (encode c)) (pool ++ (encode c ∷ [])) refl (z .logs)
       (λ y i. on (put-cases y (encode c) i) inl
       (λ e. inr (subst (Tells (a .after .history) (a .after .votes) (a .after .sent)) (sym e) (z .tells), subst Bytes (sym e) (z .bytes))))
+      (λ y i. on (in-append y (L .puts) (encode c ∷ []) i) inl
+      (λ j. inr (on j (λ e. subst (Tells (a .after .history) (a .after .votes) (a .after .sent)) (sym e) (z .tells)) (λ q. absurd q))))
       (λ d i. on (done-of c (isCommit b && isDone (encode c)) (L .dones) d i) inl
       (λ q. inr (subst (λ (u : Done). Late (a .after .ends) (u .node) (u .tx)) (sym (q .1))
       (subst (λ (g : ℕ). Late (a .after .ends) g (txOf b)) (sym (from-of c (z .fits)))

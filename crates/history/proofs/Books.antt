@@ -23,7 +23,7 @@ use Rattle.protocol.specs.Refine.Growth.{Late}
 use Rattle.protocol.specs.Proof.Tables.{on, clash}
 use Rattle.history.specs.Ledger.{Done, Ledger}
 use Rattle.history.specs.Claims.{Shows, Finds}
-use Rattle.history.proofs.Sim.{tx, modeOf, contentsOf, Owner, Sim}
+use Rattle.history.proofs.Sim.{tx, modeOf, contentsOf, Owner, Tells, Sim}
 use Rattle.history.proofs.Carry.{put-all, by-none}
 
 -- ---- which transactions committed, and with what
@@ -65,6 +65,8 @@ pub record Found (F : Past) (st : Station) (h : History ℕ) : Type 0 where
 -- ---- all of it
 pub record Books (L : Ledger) (F : Past) (st : Station) (σ : State ℕ) (l : List Tx) : Type 0 where
   pub pool-as : L .pool ≡ st .pool
+  -- whatever was put, and may be gone, tells the truth still
+  pub puts-true : (b : List ℕ) → In b (L .puts) → Tells (σ .history) (σ .votes) (σ .sent) b
   pub log-as : L .log ≡ l
   pub decided : Decided L (σ .history)
   pub present : (n : ℕ) → Present L n (st .records n)
@@ -162,11 +164,11 @@ module _ (st : Station) (L : Ledger) (F : Past) (w : World st L F) (n : ℕ) (c'
       (λ k e g p. g) i g p
 
   pub quiet : (L' : Ledger) → Owner h (w .state .votes) (w .state .sent) n c' → Meets tree c' → ((b : List ℕ) → In b pool → In b (st .pool))
-      → L' .pool ≡ pool → L' .log ≡ L .log → Decided L' h → ((i : ℕ) → Present L' i (putAt (st .records) n c' i)) → L' .dones ≡ L .dones
+      → L' .pool ≡ pool → L' .log ≡ L .log → Decided L' h → ((i : ℕ) → Present L' i (putAt (st .records) n c' i)) → L' .dones ≡ L .dones → L' .puts ≡ L .puts
       → ((t v : ℕ) → Shows (st .records n) (st .records n .serial) t v → h .phase (tx n (st .records n .serial)) ≡ fresh
       → Shows c' (st .records n .serial) t v)
       → World after L' (More F after)
-  quiet L' ow m sub lp ll ld lr le f =
+  quiet L' ow m sub lp ll ld lr le lq f =
       let sim' = by-none st (w .log) (w .sim) n c' pool (st .on) ow (λ b i. inl (sub b i)) in
       let meets = put-all (λ (i : ℕ) (c : Coordinator). Meets tree c) (st .records) n c' m (λ i e. w .valid .records i) in
       let b = w .books in
@@ -177,6 +179,7 @@ module _ (st : Station) (L : Ledger) (F : Past) (w : World st L F) (n : ℕ) (c'
         valid = record { images = w .valid .images; records = meets; messages = λ y i. w .valid .messages y (sub y i) };
         books = record {
           pool-as = lp;
+          puts-true = λ y i. b .puts-true y (subst (In y) lq i);
           log-as = ll ∙ b .log-as;
           decided = ld;
           present = lr;

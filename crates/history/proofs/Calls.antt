@@ -83,6 +83,7 @@ module _ (st : Station) (L : Ledger) (F : Past) (w : World st L F) where
     valid = w .valid;
     books = record {
       pool-as = b .pool-as;
+      puts-true = b .puts-true;
       log-as = b .log-as;
       decided = b .decided;
       present = b .present;
@@ -178,7 +179,7 @@ module _ (st : Station) (L : Ledger) (F : Past) (w : World st L F) where
     pub found-next' : (t : ℕ) → Next (found n t) (hosted st n (foundOf tree d n t))
     unfolding foundOf foundRefusals noted
     found-next' t = host-next n (found n t) (foundRefusals tree d n t) (objectAt d t .value) d tt (λ k.
-        same-world st L F w n d (st .pool) L (objects-still d) told-still (w .sim .owners n) md (λ b i. i) (w .books .pool-as) refl refl refl)
+        same-world st L F w n d (st .pool) L (objects-still d) told-still (w .sim .owners n) md (λ b i. i) (w .books .pool-as) refl refl refl refl)
 
     same-objects : (live : ℕ) (distances : List ℕ) (q : ℕ) → SameObjects d (reselected d live distances q)
     unfolding reselected
@@ -194,7 +195,7 @@ module _ (st : Station) (L : Ledger) (F : Past) (w : World st L F) where
         same-world st L F w n c' (st .pool) L (same-objects live distances (maskOf chosen)) told-still
         (reselect-owner _ _ _ n d (w .sim .owners n) live distances (maskOf chosen))
         (subst (Meets tree) (taken-record rs (maskOf chosen) d c' k) (reselect-keeps tree tree-quorums d n md live distances size))
-        (λ b i. i) (w .books .pool-as) refl refl refl)
+        (λ b i. i) (w .books .pool-as) refl refl refl refl)
 
     -- the participants are a write quorum, by the clauses of the record after it
     party-counts : (party : ℕ) → Meets tree (requested d party) → isQuorum Write party ≡ true
@@ -220,4 +221,4 @@ module _ (st : Station) (L : Ledger) (F : Past) (w : World st L F) where
         let rs = abortRefusals d n in
         host-next n (abort n) rs 0 (endedAborted d) tt (λ k.
         abort-world st L F w n (undecided (not-false (eqb (d .phase) openPhase || eqb (d .phase) votingPhase) (k .1 .0))) (st .pool) L told-still
-        (subst (Meets tree) (taken-record rs 0 d (endedAborted d) k) (abort-keeps tree d md n)) (λ b i. i) (w .books .pool-as) refl refl refl)
+        (subst (Meets tree) (taken-record rs 0 d (endedAborted d) k) (abort-keeps tree d md n)) (λ b i. i) (w .books .pool-as) refl refl refl refl)

@@ -11,6 +11,10 @@ use Rattle.mask.specs.Mask.{contains}
 use Rattle.numbers.specs.Refusal.{firstOf}
 use Rattle.quorum.specs.declared.Kind.the-variants.{Read}
 use Rattle.quorum.specs.Quorum.{isQuorum}
+use Rattle.wire.specs.declared.Entry.{Entry}
+use Rattle.wire.specs.Message.{ask, outcome}
+use Rattle.wire.specs.Decode.{kindOf, decode}
+use Rattle.wire.specs.Items.{wordOf}
 use Rattle.image.specs.Layout.{shape, value, version, versionField}
 use Rattle.image.specs.Blank.{blankAs}
 use Rattle.image.proofs.Blanks.{blank-zero}
@@ -37,10 +41,10 @@ use Rattle.protocol.specs.Proof.Lists.{select-ext, given-ext, replay-ext, in-se
 use Rattle.protocol.specs.Proof.Core.{claims, committed-good}
 use Rattle.protocol.specs.Proof.Log.{base-claims}
 use Rattle.protocol.specs.Refine.Messages.{done-applied}
-use Rattle.history.specs.Ledger.{Done, Ledger, nothingYet, note, ledger, current, in?, fed, turn, givenTo, lastValue}
-use Rattle.history.specs.Claims.{Typed, Shows, Finds, Settled, Newest, reached, told, Demand3}
+use Rattle.history.specs.Ledger.{Done, Ledger, nothingYet, note, ledger, txOf, current, in?, fed, turn, givenTo, lastValue}
+use Rattle.history.specs.Claims.{Typed, Shows, Finds, Carries, Settled, Newest, reached, told, Demand3}
 use Rattle.history.proofs.Quorums.{quorums, rules, top, of-mask}
-use Rattle.history.proofs.Sim.{tx, contentsOf, Owner, Sim}
+use Rattle.history.proofs.Sim.{tx, contentsOf, Match, Owner, Sim}
 use Rattle.history.proofs.Books.{Decided, Present, Past, More, World}
 use Rattle.history.proofs.Calls.{off-number, not-false}
 use Rattle.history.proofs.Theorem.{Good, good-next, good-past, blank-good}
@@ -91,6 +95,24 @@ module _ (st : Station) (L : Ledger) (F : Past) (g : Good st L F) where
 
   pub is-fed-once : (x : Tx) → In x (L .committed) → times Tx-discrete x (fed L) ≡ 1
   is-fed-once x i = ap (times Tx-discrete x) fed-as ∙ base .fed-once x (d .told-so x i)
+
+  -- what was asked votes for is what the events tell
+  carried-as : (x : Tx) (es : List Entry) → σ .history .phase x ≡ committed → Match (σ .history .contents x) es → Carries L x es
+  carried-as x es p m = record {
+    each-object = λ t q. m .lists t (λ e. q (d .its-mode x p t ∙ e));
+    each-mode = λ e i. d .its-mode x p (e .object) ∙ m .mode-as e i;
+    each-value = λ e i u. d .its-new x p (e .object) ∙ m .new-as e i (sym (d .its-mode x p (e .object)) ∙ u);
+  }
+
+  pub entries-are : (x : Tx) (b : List ℕ) → In x (L .committed) → In b (L .puts) → txOf b ≡ x → (kindOf b ≡ ask) ⊎ ((kindOf b ≡ outcome) × (wordOf b ≡ 1))
+      → Carries L x (decode b .entries)
+  entries-are x b i j e k =
+      let t = w .books .puts-true b j in
+      let m : Match (σ .history .contents (txOf b)) (decode b .entries) = on k (λ q. t .an-ask q .1) (λ q. t .a-commit (q .0) (q .1) .1) in
+      carried-as x (decode b .entries) (d .told-so x i) (subst (λ (y : Tx). Match (σ .history .contents y) (decode b .entries)) e m)
+
+  pub only-committed : (b : List ℕ) → In b (L .puts) → kindOf b ≡ outcome → wordOf b ≡ 1 → In (txOf b) (L .committed)
+  only-committed b j k u = d .is-told (txOf b) (w .books .puts-true b j .a-commit k u .0)
 
   -- ---- (a)
   pub is-serial : (x : Tx) (t v : ℕ) → In x (L .committed) → F x t v → v ≡ givenTo L x t
@@ -223,6 +245,8 @@ module _ (up : ℕ) where
   demand-3 cs a = let g = always-good cs a in record {
     logged-once = is-logged-once _ _ _ g;
     fed-once = is-fed-once _ _ _ g;
+    entries-as = entries-are _ _ _ g;
+    commits-only = only-committed _ _ _ g;
     was-ready = was-found _ _ _ g;
     serial = λ x t v ds i s f. is-serial _ _ _ g x t v i (ds, s, f);
     shown = λ x n t ds i s e q.

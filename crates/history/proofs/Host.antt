@@ -155,7 +155,7 @@ module _ (st : Station) (L : Ledger) (F : Past) (w : World st L F) (n : ℕ) whe
   begin-world a q idle m =
       quiet st L F w n (begun c a q) (st .pool) (withSerial L n) (begin-owner _ _ _ n c (w .sim .owners n) a q) m (λ b i. i)
       (w .books .pool-as) refl (same-decided refl refl refl refl)
-      (put-all (Present (withSerial L n)) (st .records) n (begun c a q) (begin-here a q) begin-else) refl
+      (put-all (Present (withSerial L n)) (st .records) n (begun c a q) (begin-here a q) begin-else) refl refl
       (λ t v f e. absurd (f .begun idle))
 
   -- ---- while open: the present transaction is fresh, so no committed one is it, and nobody is a participant
@@ -260,7 +260,7 @@ module _ (st : Station) (L : Ledger) (F : Past) (w : World st L F) (n : ℕ) whe
       pub open-world : World (changed st n c₁ (st .pool)) (withMode L n t (modeOf mode)) (More F (changed st n c₁ (st .pool)))
       open-world = quiet st L F w n c₁ (st .pool) (withMode L n t (modeOf mode)) (open-owner _ _ _ n c (w .sim .owners n) none-yet t mode) m (λ b i. i)
           (w .books .pool-as) refl (mode-decided t (modeOf mode))
-          (put-all (Present (withMode L n t (modeOf mode))) (st .records) n c₁ open-here (mode-else t (modeOf mode))) refl
+          (put-all (Present (withMode L n t (modeOf mode))) (st .records) n c₁ open-here (mode-else t (modeOf mode))) refl refl
           (λ u v f e. shown₁ u v f)
 
     -- ---- an object that is open, at its place
@@ -332,7 +332,7 @@ module _ (st : Station) (L : Ledger) (F : Past) (w : World st L F) (n : ℕ) whe
         pub set-world : World (changed st n (withNew c t v) (st .pool)) (renewal t v) (More F (changed st n (withNew c t v) (st .pool)))
         set-world = quiet st L F w n (withNew c t v) (st .pool) (renewal t v) (set-owner _ _ _ n c (w .sim .owners n) none-yet t v) m (λ b i. i)
             (w .books .pool-as) refl (new-decided t v)
-            (put-all (Present (renewal t v)) (st .records) n (withNew c t v) set-here (new-else t v)) refl
+            (put-all (Present (renewal t v)) (st .records) n (withNew c t v) set-here (new-else t v)) refl refl
             (λ u y f e. shown-there (withNew c t v) x₂ set₂ m refl refl (λ q g. (g .is-ready, g .value)) u y f)
 
     -- ---- a copy of an object that is not ready
@@ -374,22 +374,22 @@ module _ (st : Station) (L : Ledger) (F : Past) (w : World st L F) (n : ℕ) whe
       }
 
       pub copy-world : (pool : List (List ℕ)) (L' : Ledger) → SameTold L L' → Meets tree c₃ → ((b : List ℕ) → In b pool → In b (st .pool))
-          → L' .pool ≡ pool → L' .log ≡ L .log → L' .committed ≡ L .committed → L' .dones ≡ L .dones
+          → L' .pool ≡ pool → L' .log ≡ L .log → L' .committed ≡ L .committed → L' .dones ≡ L .dones → L' .puts ≡ L .puts
           → World (changed st n c₃ pool) L' (More F (changed st n c₃ pool))
-      copy-world pool L' told m sub a b d f = quiet st L F w n c₃ pool L'
+      copy-world pool L' told m sub a b d f fp = quiet st L F w n c₃ pool L'
           (copy-owner _ _ _ n c (w .sim .owners n) none-yet from e (stood (e .object) opened-now .1) was-sent) m sub a b
           (same-decided d (told .modes) (told .news) (told .parties))
           (put-all (Present L') (st .records) n c₃ (copy-here L' told m)
           (λ i q. present-on L L' i (st .records i) (st .records i) (objects-still (st .records i)) told (w .books .present i)))
-          f
+          f fp
           (λ u v g q. shown-there (e .object) opened-now c₃ x₃ set₃ m (keeps .0) (keeps .1 .0) (λ y z. absurd (no-both (z .is-ready) not-ready)) u v g)
 
   -- ---- a record with the same objects: reselect, one more yes, one more done
   module _ (c' : Coordinator) (pool : List (List ℕ)) (L' : Ledger) (k : SameObjects c c') (told : SameTold L L') where
     pub same-world : Owner (w .state .history) (w .state .votes) (w .state .sent) n c' → Meets tree c' → ((b : List ℕ) → In b pool → In b (st .pool))
-        → L' .pool ≡ pool → L' .log ≡ L .log → L' .committed ≡ L .committed → L' .dones ≡ L .dones
+        → L' .pool ≡ pool → L' .log ≡ L .log → L' .committed ≡ L .committed → L' .dones ≡ L .dones → L' .puts ≡ L .puts
         → World (changed st n c' pool) L' (More F (changed st n c' pool))
-    same-world ow m sub a b d e = quiet st L F w n c' pool L' ow m sub a b (same-decided d (told .modes) (told .news) (told .parties))
+    same-world ow m sub a b d e ep = quiet st L F w n c' pool L' ow m sub a b (same-decided d (told .modes) (told .news) (told .parties))
         (put-all (Present L') (st .records) n c' (present-on L L' n c c' k told p)
         (λ i f. present-on L L' i (st .records i) (st .records i) (objects-still (st .records i)) told (w .books .present i)))
-        e (λ t v f g. shown-on c c' k (c .serial) t v f)
+        e ep (λ t v f g. shown-on c c' k (c .serial) t v f)

@@ -317,6 +317,8 @@ module _ (st : Station) (L : Ledger) (F : Past) (w : World st L F) (n to object 
         };
         books = record {
           pool-as = ap (λ (l : List (List ℕ)). l ++ (b ∷ [])) (bk .pool-as);
+          puts-true = λ z i. on (in-append z (L .puts) (b ∷ []) i) (λ j. bk .puts-true z j)
+              (λ j. on j (λ e. subst (Tells (w .state .history) (w .state .votes) (w .state .sent)) (sym e) t) (λ q. absurd q));
           log-as = ap (λ (g : Bool). cond g (firstOnly (txOf b) (L .log)) (L .log)) quiet ∙ bk .log-as;
           decided = same-decided st L F w 0 refl refl refl refl;
           present = λ i. present-on L _ i (st .records i) (st .records i) (objects-still (st .records i))
@@ -342,6 +344,6 @@ module _ (st : Station) (L : Ledger) (F : Past) (w : World st L F) (n to object 
       by true true p q = idle-here
         where
           idle-here : World st (withPut L (L .pool) none) (More F st)
-          idle-here = fewer st L F w (st .pool) (st .on) (withPut L (L .pool) none) (λ y i. i) (w .books .pool-as) refl refl refl
+          idle-here = fewer st L F w (st .pool) (st .on) (withPut L (L .pool) none) (λ y i. i) (w .books .pool-as) refl refl refl refl
               (record { serials = refl; modes = refl; news = refl; parties = refl })
       by false y p q = refused-next st L F w (send n to object) num (eqb-false num 0 p)

@@ -60,10 +60,10 @@ kind-cases l n m k P f a o = by (eqb (m .kind) 1) (eqb (m .kind) 3) (eqb (m .kin
 module _ (st : Station) (L : Ledger) (F : Past) (w : World st L F) where
   -- the pool has fewer messages, or others are on; nothing is put
   pub fewer : (pool : List (List ℕ)) (up : ℕ) (L' : Ledger) → ((y : List ℕ) → In y pool → In y (st .pool)) → L' .pool ≡ pool → L' .log ≡ L .log → L' .dones ≡ L .dones
-      → L' .committed ≡ L .committed → SameTold L L'
+      → L' .puts ≡ L .puts → L' .committed ≡ L .committed → SameTold L L'
       → World (record { images = st .images; records = st .records; pool = pool; on = up }) L'
       (More F (record { images = st .images; records = st .records; pool = pool; on = up }))
-  fewer pool up L' sub a b c d told =
+  fewer pool up L' sub a b c cp d told =
       let st' : Station = record { images = st .images; records = st .records; pool = pool; on = up } in
       let sim' = by-pool st (w .log) (w .sim) pool up (λ y i. inl (sub y i)) in
       let bk = w .books in
@@ -74,6 +74,7 @@ module _ (st : Station) (L : Ledger) (F : Past) (w : World st L F) where
         valid = record { images = w .valid .images; records = w .valid .records; messages = λ y i. w .valid .messages y (sub y i) };
         books = record {
           pool-as = a;
+          puts-true = λ z i. bk .puts-true z (subst (In z) cp i);
           log-as = b ∙ bk .log-as;
           decided = same-decided st L F w 0 d (told .modes) (told .news) (told .parties);
           present = λ i. present-on L L' i (st .records i) (st .records i) (objects-still (st .records i)) told (bk .present i);
@@ -180,7 +181,7 @@ module _ (st : Station) (L : Ledger) (F : Past) (w : World st L F) (k : ℕ) (ke
   off-taken : Next st L F w (delivery k kept) (record { number = 0; answer = 0; put = none; station = takenOut st k kept })
   unfolding note
   off-taken = subst (λ (L' : Ledger). World (takenOut st k kept) L' (More F (takenOut st k kept))) (sym (as-told none))
-      (fewer st L F w pool (st .on) (told none) sub refl refl refl refl (record { serials = refl; modes = refl; news = refl; parties = refl }))
+      (fewer st L F w pool (st .on) (told none) sub refl refl refl refl refl (record { serials = refl; modes = refl; news = refl; parties = refl }))
 
   pub arriving-next : Next st L F w (delivery k kept) (arriving st k kept b)
   unfolding arriving
@@ -213,7 +214,7 @@ module _ (st : Station) (L : Ledger) (F : Past) (w : World st L F) where
     where
       by : (x : Bool) → Next st L F w (drop k) (cond x (record { number = 0; answer = 0; put = none; station = withPool st (without k (st .pool)) }) (refusedWith 5 st))
       by true = fewer st L F w (without k (st .pool)) (st .on) (withPut L (without k (L .pool)) none) (λ y i. in-without y k (st .pool) i)
-          (ap (without k) (w .books .pool-as)) refl refl refl (record { serials = refl; modes = refl; news = refl; parties = refl })
+          (ap (without k) (w .books .pool-as)) refl refl refl refl (record { serials = refl; modes = refl; news = refl; parties = refl })
       by false = refused-next st L F w (drop k) 5 (λ e. let z : ⊥ = omega arith in z)
 
   pub switch-next : (n : ℕ) (up : Bool) → Next st L F w (switch n up) (switchOf st n up)
@@ -225,4 +226,4 @@ module _ (st : Station) (L : Ledger) (F : Past) (w : World st L F) where
 
       by : (x : Bool) → Next st L F w (switch n up) (cond x (refusedWith 4 st) (record { number = 0; answer = 0; put = none; station = withOn st on' }))
       by true = refused-next st L F w (switch n up) 4 (λ e. let z : ⊥ = omega arith in z)
-      by false = fewer st L F w (st .pool) on' L (λ y i. i) (w .books .pool-as) refl refl refl (record { serials = refl; modes = refl; news = refl; parties = refl })
+      by false = fewer st L F w (st .pool) on' L (λ y i. i) (w .books .pool-as) refl refl refl refl (record { serials = refl; modes = refl; news = refl; parties = refl })

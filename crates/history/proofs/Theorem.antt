@@ -89,6 +89,7 @@ good-past st L F G to from g = let w = g .world in let b = w .books in record {
     valid = w .valid;
     books = record {
       pool-as = b .pool-as;
+      puts-true = b .puts-true;
       log-as = b .log-as;
       decided = b .decided;
       present = b .present;
@@ -156,6 +157,7 @@ blank-good up F none-yet = record {
     valid = record { images = λ n. (blank-sound, bytes-blank); records = λ n. blank-meets tree; messages = λ b i. absurd i };
     books = record {
       pool-as = refl;
+      puts-true = λ b i. absurd i;
       log-as = refl;
       decided = record {
         told-so = λ x i. absurd i;

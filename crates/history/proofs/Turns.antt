@@ -23,16 +23,16 @@ use Rattle.station.specs.Station.{Station, putAt}
 use Rattle.protocol.specs.Table.{put, In}
 use Rattle.protocol.specs.Rules.{Mode, unused}
 use Rattle.protocol.specs.State.{Tx, Tx-discrete, tx-path, Phase, fresh, voting, committed, aborted, Contents, History, State}
-use Rattle.protocol.specs.Transitions.{doAsk, doCommit, doAbort}
+use Rattle.protocol.specs.Transitions.{doAsk, doCommit, doAbort, Step, ask, commit, abort}
 use Rattle.protocol.specs.Proof.Tables.{on, clash, put-cases, put-here}
-use Rattle.protocol.specs.Refine.Growth.{Late}
+use Rattle.protocol.specs.Refine.Growth.{Late, step-grows}
 use Rattle.history.specs.Ledger.{Done, Ledger, current, withParticipants}
 use Rattle.history.specs.Claims.{Shows, Finds}
-use Rattle.history.proofs.Quorums.{true-T}
-use Rattle.history.proofs.Sim.{tx, modeOf, contentsOf, Owner, Sim}
-use Rattle.history.proofs.Carry.{put-all}
+use Rattle.history.proofs.Quorums.{rules, true-T}
+use Rattle.history.proofs.Sim.{tx, modeOf, contentsOf, Owner, Tells, Sim}
+use Rattle.history.proofs.Carry.{put-all, onward, tells-on}
 use Rattle.history.proofs.Quiet.{idle-owner, done-owner}
-use Rattle.history.proofs.Decide.{put-else, sim-asked, sim-aborted, sim-committed}
+use Rattle.history.proofs.Decide.{put-else, can-ask, can-abort, can-commit, sim-asked, sim-aborted, sim-committed}
 use Rattle.history.proofs.Books.{Decided, Present, Past, More, Asked, Found, Books, Valid, World, changed, found-next, shown-mode, quiet}
 use Rattle.history.proofs.Host.{no-both, other-tx, later-tx, SameTold, SameObjects, objects-still, present-on, same-decided}
 
@@ -52,24 +52,29 @@ module _ (st : Station) (L : Ledger) (F : Past) (w : World st L F) (n : ℕ) whe
   elsewhere c' y t v e f = put-all (λ i d. (i ≡ y .owner) → Shows (st .records i) (y .serial) t v → Shows d (y .serial) t v) (st .records) n c'
       (λ q g. absurd (e (tx-path y x (sym q) (sym (g .present))))) (λ i q r g. g) (y .owner) refl f
 
+  -- whatever was put still tells the truth
+  pub puts-on : {σ' : State ℕ} → Step rules (w .state) σ' → (b : List ℕ) → In b (L .puts) → Tells (σ' .history) (σ' .votes) (σ' .sent) b
+  puts-on s b i = tells-on (onward (step-grows s)) b (w .books .puts-true b i)
+
   module _ (σ' : State ℕ) (l' : List Tx) (c' : Coordinator) (pool : List (List ℕ)) (sim' : Sim (changed st n c' pool) σ' l') (m : Meets tree c') where
     abbrev st' : Station
     st' = changed st n c' pool
 
     pub turned : (L' : Ledger) → ((b : List ℕ) → In b pool → In b (st .pool)) → L' .pool ≡ pool → L' .log ≡ l' → Decided L' (σ' .history)
         → ((i : ℕ) → Present L' i (putAt (st .records) n c' i)) → ((d : Done) → In d (L' .dones) → Late (σ' .ends) (d .node) (d .tx))
+        → ((b : List ℕ) → In b (L' .puts) → Tells (σ' .history) (σ' .votes) (σ' .sent) b)
         → ((y : Tx) (t v : ℕ) → F y t v → σ' .history .phase y ≡ fresh → Finds st' y t v)
         → ((y : Tx) (t v : ℕ) → F y t v → Asked (σ' .history) y → (σ' .history .contents y .found t ≡ v) × (σ' .history .contents y .mode t ≢ unused))
         → ((y : Tx) (t : ℕ) → Asked (σ' .history) y → σ' .history .contents y .mode t ≢ unused → More F st' y t (σ' .history .contents y .found t))
         → World st' L' (More F st')
-    turned L' sub a b d e f g i j =
+    turned L' sub a b d e f fp g i j =
         let meets = put-all (λ (k : ℕ) (z : Coordinator). Meets tree z) (st .records) n c' m (λ k q. w .valid .records k) in
         record {
           state = σ';
           log = l';
           sim = sim';
           valid = record { images = w .valid .images; records = meets; messages = λ y q. w .valid .messages y (sub y q) };
-          books = record { pool-as = a; log-as = b; decided = d; present = e; dones = f; found = found-next F st' σ' l' sim' meets g i j };
+          books = record { pool-as = a; puts-true = fp; log-as = b; decided = d; present = e; dones = f; found = found-next F st' σ' l' sim' meets g i j };
         }
 
   -- ---- votes asked for
@@ -180,6 +185,7 @@ module _ (st : Station) (L : Ledger) (F : Past) (w : World st L F) (n : ℕ) whe
     pub request-world : World (changed st n c₁ (st .pool)) (withParticipants L n party) (More F (changed st n c₁ (st .pool)))
     request-world = turned τ₁ (w .log) c₁ (st .pool) sim₁ m (withParticipants L n party) (λ b i. i) (w .books .pool-as) (w .books .log-as) decided₁
         (put-all (Present (withParticipants L n party)) (st .records) n c₁ here₁ else₁) (w .books .dones)
+        (puts-on (ask x k₁ (can-ask st (w .state) (w .log) (w .sim) n party is-open counts placed)))
         (λ y t v f q. on (moved y) (λ e. let r = is-voting y e in absurd (clash (cc)))
         (λ z. elsewhere c₁ y t v (z .0) (w .books .found .still y t v f (sym (z .1) ∙ q))))
         (λ y t v f a. on (moved y)
@@ -274,11 +280,12 @@ module _ (st : Station) (L : Ledger) (F : Past) (w : World st L F) (n : ℕ) whe
     here₂ = ended-told (eqb (awaited c) 0)
 
     pub abort-world : ((b : List ℕ) → In b pool → In b (st .pool)) → L' .pool ≡ pool → L' .log ≡ L .log → L' .committed ≡ L .committed → L' .dones ≡ L .dones
-        → World (changed st n (endedAborted c) pool) L' (More F (changed st n (endedAborted c) pool))
-    abort-world sub a b d e = turned τ₂ (w .log) (endedAborted c) pool (sim-aborted st (w .state) (w .log) (w .sim) n undecided pool sub) m L' sub a
+        → L' .puts ≡ L .puts → World (changed st n (endedAborted c) pool) L' (More F (changed st n (endedAborted c) pool))
+    abort-world sub a b d e ep = turned τ₂ (w .log) (endedAborted c) pool (sim-aborted st (w .state) (w .log) (w .sim) n undecided pool sub) m L' sub a
         (b ∙ w .books .log-as) (decided₂ d)
         (put-all (Present L') (st .records) n (endedAborted c) here₂ (λ i q. others-told L' told i))
-        (λ z i. w .books .dones z (subst (In z) e i)) (fresh-else aborted no-end (endedAborted c))
+        (λ z i. w .books .dones z (subst (In z) e i))
+        (λ y i. puts-on (abort x (can-abort st (w .state) (w .log) (w .sim) n undecided)) y (subst (In y) ep i)) (fresh-else aborted no-end (endedAborted c))
         (λ y t v f q. w .books .found .carried y t v f (asked-else y q)) (λ y t q r. inl (w .books .found .had y t (asked-else y q) r))
 
   -- ---- a commit
@@ -331,9 +338,9 @@ module _ (st : Station) (L : Ledger) (F : Past) (w : World st L F) (n : ℕ) whe
         of y e = ap (h .contents) e ∙ x-contents
 
     pub commit-world : Meets tree c₃ → ((b : List ℕ) → In b pool → In b (st .pool)) → L' .pool ≡ pool → L' .log ≡ L .log
-        → L' .committed ≡ x ∷ L .committed → L' .dones ≡ L .dones
+        → L' .committed ≡ x ∷ L .committed → L' .dones ≡ L .dones → L' .puts ≡ L .puts
         → World (changed st n c₃ pool) L' (More F (changed st n c₃ pool))
-    commit-world m sub a b d e =
+    commit-world m sub a b d e ep =
         turned τ₃ (w .log) c₃ pool (sim-committed st (w .state) (w .log) (w .sim) n from rivals small is-voting some-party said all pool sub) m L' sub a
         (b ∙ w .books .log-as) (decided₃ d)
         (put-all (Present L') (st .records) n c₃
@@ -341,7 +348,9 @@ module _ (st : Station) (L : Ledger) (F : Past) (w : World st L F) (n : ℕ) whe
         (record { serial = refl; phase = λ q. absurd (let z : ⊥ = omega arith in z); phase' = λ q. absurd (not-idle q); objects = refl; count = refl; participants = refl })
         told (w .books .present n))
         (λ i q. others-told L' told i))
-        (λ z i. w .books .dones z (subst (In z) e i)) (fresh-else committed no-end' c₃)
+        (λ z i. w .books .dones z (subst (In z) e i))
+        (λ y i. puts-on (commit x (can-commit st (w .state) (w .log) (w .sim) n from rivals small is-voting some-party said all)) y (subst (In y) ep i))
+        (fresh-else committed no-end' c₃)
         (λ y t v f q. w .books .found .carried y t v f (asked-as y q)) (λ y t q r. inl (w .books .found .had y t (asked-as y q) r))
 
   -- ---- the last done: idle again
@@ -357,8 +366,8 @@ module _ (st : Station) (L : Ledger) (F : Past) (w : World st L F) (n : ℕ) whe
         let p = w .sim .owners n .when-aborted finishing o in clash (cc))
 
     pub idle-world : Meets tree c₄ → ((b : List ℕ) → In b pool → In b (st .pool)) → L' .pool ≡ pool → L' .log ≡ L .log → L' .committed ≡ L .committed
-        → L' .dones ≡ L .dones → World (changed st n c₄ pool) L' (More F (changed st n c₄ pool))
-    idle-world m sub a b d e = quiet st L F w n c₄ pool L' (idle-owner h (w .state .votes) (w .state .sent) n c (w .sim .owners n) (c .timestamp) (c .outcome)) m sub a b
+        → L' .dones ≡ L .dones → L' .puts ≡ L .puts → World (changed st n c₄ pool) L' (More F (changed st n c₄ pool))
+    idle-world m sub a b d e ep = quiet st L F w n c₄ pool L' (idle-owner h (w .state .votes) (w .state .sent) n c (w .sim .owners n) (c .timestamp) (c .outcome)) m sub a b
         (same-decided st L F w n d (told .modes) (told .news) (told .parties))
-        (put-all (Present L') (st .records) n c₄ (idle-told L' told (c .timestamp) (c .outcome)) (λ i q. others-told L' told i)) e
+        (put-all (Present L') (st .records) n c₄ (idle-told L' told (c .timestamp) (c .outcome)) (λ i q. others-told L' told i)) e ep
         (λ t v f q. absurd (decided-now q))

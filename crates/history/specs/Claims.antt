@@ -2,13 +2,18 @@
 -- lists that came before are its ends; what is claimed after every list is claimed after every one of those.
 use mathlib.Core.Path.{_≡_}
 use mathlib.Core.Logic.{_≢_, _⊎_}
-use mathlib.Core.Bool.{true}
+use mathlib.Core.Bool.{true, cond}
+use lib.Dec.{eqb}
 use mathlib.Core.List.{List, _∷_}
 use Prim.Native.Nat.{ℕ, _^_, _≤_, _<_}
 use lib.ListN.{length, getD}
 use Rattle.mask.specs.Mask.{contains}
 use Rattle.quorum.specs.declared.Kind.the-variants.{Read}
 use Rattle.quorum.specs.Quorum.{isQuorum}
+use Rattle.wire.specs.declared.Entry.{Entry}
+use Rattle.wire.specs.Message.{ask, outcome}
+use Rattle.wire.specs.Decode.{kindOf, decode}
+use Rattle.wire.specs.Items.{wordOf}
 use Rattle.image.specs.Layout.{value, version}
 use Rattle.coordinator.specs.declared.Coordinator.{Coordinator}
 use Rattle.coordinator.specs.State.{idlePhase, objectAt, isOpen, ready}
@@ -17,9 +22,9 @@ use Rattle.station.specs.Station.{Station, blankStation}
 use Rattle.station.specs.Step.{Call, begin, openRead, openWrite, setValue, found, reselect, requestCommit, abort, send, delivery, drop, switch, step}
 use Rattle.station.specs.Run.{after, trace}
 use Rattle.protocol.specs.Table.{In, Suffix, times}
-use Rattle.protocol.specs.Rules.{unused, write}
+use Rattle.protocol.specs.Rules.{unused, read, write}
 use Rattle.protocol.specs.State.{Tx, Tx-discrete}
-use Rattle.history.specs.Ledger.{Done, Ledger, ledger, current, fed, givenTo, lastValue}
+use Rattle.history.specs.Ledger.{Done, Ledger, ledger, txOf, current, fed, givenTo, lastValue}
 
 -- A step's arguments are of their C types: thirteen distances of 16 bits, a timestamp of 32 bits, a value of 64 bits. All others may be any number.
 abbrev pub Sixteen : List ℕ → Type 0
@@ -51,6 +56,12 @@ pub record Shows (c : Coordinator) (serial t v : ℕ) : Type 0 where
 abbrev pub Finds : Station → Tx → ℕ → ℕ → Type 0
 Finds st x t v = Shows (st .records (x .owner)) (x .serial) t v
 
+-- the entries of a message are a transaction's objects with their modes, and of what it writes the new values
+pub record Carries (L : Ledger) (x : Tx) (es : List Entry) : Type 0 where
+  pub each-object : (t : ℕ) → L .mode x t ≢ unused → (e : Entry) × In e es × (e .object ≡ t)
+  pub each-mode : (e : Entry) → In e es → L .mode x (e .object) ≡ cond (eqb (e .mode) 0) read write
+  pub each-value : (e : Entry) → In e es → L .mode x (e .object) ≡ write → L .new x (e .object) ≡ e .value
+
 -- every participant of each committed transaction has put a done on a delivery of its commit
 abbrev pub Settled : Ledger → Type 0
 Settled L = (x : Tx) → In x (L .committed) → (n : ℕ) → contains (L .participants x) n ≡ true → In (record { node = n; tx = x }) (L .dones)
@@ -70,6 +81,10 @@ module _ (on : ℕ) where
     -- (0) each committed transaction stands exactly once in the log, and so in what replay is fed
     pub logged-once : (x : Tx) → In x (told cs .committed) → times Tx-discrete x (told cs .log) ≡ 1
     pub fed-once : (x : Tx) → In x (told cs .committed) → times Tx-discrete x (fed (told cs)) ≡ 1
+    -- and its entries are those of every ask and every commit put for it; a commit was put for no other transaction
+    pub entries-as : (x : Tx) (b : List ℕ) → In x (told cs .committed) → In b (told cs .puts) → txOf b ≡ x
+        → (kindOf b ≡ ask) ⊎ ((kindOf b ≡ outcome) × (wordOf b ≡ 1)) → Carries (told cs) x (decode b .entries)
+    pub commits-only : (b : List ℕ) → In b (told cs .puts) → kindOf b ≡ outcome → wordOf b ≡ 1 → In (txOf b) (told cs .committed)
     -- (a) some earlier list has each of its objects ready, and after every one in which it does, the value found is what replay gives it
     pub was-ready : (x : Tx) (t : ℕ) → In x (told cs .committed) → told cs .mode x t ≢ unused
         → (ds : List Call) × Suffix ds cs × Finds (reached ds) x t (givenTo (told cs) x t)

@@ -28,6 +28,8 @@ pub record Done : Type 0 where
 pub record Ledger : Type 0 where
   -- the messages put, less accepted drops and deliveries not kept: a delivery's message is the k-th of these
   pub pool : List (List ℕ)
+  -- every message that was ever put
+  pub puts : List (List ℕ)
   -- each owner's serial: its accepted begins counted
   pub serials : ℕ → ℕ
   -- the transactions in the order in which the root's first yes to each was put into the pool, newest first
@@ -46,6 +48,7 @@ abbrev pub nothingYet : Ledger
 nothingYet =
     record {
       pool = [];
+      puts = [];
       serials = λ n. 0;
       log = [];
       committed = [];
@@ -95,6 +98,7 @@ abbrev pub withMode : Ledger → ℕ → ℕ → Mode → Ledger
 withMode L n t m =
     record {
       pool = L .pool;
+      puts = L .puts;
       serials = L .serials;
       log = L .log;
       committed = L .committed;
@@ -108,6 +112,7 @@ abbrev pub withNew : Ledger → ℕ → ℕ → ℕ → Ledger
 withNew L n t v =
     record {
       pool = L .pool;
+      puts = L .puts;
       serials = L .serials;
       log = L .log;
       committed = L .committed;
@@ -121,6 +126,7 @@ abbrev pub withParticipants : Ledger → ℕ → ℕ → Ledger
 withParticipants L n party =
     record {
       pool = L .pool;
+      puts = L .puts;
       serials = L .serials;
       log = L .log;
       committed = L .committed;
@@ -134,6 +140,7 @@ abbrev pub withSerial : Ledger → ℕ → Ledger
 withSerial L n =
     record {
       pool = L .pool;
+      puts = L .puts;
       serials = put ℕ-discrete (L .serials) n (L .serials n + 1);
       log = L .log;
       committed = L .committed;
@@ -148,6 +155,7 @@ abbrev pub withPut : Ledger → List (List ℕ) → Option (List ℕ) → Ledger
 withPut L pool p =
     record {
       pool = poolPut p pool;
+      puts = poolPut p (L .puts);
       serials = L .serials;
       log = logPut p (L .log);
       committed = L .committed;
@@ -162,6 +170,7 @@ abbrev pub withDelivered : Ledger → List ℕ → ℕ → Option (List ℕ) →
 withDelivered L b answer p =
     record {
       pool = L .pool;
+      puts = L .puts;
       serials = L .serials;
       log = L .log;
       committed = cond (eqb answer committed) (txOf b ∷ L .committed) (L .committed);
