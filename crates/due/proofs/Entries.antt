@@ -14,7 +14,7 @@ use Rattle.mask.proofs.Tests.{and-left, and-right, T-true, compared}
 use Rattle.wire.specs.declared.Entry.{Entry}
 use Rattle.wire.specs.Encode.{All}
 use Rattle.wire.specs.Items.{noEntry}
-use Rattle.wire.specs.Formed.{ascend, every}
+use Rattle.wire.specs.Formed.{ascend}
 use Rattle.wire.proofs.Stores.{all-append}
 use Rattle.coordinator.specs.declared.Object.{Object}
 use Rattle.coordinator.specs.declared.Coordinator.{Coordinator}
@@ -23,7 +23,7 @@ use Rattle.coordinator.specs.State.{eight, objectsEnd, placeOf, objectAt, isOpe
 use Rattle.clauses.proofs.Parts.{by-test, true-T}
 use Rattle.clauses.proofs.Places.{at, place-open, place-at}
 use Rattle.clauses.proofs.Facts.{Meets}
-use Rattle.due.specs.Due.{entryFor, listsNext, withNext, entriesBelow, entriesOf}
+use Rattle.due.specs.Due.{entryFor, withNext, entriesBelow, entriesOf}
 
 -- ---- numbers as tests count them
 abbrev one : Bool → ℕ

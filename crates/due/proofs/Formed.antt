@@ -1,10 +1,10 @@
 -- What is due from a record that meets its clauses is a well-formed message: by the phase, then by what it owes. So the writer never gives 3.
-use mathlib.Core.Path.{_≡_, refl, sym, ap, _∙_, subst}
-use mathlib.Core.Bool.{Bool, true, false, cond, not, _&&_, _||_}
+use mathlib.Core.Path.{_≡_, refl, ap, _∙_}
+use mathlib.Core.Bool.{Bool, true, false, cond, not, _&&_}
 use mathlib.Core.List.{List, [], _∷_, map}
-use Prim.Native.Nat.{ℕ, _+_, _%_, _<_, _≤_}
+use Prim.Native.Nat.{ℕ, _%_, _<_, _≤_}
 use native.Mathlib.Omega.{arith}
-use lib.Dec.{T, eqb, ltb, leb}
+use lib.Dec.{eqb, ltb, leb}
 use borrow.Author.Tests.{eqb-true, eqb-false, eq-eqb, ne-eqb, ltb-true, ltb-false, leb-true, leb-false, lt-ltb, le-leb, not-false, not-true}
 use lib.ListN.{length, getD}
 use Rattle.mask.proofs.Tests.{and-left, and-right, T-true}
@@ -12,10 +12,9 @@ use Rattle.mask.specs.Mask.{contains}
 use Rattle.numbers.specs.Refusal.{firstOf}
 use Rattle.wire.specs.declared.Entry.{Entry}
 use Rattle.wire.specs.declared.Rival.{Rival}
-use Rattle.wire.specs.declared.Written.{Written}
-use Rattle.wire.specs.Message.{Message, fetch, ask, outcome, yield}
+use Rattle.wire.specs.Message.{fetch, ask, outcome, yield}
 use Rattle.wire.specs.Formed.{countsOk, ascend, every, entryOk, rivalOk, entriesOk, rivalsOk, wellFormed}
-use Rattle.wire.specs.Encode.{All, encode}
+use Rattle.wire.specs.Encode.{All}
 use Rattle.wire.specs.Write.{sent, writtenOf}
 use Rattle.wire.proofs.Theorems.{length-bounds}
 use Rattle.coordinator.specs.declared.Object.{Object}
@@ -24,7 +23,7 @@ use Rattle.coordinator.specs.System.{System}
 use Rattle.coordinator.specs.State.{highest, openPhase, votingPhase, finishingPhase, committed, placeOf, objectAt, isOpen, anyUsedUp, awaited, ready}
 use Rattle.coordinator.specs.Due.{noKind, openDue, votingDue, finishingDue, dueKind, dueRefusals}
 use Rattle.coordinator.proofs.Refusals.{clear}
-use Rattle.clauses.proofs.Parts.{by-test, true-T, neither-left, neither-right}
+use Rattle.clauses.proofs.Parts.{by-test, true-T, neither-right}
 use Rattle.clauses.proofs.Places.{at, across-none}
 use Rattle.clauses.proofs.Facts.{Full, Meets}
 use Rattle.clauses.proofs.Fits.{Widths}

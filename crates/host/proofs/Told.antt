@@ -1,12 +1,11 @@
 -- A call that takes distances as bytes: with 26 of them it is the call by itself. And two answers with equal fields are equal.
-use mathlib.Core.Path.{_≡_, ap, _∙_}
+use mathlib.Core.Path.{_≡_, ap}
 use mathlib.Core.List.{List}
 use Prim.Native.Nat.{ℕ}
 use borrow.Author.Tests.{eq-eqb}
 use lib.ListN.{length}
 use Rattle.coordinator.specs.declared.Coordinator.{Coordinator}
 use Rattle.coordinator.specs.declared.Step.{Step}
-use Rattle.record.specs.declared.Called.{Called}
 use Rattle.record.specs.Call.{calledOf, recordAfter}
 use Rattle.host.specs.declared.records.Value.{Value}
 use Rattle.host.specs.Records.{answerWith, bytesWith}

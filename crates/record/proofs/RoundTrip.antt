@@ -1,10 +1,9 @@
 -- The bytes of a record are read as it, and the record that bytes are has these bytes. Both walk the bytes from the front.
-use mathlib.Core.Path.{_≡_, refl, sym, ap, ap₂, _∙_, subst}
+use mathlib.Core.Path.{_≡_, refl, sym, ap, _∙_, subst}
 use mathlib.Core.Bool.{Bool, true, false, cond, _&&_}
 use mathlib.Core.List.{List, [], _∷_, _++_, append-assoc, append-nil}
 use Prim.Native.Nat.{ℕ, zero, suc, _+_, _*_, _/_, _%_, _^_, _<_, _≤_}
 use native.Mathlib.Nat.{mod-lt}
-use native.Mathlib.Numerals.{add-one}
 use native.Mathlib.Omega.{arith}
 use lib.Dec.{eqb, leb, lit<, lit≤, leb→le}
 use borrow.Author.Tests.{eqb-true, eqb-false, le-leb}
@@ -15,17 +14,16 @@ use Rattle.octets.specs.Octets.{get, le}
 use Rattle.octets.proofs.Laws.{Bytes, length-le}
 use Rattle.wire.specs.Encode.{together, All}
 use Rattle.wire.specs.Decode.{itemsFrom}
-use Rattle.wire.proofs.RoundTrip.{length-together, next, byte-at, number-at, items-at, peel-byte, peel-number, Peels, peel-items}
+use Rattle.wire.proofs.RoundTrip.{length-together, next, byte-at, number-at, items-at, peel-byte, peel-number, peel-items}
 use Rattle.wire.proofs.Stores.{all-append}
 use Rattle.coordinator.specs.declared.Object.{Object}
 use Rattle.coordinator.specs.declared.Coordinator.{Coordinator}
-use Rattle.coordinator.specs.State.{noObject}
 use Rattle.clauses.proofs.Parts.{by-test, true-T}
 use Rattle.clauses.proofs.Places.{at}
 use Rattle.clauses.proofs.Fits.{ObjectFits, Fits}
 use Rattle.record.specs.Record.{objectOf, distancesOf, objectsOf, rivalsOf, recordOf, objectBytes, frontBytes, quorumBytes, voteBytes, bytesOf, givenOk}
 use Rattle.record.proofs.Made.{made-object, made-record}
-use Rattle.record.proofs.Stores.{length-object, length-front, length-quorum, length-votes, length-bytes}
+use Rattle.record.proofs.Stores.{length-object, length-front, length-quorum, length-votes}
 
 -- ---- one field after the other
 module _ (l : List ℕ) where

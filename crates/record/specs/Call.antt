@@ -1,5 +1,5 @@
 -- A call on a record as bytes: 1 and 2 of the bytes, else the call by value, written back where its number is 0.
-use mathlib.Core.Bool.{Bool, cond, _||_}
+use mathlib.Core.Bool.{cond, _||_}
 use mathlib.Core.List.{List, [], _∷_}
 use Prim.Native.Nat.{ℕ}
 use lib.Dec.{eqb, ltb}

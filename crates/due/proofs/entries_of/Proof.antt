@@ -1,10 +1,8 @@
 -- `due::entries_of`: what is gathered so far are the entries of the objects passed.
 use Prim.Native.Nat.{ℕ, _-_, _≤_}
 use mathlib.Core.Path.{_≡_, sym, subst}
-use mathlib.Core.List.{List}
 use native.Mathlib.Omega.{arith}
 use borrow.Author.Needs.{needs}
-use Rattle.wire.specs.declared.Entry.{Entry}
 use Rattle.due.specs.Gather.{Lists}
 use Rattle.due.specs.Due.{entriesBelow, entriesOf}
 use Rattle.due.proofs.Gather.{below-none, below-more}
