@@ -36,7 +36,8 @@ use Rattle.replica.proofs.After.{commit-copy, abort-copy, outcome-owner, early-
 use Rattle.station.specs.Station.{Station, putAt, withImage}
 use Rattle.protocol.specs.Table.{pick, In}
 use Rattle.protocol.specs.State.{Tx, Tx-discrete, fresh, committed, aborted, over, listed, held, refused, History, State, Writes, Touches, Held}
-use Rattle.protocol.specs.Transitions.{doList, CanList, list, doCopy, copy, doNo, voteNo, doYes, CanYes, voteYes, doApply, CanApply, apply, doDrop, CanDrop, drop}
+use Rattle.protocol.specs.Transitions.{doList, CanList, list, doCopy, copy, doNo, voteNo, doYes, CanYes, voteYes, doApply, CanApply, apply, doDrop, CanDrop}
+use Rattle.protocol.specs.Transitions.{drop}
 use Rattle.protocol.specs.Log.{logged}
 use Rattle.protocol.specs.Tree.{tree-free}
 use Rattle.protocol.specs.Proof.Tables.{on, clash, put2-here}
@@ -83,9 +84,11 @@ late-by false false st n s p q e = inl (below n s (ltb-false n s p) (eqb-false n
     below : (n s : ℕ) → s ≤ n → (n ≡ s → ⊥) → s < n
     below n s h f = on (lt-or-le s n) (λ g. g) (λ g. absurd (f (omega arith)))
 
-pub late-standing : (l : List ℕ) (m : Message) → standing l m ≡ 0 → (m .serial < serial l (m .owner)) ⊎ ((serial l (m .owner) ≡ m .serial) × (state l (m .owner) ≡ 0))
+pub late-standing : (l : List ℕ) (m : Message) → standing l m ≡ 0 → (m .serial < serial l (m .owner)) ⊎
+    ((serial l (m .owner) ≡ m .serial) × (state l (m .owner) ≡ 0))
 unfolding standing
-late-standing l m e = late-by (ltb (serial l (m .owner)) (m .serial)) (eqb (serial l (m .owner)) (m .serial)) (state l (m .owner)) (serial l (m .owner)) (m .serial) refl refl e
+late-standing l m e = late-by (ltb (serial l (m .owner)) (m .serial)) (eqb (serial l (m .owner)) (m .serial)) (state l (m .owner)) (serial l (m .owner))
+    (m .serial) refl refl e
 
 -- the word of an outcome is 0 or 1
 word-by : (b c : Bool) (w : ℕ) (e : Bool) → eqb w 1 ≡ b → (cond b e (eqb w 0 && c)) ≡ true → (w ≡ 0) ⊎ (w ≡ 1)
@@ -451,7 +454,8 @@ module _ (st : Station) (σ : State ℕ) (log : List Tx) (sim : Sim st σ log) (
         ∙ sym (ap (λ (b : Bool). cond b nobody (holder l t)) (ne-eqb (holder l t) o (not-holder t p)))
 
     one-early : OneOwner l (outcomeImage l m) o (m .serial) 0
-    one-early = over-owner (m .serial) (ownerWith (m .serial) 0 (m .stamp)) refl refl (early-owner l m (k .sound) (k .owner) (k .serial) (k .stamp) (k .fits) early)
+    one-early = over-owner (m .serial) (ownerWith (m .serial) 0 (m .stamp)) refl refl
+        (early-owner l m (k .sound) (k .owner) (k .serial) (k .stamp) (k .fits) early)
 
     early-sim : Sim (withImage st n (outcomeImage l m)) (doDrop σ n x) log
     early-sim = sim-dropped st σ log sim n (outcomeImage l m) x early-drop
@@ -519,21 +523,27 @@ module _ (st : Station) (σ : State ℕ) (log : List Tx) (sim : Sim st σ log) (
           let c = all-in _ (m .entries) (commit-writes l m k kind is-held word) (z .0) (z .1) (eqb-false (z .0 .mode) 0 (z .3)) in
           let v = match .version-as (z .0) (z .1) in
           let u = match .new-as (z .0) (z .1) (ap (σ .history .contents x .mode) (z .2) ∙ w) in
-          subst (λ (g : ℕ). (version (outcomeImage l m) g ≡ suc (σ .history .contents x .version g)) × (value (outcomeImage l m) g ≡ σ .history .contents x .new g))
+          subst (λ (g : ℕ). (version (outcomeImage l m) g ≡ suc (σ .history .contents x .version g)) ×
+          (value (outcomeImage l m) g ≡ σ .history .contents x .new g))
           (z .2) (c .1 ∙ add-one (z .0 .version) ∙ ap suc (sym v), c .0 ∙ sym u)
 
       still-stored : (t : ℕ) → (Writes (σ .history .contents) x t → ⊥)
           → (version (outcomeImage l m) t ≡ version l t) × (value (outcomeImage l m) t ≡ value l t)
       still-stored t w = on (lt-or-le t 64)
           (λ p. let c = commit-others l m k kind is-held word t p (not-in (σ .history .contents x) (m .entries) match t w) in (c .1, c .0))
-          (λ p. (of-out (versionField shape) _ t p ∙ sym (of-out (versionField shape) l t p), of-out (valueField shape) _ t p ∙ sym (of-out (valueField shape) l t p)))
+          (λ p. (
+            of-out (versionField shape) _ t p ∙ sym (of-out (versionField shape) l t p),
+            of-out (valueField shape) _ t p ∙ sym
+                (of-out (valueField shape) l t p),
+          ))
 
       freed-now : (t : ℕ) → t < 64 → copyOf (outcomeImage l m) t .holder ≡ freeing o (copyOf l t .holder)
       freed-now t p = ap (λ (y : Copy). y .holder)
           (commit-copy l m (k .sound) (k .owner) (k .serial) (k .stamp) (k .fits) is-held word (commit-raises m (k .formed) kind) t p)
 
       commit-sim : Sim (withImage st n (outcomeImage l m)) (doApply σ n x) log
-      commit-sim = sim-applied st σ log sim n (outcomeImage l m) x can-apply one-over (freed-from l (outcomeImage l m) o (k .owner) freed-now) now-stored still-stored
+      commit-sim = sim-applied st σ log sim n (outcomeImage l m) x can-apply one-over
+          (freed-from l (outcomeImage l m) o (k .owner) freed-now) now-stored still-stored
 
       pub applied-here : Acted (outcomeImage l m) (λ τ l'. (l' ≡ log) × Late (τ .ends) n x)
       applied-here = record {

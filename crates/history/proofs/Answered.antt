@@ -26,7 +26,8 @@ use Rattle.clauses.proofs.Facts.{Meets}
 use Rattle.clauses.proofs.Sets.{node-known}
 use Rattle.clauses.proofs.Messages.{vote-owner}
 use Rattle.clauses.proofs.Deliver.{receive-keeps}
-use Rattle.clauses.proofs.Deliveries.{CopyFitting, YesFitting, DoneFitting, Aborts, Endings, OpenOrVoting, copiedObject, afterCopy, saidYes, named, saidDone, Deliveries, receive-cases}
+use Rattle.clauses.proofs.Deliveries.{CopyFitting, YesFitting, DoneFitting, Aborts, Endings, OpenOrVoting, copiedObject, afterCopy, saidYes, named, saidDone}
+use Rattle.clauses.proofs.Deliveries.{Deliveries, receive-cases}
 use Rattle.station.specs.Station.{Station, withRecord, without}
 use Rattle.station.specs.Step.{delivery, Outcome, refusedWith, taken, takenOut, atCoordinator}
 use Rattle.protocol.specs.Table.{In}
@@ -98,7 +99,8 @@ module _ (st : Station) (L : Ledger) (F : Past) (w : World st L F) (k : ℕ) (ke
   P s = Meets tree (s .coordinator) → Next st L F w (delivery k kept) (out s)
 
   -- a step that is taken
-  go : (answer : ℕ) (d : Coordinator) → World (changed st n d pool) (told answer) (More F (changed st n d pool)) → Next st L F w (delivery k kept) (out (brought answer d))
+  go : (answer : ℕ) (d : Coordinator) → World (changed st n d pool) (told answer) (More F (changed st n d pool)) → Next st L F w (delivery k kept)
+      (out (brought answer d))
   unfolding note
   go answer d x = subst (λ (L' : Ledger). World (changed st n d pool) L' (More F (changed st n d pool))) (sym (as-told answer)) x
 
@@ -125,11 +127,13 @@ module _ (st : Station) (L : Ledger) (F : Past) (w : World st L F) (k : ℕ) (ke
   -- an abort
   ended-idle : awaited c ≡ 0 → endedAborted c ≡ idleAfter (c .serial) (c .timestamp) 2
   unfolding endedAborted
-  ended-idle e = ap (λ (t : Bool). cond t (idleAfter (c .serial) (c .timestamp) 2) (withPhase c finishingPhase 2 (c .participants) (c .yes) (c .done) (c .rivals))) (eq-eqb (awaited c) 0 e)
+  ended-idle e = ap (λ (t : Bool). cond t (idleAfter (c .serial) (c .timestamp) 2)
+      (withPhase c finishingPhase 2 (c .participants) (c .yes) (c .done) (c .rivals))) (eq-eqb (awaited c) 0 e)
 
   ended-on : (awaited c ≡ 0 → ⊥) → endedAborted c ≡ withPhase c finishingPhase 2 (c .participants) (c .yes) (c .done) (c .rivals)
   unfolding endedAborted
-  ended-on e = ap (λ (t : Bool). cond t (idleAfter (c .serial) (c .timestamp) 2) (withPhase c finishingPhase 2 (c .participants) (c .yes) (c .done) (c .rivals))) (ne-eqb (awaited c) 0 e)
+  ended-on e = ap (λ (t : Bool). cond t (idleAfter (c .serial) (c .timestamp) 2)
+      (withPhase c finishingPhase 2 (c .participants) (c .yes) (c .done) (c .rivals))) (ne-eqb (awaited c) 0 e)
 
   aborted-case : (d : Coordinator) → endedAborted c ≡ d → OpenOrVoting c → P (brought 2 d)
   aborted-case d e u m = go 2 d (subst (λ (x : Coordinator). World (changed st n x pool) (told 2) (More F (changed st n x pool))) e
@@ -150,7 +154,8 @@ module _ (st : Station) (L : Ledger) (F : Past) (w : World st L F) (k : ℕ) (ke
     from-small : fromOf b < 16
     from-small = omega (arith, node-known (c .participants) (fromOf b) (w .valid .records n .party .participants-known) (f .answer .from-node))
 
-    last-yes-case : T (within (c .participants) (saidYes c b)) → P (brought 1 (withPhase c finishingPhase 1 (c .participants) (saidYes c b) (c .done) (named c b)))
+    last-yes-case : T (within (c .participants) (saidYes c b)) → P
+        (brought 1 (withPhase c finishingPhase 1 (c .participants) (saidYes c b) (c .done) (named c b)))
     last-yes-case t m = go 1 _
         (commit-world st L F w n (fromOf b) (named c b) from-small is-voting was-yes (T-true _ t) pool (told 1) (same-told 1) m sub refl refl
         (ap (λ (x : Tx). x ∷ L .committed) names-it) refl refl)

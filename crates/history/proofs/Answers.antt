@@ -17,14 +17,16 @@ use Rattle.wire.specs.Message.{Message}
 use Rattle.wire.specs.Encode.{All, EntryFits, RivalFits, Fits}
 use Rattle.wire.specs.Formed.{wordOf}
 use Rattle.wire.specs.Write.{rivalsBy}
-use Rattle.image.specs.Layout.{shape, owners, valueField, versionField, holderField, readersField, writersField, serialField, stateField, stampField, value, version, serial}
+use Rattle.image.specs.Layout.{shape, owners, valueField, versionField, holderField, readersField, writersField, serialField, stateField, stampField, value}
+use Rattle.image.specs.Layout.{version, serial}
 use Rattle.image.specs.Change.{withOwner, withSerial, withState, withValue, free, unlist}
 use Rattle.image.proofs.Each.{lt-or-le}
 use Rattle.image.proofs.Lens.{bytes-with, of-small}
 use Rattle.image.proofs.Whole.{bytes-free, bytes-unlist}
 use Rattle.replica.specs.Standing.{standing, active, entered}
 use Rattle.replica.specs.Judge.{votesNo, named, noSerials, namedBelow, serialsOf, rivalsOf}
-use Rattle.replica.specs.Steps.{copyTo, voteTo, doneTo, wanted, fetchImage, copyHere, holdingOne, holding, leaves, judgedImage, askImage, appliedOne, applied, decided, released, outcomeImage}
+use Rattle.replica.specs.Steps.{copyTo, voteTo, doneTo, wanted, fetchImage, copyHere, holdingOne, holding, leaves, judgedImage, askImage, appliedOne, applied}
+use Rattle.replica.specs.Steps.{decided, released, outcomeImage}
 use Rattle.replica.specs.Receive.{step, Delivered}
 use Rattle.replica.proofs.Delivered.{either-way}
 use Rattle.replica.proofs.Spoken.{length-named}
@@ -56,7 +58,8 @@ bytes-applied l [] b = b
 bytes-applied l (e ∷ es) b =
     bytes-applied (appliedOne l e) es
     (either-way Bytes (eqb (e .mode) 0) _ _ b
-    (bytes-with (versionField shape) (withValue l (e .object) (e .value)) (e .object) (e .version + 1) (bytes-with (valueField shape) l (e .object) (e .value) b)))
+    (bytes-with (versionField shape) (withValue l (e .object) (e .value)) (e .object) (e .version + 1)
+    (bytes-with (valueField shape) l (e .object) (e .value) b)))
 
 module _ (l : List ℕ) (m : Message) (b : Bytes l) where
   bytes-fetch : Bytes (fetchImage l m)
@@ -135,4 +138,10 @@ yes-fits me m f l b = vote-fits me m f (serialsOf l (rivalsOf l m)) 1 (length-na
 
 pub here-fits : (l : List ℕ) → Bytes l → (e : Entry) → e .object < 256 → e .mode < 256 → EntryFits (copyHere l e)
 unfolding copyHere
-here-fits l b e h g = record { object = h; mode = g; version = of-small (versionField shape) l (e .object) b; value = of-small (valueField shape) l (e .object) b }
+here-fits l b e h g = record {
+  object = h;
+  mode = g;
+  version = of-small (versionField shape) l (e .object) b;
+  value = of-small (valueField shape) l
+      (e .object) b;
+}

@@ -21,7 +21,8 @@ use Rattle.coordinator.specs.declared.Step.{Step}
 use Rattle.coordinator.specs.System.{tree}
 use Rattle.coordinator.specs.State.{thirteen, eight, idlePhase, openPhase, votingPhase, objectAt, isOpen, stepOf}
 use Rattle.coordinator.specs.Calls.{beginRefusals, begun, beginOf, openRefusals, opened, openOf, setRefusals, withNew, setOf, foundRefusals, foundOf}
-use Rattle.coordinator.specs.Calls.{reselectRefusals, reselected, reselectOf, requestCommitRefusals, requested, requestCommitOf, abortRefusals, endedAborted, abortOf}
+use Rattle.coordinator.specs.Calls.{reselectRefusals, reselected, reselectOf, requestCommitRefusals, requested, requestCommitOf, abortRefusals, endedAborted}
+use Rattle.coordinator.specs.Calls.{abortOf}
 use Rattle.coordinator.proofs.Refusals.{Clear, numbered, clear}
 use Rattle.clauses.proofs.Facts.{Meets}
 use Rattle.clauses.proofs.Cases.{either-of}
@@ -117,13 +118,15 @@ module _ (st : Station) (L : Ledger) (F : Past) (w : World st L F) where
           station = withRecord st n (cond {A = Step} b (record { number = 0; answer = answer; coordinator = c' })
               (record { number = firstOf rs; answer = 0; coordinator = c }) .coordinator);
         })
-        (refusedWith (cond {A = Step} b (record { number = 0; answer = answer; coordinator = c' }) (record { number = firstOf rs; answer = 0; coordinator = c }) .number) st))
+        (refusedWith (cond {A = Step} b (record { number = 0; answer = answer; coordinator = c' })
+        (record { number = firstOf rs; answer = 0; coordinator = c }) .number) st))
         (refusedWith (whenOff (cond {A = Step} b (record { number = 0; answer = answer; coordinator = c' })
         (record { number = firstOf rs; answer = 0; coordinator = c }) .number)) st))
     unfolding note
     by-number true true e f = f (clear rs all (eqb-true (firstOf rs) 0 e))
     by-number true false e f =
-        subst (λ (b : Bool). Next call (cond b (record { number = 0; answer = 0; put = none; station = withRecord st n c }) (refusedWith (firstOf rs) st))) (sym e)
+        subst (λ (b : Bool). Next call (cond b (record { number = 0; answer = 0; put = none; station = withRecord st n c }) (refusedWith (firstOf rs) st)))
+        (sym e)
         (refused-next call (firstOf rs) (eqb-false (firstOf rs) 0 e))
     by-number false true e f = refused-next call (whenOff 0) (off-number 0)
     by-number false false e f = refused-next call (whenOff (firstOf rs)) (off-number (firstOf rs))
@@ -173,7 +176,8 @@ module _ (st : Station) (L : Ledger) (F : Past) (w : World st L F) where
     set-next t v =
         let rs = setRefusals d n t in
         host-next n (setValue n t v) rs 0 (withNew d t v) tt (λ k.
-        set-world st L F w n (eqb-true (d .phase) openPhase (not-false _ (k .1 .0))) t (not-false (isOpen d t) (or-false (not (isOpen d t)) (eqb (objectAt d t .mode) 0) (k .1 .1 .0) .0)) v
+        set-world st L F w n (eqb-true (d .phase) openPhase (not-false _ (k .1 .0))) t
+        (not-false (isOpen d t) (or-false (not (isOpen d t)) (eqb (objectAt d t .mode) 0) (k .1 .1 .0) .0)) v
         (subst (Meets tree) (taken-record rs 0 d (withNew d t v) k) (set-keeps tree tree-quorums d n md t v)))
 
     pub found-next' : (t : ℕ) → Next (found n t) (hosted st n (foundOf tree d n t))
@@ -185,7 +189,8 @@ module _ (st : Station) (L : Ledger) (F : Past) (w : World st L F) where
     unfolding reselected
     same-objects live distances q = record { serial = refl; phase = λ e. e; phase' = λ e. e; objects = refl; count = refl; participants = refl }
 
-    pub reselect-next : (live : ℕ) (distances : List ℕ) → length distances ≡ thirteen → Next (reselect n live distances) (hosted st n (reselectOf tree d n live distances))
+    pub reselect-next : (live : ℕ) (distances : List ℕ) → length distances ≡ thirteen → Next (reselect n live distances)
+        (hosted st n (reselectOf tree d n live distances))
     unfolding reselectOf reselectRefusals noted
     reselect-next live distances size =
         let chosen = tree .nearestRead live distances in

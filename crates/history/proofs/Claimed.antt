@@ -77,7 +77,8 @@ module _ (st : Station) (L : Ledger) (F : Past) (g : Good st L F) where
   turn-as : (x : Tx) → σ .history .phase x ≡ committed → (t a : ℕ) → turn L x t a ≡ Rattle.protocol.specs.Replay.turn (σ .history .contents) x t a
   turn-as x p t a = rw (d .its-mode x p t, d .its-new x p t)
 
-  given-as : (x : Tx) (t : ℕ) → givenTo L x t ≡ Rattle.protocol.specs.Replay.givenTo rules (σ .history .contents) x (Rattle.protocol.specs.Log.fed σ (w .log)) t
+  given-as : (x : Tx) (t : ℕ) → givenTo L x t ≡ Rattle.protocol.specs.Replay.givenTo rules (σ .history .contents) x
+      (Rattle.protocol.specs.Log.fed σ (w .log)) t
   unfolding givenTo
   given-as x t = ap (λ (l : List Tx). given Tx-discrete 0 (turn L) x l t) fed-as
       ∙ given-ext Tx-discrete 0 (Rattle.protocol.specs.Replay.turn (σ .history .contents)) (turn L) x (Rattle.protocol.specs.Log.fed σ (w .log)) t
@@ -128,7 +129,8 @@ module _ (st : Station) (L : Ledger) (F : Past) (g : Good st L F) where
       subst (F x t) (base .serial x t p touched ∙ sym (given-as x t)) (w .books .found .had x t (inr p) touched)
 
   -- ---- (b)
-  source-as : (t v : ℕ) → (v ≡ 0) ⊎ ((y : Tx) × (σ .history .phase y ≡ committed) × (σ .history .contents y .mode t ≡ write) × (v ≡ σ .history .contents y .new t))
+  source-as : (t v : ℕ) → (v ≡ 0) ⊎ ((y : Tx) × (σ .history .phase y ≡ committed) × (σ .history .contents y .mode t ≡ write) ×
+      (v ≡ σ .history .contents y .new t))
       → (v ≡ 0) ⊎ ((y : Tx) × In y (L .committed) × (L .mode y t ≡ write) × (v ≡ L .new y t))
   source-as t v (inl e) = inl e
   source-as t v (inr z) = inr (z .0, d .is-told (z .0) (z .1), d .its-mode (z .0) (z .1) t ∙ z .2, z .3 ∙ sym (d .its-new (z .0) (z .1) t))
@@ -139,7 +141,8 @@ module _ (st : Station) (L : Ledger) (F : Past) (g : Good st L F) where
       let z = place-open (c .objects) (c .count) t (ltb-true (placeOf c t) eight (f .opened)) in
       on (w .sim .owners (x .owner) .found (placeOf c t))
       (λ q. inl (sym (f .value) ∙ q .1))
-      (λ i. source-as t v (subst (λ (a : ℕ). (a ≡ 0) ⊎ ((y : Tx) × (σ .history .phase y ≡ committed) × (σ .history .contents y .mode t ≡ write) × (a ≡ σ .history .contents y .new t)))
+      (λ i. source-as t v (subst (λ (a : ℕ). (a ≡ 0) ⊎ ((y : Tx) × (σ .history .phase y ≡ committed) × (σ .history .contents y .mode t ≡ write)
+      × (a ≡ σ .history .contents y .new t)))
       (f .value) (subst (λ (o : ℕ). (objectAt c t .value ≡ 0) ⊎ ((y : Tx) × (σ .history .phase y ≡ committed) × (σ .history .contents y .mode o ≡ write)
       × (objectAt c t .value ≡ σ .history .contents y .new o))) (z .1 .1) (core .sent _ i))))
 
@@ -193,7 +196,8 @@ found-taken st n t e = by (contains (st .on) n) (eqb number 0) refl e
     by false true p q = absurd (off-number 0 q)
     by false false p q = absurd (off-number number q)
 
-pub shown-by : (st : Station) (n t s : ℕ) → st .records n .serial ≡ s → step st (found n t) .number ≡ 0 → Shows (st .records n) s t (step st (found n t) .answer)
+pub shown-by : (st : Station) (n t s : ℕ) → st .records n .serial ≡ s → step st (found n t) .number ≡ 0 → Shows (st .records n) s t
+    (step st (found n t) .answer)
 unfolding foundRefusals
 shown-by st n t s e q =
     let c = st .records n in

@@ -139,7 +139,8 @@ module _ (st : Station) (σ : State ℕ) (l : List Tx) (sim : Sim st σ l) (n : 
     owner-aborted = ended (eqb (awaited c) 0)
 
     pub sim-aborted : (pool : List (List ℕ)) → ((b : List ℕ) → In b pool → In b (st .pool)) → Sim (withIt (endedAborted c) pool) σ₂ l
-    sim-aborted pool old = by-one st (withIt (endedAborted c) pool) l sim (abort x can-abort) (reads-still st σ (σ₂ .history) (σ₂ .chain) (sim .reads)) (λ i t. refl)
+    sim-aborted pool old = by-one st (withIt (endedAborted c) pool) l sim (abort x can-abort) (reads-still st σ (σ₂ .history) (σ₂ .chain) (sim .reads))
+        (λ i t. refl)
         (owners-after st σ σ₂ l sim n (endedAborted c) (abort x can-abort)
         (λ y e. (put-else (σ .history .phase) x aborted y (λ f. e (ap (λ (u : Tx). u .owner) f)), refl)) owner-aborted)
         (λ b i. inl (old b i))
@@ -177,7 +178,8 @@ module _ (st : Station) (σ : State ℕ) (l : List Tx) (sim : Sim st σ l) (n : 
     }
 
     pub sim-committed : (pool : List (List ℕ)) → ((b : List ℕ) → In b pool → In b (st .pool)) → Sim (withIt decided pool) σ₃ l
-    sim-committed pool old = by-one st (withIt decided pool) l sim (commit x can-commit) (reads-still st σ (σ₃ .history) (σ₃ .chain) (sim .reads)) (λ i t. refl)
+    sim-committed pool old = by-one st (withIt decided pool) l sim (commit x can-commit) (reads-still st σ (σ₃ .history) (σ₃ .chain) (sim .reads))
+        (λ i t. refl)
         (owners-after st σ σ₃ l sim n decided (commit x can-commit)
         (λ y e. (put-else (σ .history .phase) x committed y (λ f. e (ap (λ (u : Tx). u .owner) f)), refl)) owner-committed)
         (λ b i. inl (old b i))

@@ -42,7 +42,8 @@ unfolding together
 bytes-together P enc f [] a = bytes-none
 bytes-together P enc f (x ∷ xs) a = bytes-append (enc x) (together enc xs) (f x (a .0)) (bytes-together P enc f xs (a .1))
 
-bytes-section : {A : Type 0} (P : A → Type 0) (enc : A → List ℕ) → ((x : A) → P x → Bytes (enc x)) → (xs : List A) → length xs < 256 → All P xs → Bytes (section enc xs)
+bytes-section : {A : Type 0} (P : A → Type 0) (enc : A → List ℕ) → ((x : A) → P x → Bytes (enc x)) → (xs : List A) → length xs < 256 → All P xs → Bytes
+    (section enc xs)
 bytes-section P enc f xs h a = bytes-cons (length xs) (together enc xs) h (bytes-together P enc f xs a)
 
 entry-bytes : (e : Entry) → EntryFits e → Bytes (encodeEntry e)

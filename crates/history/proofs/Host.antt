@@ -251,7 +251,8 @@ module _ (st : Station) (L : Ledger) (F : Past) (w : World st L F) (n : ℕ) whe
             (λ z. z .1 ∙ sym (ap (contentsOf c₁ .mode) (z .0 .1) ∙ its-mode c c₁ (c .count) x₁ set₁ mc m))
             (λ z. z .1 ∙ p .mode-now busy u ∙ sym (other-mode c c₁ (c .count) x₁ set₁ mc m u (λ q. z .0 (sym is-now, q))));
         new-now = λ e u. p .new-now busy u ∙ by-cases (ℕ-discrete u t)
-            (λ q. ap (λ (k : ℕ). objectAt c k .new) q ∙ ap (λ (y : Object). y .new) (shut-blank (c .objects) (c .count) (listed-of c (w .valid .records n)) t shut)
+            (λ q. ap (λ (k : ℕ). objectAt c k .new) q ∙ ap (λ (y : Object). y .new)
+            (shut-blank (c .objects) (c .count) (listed-of c (w .valid .records n)) t shut)
             ∙ sym (ap (λ (k : ℕ). objectAt c₁ k .new) q ∙ ap (λ (y : Object). y .new) (its-object c c₁ (c .count) x₁ set₁ mc m)))
             (λ q. ap (λ (y : Object). y .new) (sym (other-object c c₁ (c .count) x₁ set₁ mc m u q)));
         party-now = p .party-now;

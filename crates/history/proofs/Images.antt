@@ -16,7 +16,8 @@ use Rattle.image.specs.declared.Field.{Field}
 use Rattle.image.specs.declared.Copy.{Copy}
 use Rattle.image.specs.declared.Owner.{Owner}
 use Rattle.image.specs.Field.{fieldOf}
-use Rattle.image.specs.Layout.{shape, owners, valueField, versionField, holderField, serialField, stateField, value, version, holder, serial, state, copyOf, ownerOf}
+use Rattle.image.specs.Layout.{shape, owners, valueField, versionField, holderField, serialField, stateField, value, version, holder, serial, state, copyOf}
+use Rattle.image.specs.Layout.{ownerOf}
 use Rattle.image.specs.Change.{freeing}
 use Rattle.image.proofs.Each.{lt-or-le}
 use Rattle.image.proofs.Lens.{of-out}
@@ -51,8 +52,10 @@ module _ (l k : List ℕ) where
   owner-from o w small h = record {
     its-serial = ap (λ (x : Owner). x .serial) here;
     its-state = ap (λ (x : Owner). x .state) here;
-    serials = λ p e. on (lt-or-le p owners) (λ q. ap (λ (x : Owner). x .serial) (else p q e)) (λ q. of-out (serialField shape) k p q ∙ sym (of-out (serialField shape) l p q));
-    states = λ p e. on (lt-or-le p owners) (λ q. ap (λ (x : Owner). x .state) (else p q e)) (λ q. of-out (stateField shape) k p q ∙ sym (of-out (stateField shape) l p q));
+    serials = λ p e. on (lt-or-le p owners) (λ q. ap (λ (x : Owner). x .serial) (else p q e)) (λ q. of-out (serialField shape) k p q
+        ∙ sym (of-out (serialField shape) l p q));
+    states = λ p e. on (lt-or-le p owners) (λ q. ap (λ (x : Owner). x .state) (else p q e)) (λ q. of-out (stateField shape) k p q
+        ∙ sym (of-out (stateField shape) l p q));
   }
     where
       here : ownerOf k o ≡ w
@@ -93,7 +96,8 @@ freed-by true true false h w p q n = ((λ e. absurd (none-some e)), (λ e. rw p)
 freed-by true false true h w p q n = ((λ e. refl), (λ e. absurd (e (ap some (eqb-true h w q)))))
 freed-by true false false h w p q n = ((λ e. absurd (eqb-false h w q (some-is e))), (λ e. rw p))
 
-pub freed-from : (l k : List ℕ) (w : ℕ) → w < owners → ((t : ℕ) → t < shape .objects → copyOf k t .holder ≡ freeing w (copyOf l t .holder)) → FreedHolders l k w
+pub freed-from : (l k : List ℕ) (w : ℕ) → w < owners → ((t : ℕ) → t < shape .objects → copyOf k t .holder ≡ freeing w (copyOf l t .holder))
+    → FreedHolders l k w
 unfolding copyOf
 freed-from l k w small h = record { its = λ t. both t .0; other = λ t. both t .1 }
   where

@@ -129,7 +129,8 @@ module _ (h : History ℕ) (v : Votes) (m : List (Copy ℕ)) (n : ℕ) (c : Coor
   copy-owner p from e q i =
       let x = objectAt c (e .object) in
       let j = subst (λ (k : ℕ). In (record { object = k; version = e .version; value = e .value }) m) (sym q) i in
-      objects-owner p _ _ _ (found-set m (c .objects) (placeOf c (e .object)) (withCopy x from e) (copied m x e (better x e) (w .found (placeOf c (e .object))) j)
+      objects-owner p _ _ _ (found-set m (c .objects) (placeOf c (e .object)) (withCopy x from e)
+      (copied m x e (better x e) (w .found (placeOf c (e .object))) j)
       (w .found))
 
   pub reselect-owner : (live : ℕ) (distances : List ℕ) (quorum : ℕ) → Owner h v m n (reselected c live distances quorum)

@@ -20,7 +20,8 @@ use Rattle.wire.specs.Items.{noEntry}
 use Rattle.image.specs.Layout.{version, value}
 use Rattle.replica.specs.Standing.{standing, active, entered}
 use Rattle.replica.specs.Judge.{votesNo, noSerials, serialsOf, rivalsOf}
-use Rattle.replica.specs.Steps.{Answer, silent, says, copyTo, voteTo, doneTo, wanted, copyHere, fetchImage, fetchAnswer, askImage, askAnswer, judgedAnswer, outcomeImage, outcomeAnswer}
+use Rattle.replica.specs.Steps.{Answer, silent, says, copyTo, voteTo, doneTo, wanted, copyHere, fetchImage, fetchAnswer, askImage, askAnswer, judgedAnswer}
+use Rattle.replica.specs.Steps.{outcomeImage, outcomeAnswer}
 use Rattle.replica.specs.Receive.{outcomeEarly, wrongTurn, step, Delivered}
 use Rattle.replica.proofs.Spoken.{Named, named-of, done-formed, vote-formed, copy-formed, yes-formed, wanted-fits}
 use Rattle.replica.proofs.Delivered.{entries-of}
@@ -36,7 +37,8 @@ use Rattle.history.specs.Ledger.{txOf, rootYes, firstOnly, logPut}
 use Rattle.history.proofs.Sim.{copyOfEntry, Match, Tells, Sim}
 use Rattle.history.proofs.Words.{txIn, kind-of, from-of, tx-of, word-of, entry-of, check-of}
 use Rattle.history.proofs.Encoded.{bytes-encode}
-use Rattle.history.proofs.Acts.{Acted, unmoved, fetched, voted-no, voted-yes, voted-before, late-here, dropped-early, dropped-here, applied-here, outcome-word}
+use Rattle.history.proofs.Acts.{Acted, unmoved, fetched, voted-no, voted-yes, voted-before, late-here, dropped-early, dropped-here, applied-here}
+use Rattle.history.proofs.Acts.{outcome-word}
 use Rattle.history.proofs.Answers.{done-fits, copy-fits, vote-fits, none-small, yes-fits, here-fits, bytes-entered}
 
 -- ---- what an answer tells
@@ -104,7 +106,8 @@ module _ (st : Station) (σ : State ℕ) (log : List Tx) (sim : Sim st σ log) (
   wanted-small : (e₁ .object < 64) × (e₁ .mode < 2)
   wanted-small = let f = wanted-fits (m .kind) (m .entries) (entries-of m (k .formed)) in (ltb-true _ 64 (f .0), ltb-true _ 2 (f .1))
 
-  copy-said : (τ : State ℕ) (l' : List Tx) → l' ≡ log → In (record { object = e₁ .object; version = version l (e₁ .object); value = value l (e₁ .object) }) (τ .sent)
+  copy-said : (τ : State ℕ) (l' : List Tx) → l' ≡ log → In (record { object = e₁ .object; version = version l (e₁ .object); value = value l (e₁ .object) })
+      (τ .sent)
       → Heard τ log l' x (copyTo n m (copyHere l e₁))
   unfolding copyHere
   copy-said τ l' e i =

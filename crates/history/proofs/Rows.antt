@@ -177,7 +177,8 @@ module _ (st : Station) (σ : State ℕ) (l : List Tx) (sim : Sim st σ l) (n : 
       (holders-freed (x .owner) f) (owners-on (apply n x g) (λ y. refl) (λ y. refl)) (λ y i. inl i)
 
   -- an abort taken
-  pub sim-dropped : (x : Tx) → CanDrop σ n x → SameCopies old k → OneOwner old k (x .owner) (x .serial) 0 → FreedHolders old k (x .owner) → Sim next (doDrop σ n x) l
+  pub sim-dropped : (x : Tx) → CanDrop σ n x → SameCopies old k → OneOwner old k (x .owner) (x .serial) 0 → FreedHolders old k (x .owner) → Sim next
+      (doDrop σ n x) l
   sim-dropped x g a c f = by-one st next l sim (drop n x g)
       (record { r-version = versions-same a; r-value = values-same a; r-last = serial-put _ _ _ c; r-state = state-put _ _ _ c })
       (holders-freed (x .owner) f) (owners-on (drop n x g) (λ y. refl) (λ y. refl)) (λ y i. inl i)

@@ -128,7 +128,8 @@ module _ (c : Coordinator) (m : Meets tree c) (f : Rattle.clauses.proofs.Fits.F
   outcome-fits : (me node : ℕ) → Fits (outcomeTo c me node)
   outcome-fits me node = by (eqb (c .outcome) 1)
     where
-      by : (b : Bool) → Fits (cond b (sent node me (c .serial) (c .timestamp) 5 (entriesOf c) [] (1 ∷ [])) (sent node me (c .serial) (c .timestamp) 5 [] [] (0 ∷ [])))
+      by : (b : Bool) → Fits (cond b (sent node me (c .serial) (c .timestamp) 5 (entriesOf c) [] (1 ∷ []))
+          (sent node me (c .serial) (c .timestamp) 5 [] [] (0 ∷ [])))
       by true = record { serial = serial-fits .0; stamp = serial-fits .1; entries = entries-fit; rivals = tt }
       by false = record { serial = serial-fits .0; stamp = serial-fits .1; entries = tt; rivals = tt }
 
@@ -149,7 +150,8 @@ module _ (c : Coordinator) (m : Meets tree c) (f : Rattle.clauses.proofs.Fits.F
   }
 
 -- ---- what is due
-module _ (st : Station) (L : Ledger) (F : Past) (w : World st L F) (n : ℕ) (f : Rattle.clauses.proofs.Fits.Fits (st .records n)) (to object : ℕ) (known : to < 13) where
+module _ (st : Station) (L : Ledger) (F : Past) (w : World st L F) (n : ℕ) (f : Rattle.clauses.proofs.Fits.Fits (st .records n)) (to object : ℕ)
+    (known : to < 13) where
   abbrev c : Coordinator
   c = st .records n
 
@@ -228,7 +230,8 @@ module _ (st : Station) (L : Ledger) (F : Past) (w : World st L F) (n : ℕ) (f 
       by true e g v = let one = eqb-true (c .outcome) 1 e in record {
         bytes = bytes-encode commit g v (lit< tt) (lit< tt, tt);
         no-yes = root-yes commit g;
-        tells = tells-sent _ _ _ commit g v (λ q. let z : ⊥ = omega arith in z) (λ q. let z : ⊥ = omega arith in z) (λ q. absurd (let z : ⊥ = omega arith in z))
+        tells = tells-sent _ _ _ commit g v (λ q. let z : ⊥ = omega arith in z) (λ q. let z : ⊥ = omega arith in z)
+            (λ q. absurd (let z : ⊥ = omega arith in z))
             (λ q u. (ow .when-committed p one, matched (no-party one))) (λ q u. absurd (let z : ⊥ = omega arith in z));
       }
       by false e g v = let two = mc .votes .else-aborted p (λ a. eqb-false (c .outcome) 1 e (mc .votes .agreed-commits p a)) in record {
@@ -324,7 +327,8 @@ module _ (st : Station) (L : Ledger) (F : Past) (w : World st L F) (n to object 
           present = λ i. present-on L _ i (st .records i) (st .records i) (objects-still (st .records i))
               (record { serials = refl; modes = refl; news = refl; parties = refl }) (bk .present i);
           dones = bk .dones;
-          found = found-next F st' (w .state) (w .log) sim' (w .valid .records) (bk .found .still) (bk .found .carried) (λ x t q r. inl (bk .found .had x t q r));
+          found = found-next F st' (w .state) (w .log) sim' (w .valid .records) (bk .found .still) (bk .found .carried)
+              (λ x t q r. inl (bk .found .had x t q r));
         };
       }
 
@@ -336,7 +340,8 @@ module _ (st : Station) (L : Ledger) (F : Past) (w : World st L F) (n to object 
       num = sendNumber st n to object a (not (eqb kind 0))
 
       by : (x y : Bool) → eqb num 0 ≡ x → eqb kind 0 ≡ y
-          → Next st L F w (send n to object) (cond x (cond (not y) (putting (encode a) st) (record { number = 0; answer = 0; put = none; station = st })) (refusedWith num st))
+          → Next st L F w (send n to object) (cond x (cond (not y) (putting (encode a) st) (record { number = 0; answer = 0; put = none; station = st }))
+          (refusedWith num st))
       by true false p q =
           let z = allowed (contains (st .on) n) (eqb-true num 0 p) in
           let t = due-sent st L F w n f to object (known-to (z .0)) (eqb-false kind 0 q) (well-formed (eqb kind 0) (wellFormed a) (z .1) q) in

@@ -23,7 +23,8 @@ use Rattle.replica.proofs.Taken.{Taken, taken}
 use Rattle.coordinator.specs.Calls.{noNode}
 use Rattle.coordinator.specs.Receive.{forReplica}
 use Rattle.station.specs.Station.{Station, withImage, withOn, withPool, without}
-use Rattle.station.specs.Step.{Call, delivery, drop, switch, Outcome, refusedWith, full, takenOut, answered, atReplica, atCoordinator, arriving, deliveryOf, dropOf, switchOf}
+use Rattle.station.specs.Step.{Call, delivery, drop, switch, Outcome, refusedWith, full, takenOut, answered, atReplica, atCoordinator, arriving, deliveryOf}
+use Rattle.station.specs.Step.{dropOf, switchOf}
 use Rattle.protocol.specs.Table.{In}
 use Rattle.protocol.specs.State.{Tx, fresh, committed, aborted, State}
 use Rattle.protocol.specs.Proof.Tables.{on, clash}
@@ -59,7 +60,8 @@ kind-cases l n m k P f a o = by (eqb (m .kind) 1) (eqb (m .kind) 3) (eqb (m .kin
 
 module _ (st : Station) (L : Ledger) (F : Past) (w : World st L F) where
   -- the pool has fewer messages, or others are on; nothing is put
-  pub fewer : (pool : List (List ℕ)) (up : ℕ) (L' : Ledger) → ((y : List ℕ) → In y pool → In y (st .pool)) → L' .pool ≡ pool → L' .log ≡ L .log → L' .dones ≡ L .dones
+  pub fewer : (pool : List (List ℕ)) (up : ℕ) (L' : Ledger) → ((y : List ℕ) → In y pool → In y (st .pool)) → L' .pool ≡ pool → L' .log ≡ L .log
+      → L' .dones ≡ L .dones
       → L' .puts ≡ L .puts → L' .committed ≡ L .committed → SameTold L L'
       → World (record { images = st .images; records = st .records; pool = pool; on = up }) L'
       (More F (record { images = st .images; records = st .records; pool = pool; on = up }))
@@ -79,7 +81,8 @@ module _ (st : Station) (L : Ledger) (F : Past) (w : World st L F) where
           decided = same-decided st L F w 0 d (told .modes) (told .news) (told .parties);
           present = λ i. present-on L L' i (st .records i) (st .records i) (objects-still (st .records i)) told (bk .present i);
           dones = λ z i. bk .dones z (subst (In z) c i);
-          found = found-next F st' (w .state) (w .log) sim' (w .valid .records) (bk .found .still) (bk .found .carried) (λ x t q r. inl (bk .found .had x t q r));
+          found = found-next F st' (w .state) (w .log) sim' (w .valid .records) (bk .found .still) (bk .found .carried)
+              (λ x t q r. inl (bk .found .had x t q r));
         };
       }
 
@@ -138,7 +141,8 @@ module _ (st : Station) (L : Ledger) (F : Past) (w : World st L F) (k : ℕ) (ke
           → Next st L F w (delivery k kept) (answered st k kept n (step l n m .image) ans)
       unfolding answered note
       answered-next silent a =
-          subst (λ (L' : Ledger). World (withImage (takenOut st k kept) n (step l n m .image)) L' (More F (withImage (takenOut st k kept) n (step l n m .image))))
+          subst (λ (L' : Ledger). World (withImage (takenOut st k kept) n (step l n m .image)) L'
+          (More F (withImage (takenOut st k kept) n (step l n m .image))))
           (sym (as-told none)) (silent-world st L F w n b pool sub t a)
       answered-next (says c) a = by (kept && full st)
         where
@@ -167,7 +171,8 @@ module _ (st : Station) (L : Ledger) (F : Past) (w : World st L F) (k : ℕ) (ke
         let q = cleared longest l n b z in
         let t = taken longest l n b (w .valid .messages b in-pool) z in
         let f = step-fine n l m (named-of n m (q .node) (q .formed)) (entries-of m (q .formed)) .1 in
-        subst (λ (g : Bool). Next st L F w (delivery k kept) (cond g (answered st k kept n (step l n m .image) (step l n m .answer)) (refusedWith (step l n m .number) st)))
+        subst (λ (g : Bool). Next st L F w (delivery k kept)
+        (cond g (answered st k kept n (step l n m .image) (step l n m .answer)) (refusedWith (step l n m .number) st)))
         (sym (eq-eqb (step l n m .number) 0 f)) (answered-next (q .node) t (step l n m .answer) (reply (q .node) t))
     by-refusal false e =
         subst (λ (g : Bool). Next st L F w (delivery k kept) (cond g (answered st k kept n l silent) (refusedWith (refusal longest l n b) st))) (sym e)
@@ -212,7 +217,8 @@ module _ (st : Station) (L : Ledger) (F : Past) (w : World st L F) where
   unfolding dropOf note noted
   drop-next k = by (ltb k (length (st .pool)))
     where
-      by : (x : Bool) → Next st L F w (drop k) (cond x (record { number = 0; answer = 0; put = none; station = withPool st (without k (st .pool)) }) (refusedWith 5 st))
+      by : (x : Bool) → Next st L F w (drop k) (cond x (record { number = 0; answer = 0; put = none; station = withPool st (without k (st .pool)) })
+          (refusedWith 5 st))
       by true = fewer st L F w (without k (st .pool)) (st .on) (withPut L (without k (L .pool)) none) (λ y i. in-without y k (st .pool) i)
           (ap (without k) (w .books .pool-as)) refl refl refl refl (record { serials = refl; modes = refl; news = refl; parties = refl })
       by false = refused-next st L F w (drop k) 5 (λ e. let z : ⊥ = omega arith in z)
@@ -226,4 +232,5 @@ module _ (st : Station) (L : Ledger) (F : Past) (w : World st L F) where
 
       by : (x : Bool) → Next st L F w (switch n up) (cond x (refusedWith 4 st) (record { number = 0; answer = 0; put = none; station = withOn st on' }))
       by true = refused-next st L F w (switch n up) 4 (λ e. let z : ⊥ = omega arith in z)
-      by false = fewer st L F w (st .pool) on' L (λ y i. i) (w .books .pool-as) refl refl refl refl (record { serials = refl; modes = refl; news = refl; parties = refl })
+      by false = fewer st L F w (st .pool) on' L (λ y i. i) (w .books .pool-as) refl refl refl refl
+          (record { serials = refl; modes = refl; news = refl; parties = refl })

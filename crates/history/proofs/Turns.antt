@@ -15,7 +15,8 @@ use Rattle.quorum.specs.Quorum.{isQuorum}
 use Rattle.coordinator.specs.declared.Object.{Object}
 use Rattle.coordinator.specs.declared.Coordinator.{Coordinator}
 use Rattle.coordinator.specs.System.{tree}
-use Rattle.coordinator.specs.State.{eight, idlePhase, openPhase, votingPhase, finishingPhase, placeIn, placeOf, objectAt, isOpen, ready, settled, allSettled, awaited, idleAfter}
+use Rattle.coordinator.specs.State.{eight, idlePhase, openPhase, votingPhase, finishingPhase, placeIn, placeOf, objectAt, isOpen, ready, settled, allSettled}
+use Rattle.coordinator.specs.State.{awaited, idleAfter}
 use Rattle.coordinator.specs.Calls.{withPhase, requested, endedAborted}
 use Rattle.clauses.proofs.Facts.{Meets}
 use Rattle.clauses.proofs.Places.{at, place-open, across-at}
@@ -119,7 +120,8 @@ module _ (st : Station) (L : Ledger) (F : Past) (w : World st L F) (n : ℕ) whe
     all-ready t e =
         let p = placeOf c t in
         let z = place-open (c .objects) (c .count) t (ltb-true p eight e) in
-        let a = across-at (λ i y. not (ltb i (c .count)) || settled tree y) (c .objects) (true-T _ (m .party .full (m .party .asked-for refl) .all-settled)) p (z .1 .0) in
+        let a = across-at (λ i y. not (ltb i (c .count)) || settled tree y) (c .objects)
+        (true-T _ (m .party .full (m .party .asked-for refl) .all-settled)) p (z .1 .0) in
         or-cases (ready tree (objectAt c t) ≡ true) (not (ltb p (c .count))) (settled tree (objectAt c t))
         (λ q. absurd (T-not (ltb p (c .count)) q (true-T _ (lt-ltb p (c .count) (z .0)))))
         (λ q. T-true _ (and-left (ready tree (objectAt c t)) _ q)) a
@@ -199,7 +201,8 @@ module _ (st : Station) (L : Ledger) (F : Past) (w : World st L F) (n : ℕ) whe
         (λ e. let o = touched t (isOpen c t) refl (λ r. q (ap (λ (u : Contents ℕ). u .mode t) (has y e) ∙ same-mode t ∙ r)) in
         subst (λ (u : Tx). More F (changed st n c₁ (st .pool)) u t (h₁ .contents u .found t)) (sym e)
         (inr (put-all (λ i d. (i ≡ n) → Shows d (c .serial) t (h₁ .contents x .found t)) (st .records) n c₁
-        (λ r. subst (Shows c₁ (c .serial) t) (sym (ap (λ (u : Contents ℕ). u .found t) (has x refl) ∙ ap (λ (u : Object). u .value) (same-open t .1))) (shown₁ t o))
+        (λ r. subst (Shows c₁ (c .serial) t) (sym (ap (λ (u : Contents ℕ). u .found t) (has x refl) ∙ ap (λ (u : Object). u .value) (same-open t .1)))
+        (shown₁ t o))
         (λ i r s. absurd (r s)) n refl)))
         (λ z. subst (λ (u : Contents ℕ). More F (changed st n c₁ (st .pool)) y t (u .found t)) (sym (z .2))
         (inl (w .books .found .had y t (asked-before y (z .1) a) (λ r. q (ap (λ (u : Contents ℕ). u .mode t) (z .2) ∙ r))))))
@@ -262,7 +265,8 @@ module _ (st : Station) (L : Ledger) (F : Past) (w : World st L F) (n : ℕ) whe
         undecided-yet y e q = let r : h .phase x ≡ committed = ap (h .phase) (sym e) ∙ q in
             on undecided (λ o. let f = w .sim .owners n .while-open o in clash (cc)) (λ o. let f = w .sim .owners n .while-voting o in clash (cc))
 
-    ended-told : (b : Bool) → Present L' n (cond b (idleAfter (c .serial) (c .timestamp) 2) (withPhase c finishingPhase 2 (c .participants) (c .yes) (c .done) (c .rivals)))
+    ended-told : (b : Bool) → Present L' n (cond b (idleAfter (c .serial) (c .timestamp) 2)
+        (withPhase c finishingPhase 2 (c .participants) (c .yes) (c .done) (c .rivals)))
     ended-told true = idle-told L' told (c .timestamp) 2
     ended-told false = present-on L L' n c _
         (record {
@@ -345,7 +349,15 @@ module _ (st : Station) (L : Ledger) (F : Past) (w : World st L F) (n : ℕ) whe
         (b ∙ w .books .log-as) (decided₃ d)
         (put-all (Present L') (st .records) n c₃
         (present-on L L' n c c₃
-        (record { serial = refl; phase = λ q. absurd (let z : ⊥ = omega arith in z); phase' = λ q. absurd (not-idle q); objects = refl; count = refl; participants = refl })
+        (record {
+          serial = refl;
+          phase = λ q. absurd (let z : ⊥ = omega arith in z);
+          phase' = λ q. absurd
+              (not-idle q);
+          objects = refl;
+          count = refl;
+          participants = refl;
+        })
         told (w .books .present n))
         (λ i q. others-told L' told i))
         (λ z i. w .books .dones z (subst (In z) e i))
@@ -367,7 +379,8 @@ module _ (st : Station) (L : Ledger) (F : Past) (w : World st L F) (n : ℕ) whe
 
     pub idle-world : Meets tree c₄ → ((b : List ℕ) → In b pool → In b (st .pool)) → L' .pool ≡ pool → L' .log ≡ L .log → L' .committed ≡ L .committed
         → L' .dones ≡ L .dones → L' .puts ≡ L .puts → World (changed st n c₄ pool) L' (More F (changed st n c₄ pool))
-    idle-world m sub a b d e ep = quiet st L F w n c₄ pool L' (idle-owner h (w .state .votes) (w .state .sent) n c (w .sim .owners n) (c .timestamp) (c .outcome)) m sub a b
+    idle-world m sub a b d e ep = quiet st L F w n c₄ pool L'
+        (idle-owner h (w .state .votes) (w .state .sent) n c (w .sim .owners n) (c .timestamp) (c .outcome)) m sub a b
         (same-decided st L F w n d (told .modes) (told .news) (told .parties))
         (put-all (Present L') (st .records) n c₄ (idle-told L' told (c .timestamp) (c .outcome)) (λ i q. others-told L' told i)) e ep
         (λ t v f q. absurd (decided-now q))

@@ -31,7 +31,8 @@ use Rattle.clauses.proofs.Quorums.{tree-quorums}
 use Rattle.clauses.proofs.Fits.{Fits, blank-fits, begin-fits, open-fits, set-fits, reselect-fits, request-fits, abort-fits, receive-fits}
 use Rattle.station.specs.Station.{Station, blankStation, putAt}
 use Rattle.station.specs.Step.{Call, begin, openRead, openWrite, setValue, found, reselect, requestCommit, abort, send, delivery, drop, switch}
-use Rattle.station.specs.Step.{Outcome, refusedWith, taken, putting, sendNumber, hosted, answered, atReplica, atCoordinator, arriving, deliveryOf, dropOf, switchOf, sendOf}
+use Rattle.station.specs.Step.{Outcome, refusedWith, taken, putting, sendNumber, hosted, answered, atReplica, atCoordinator, arriving, deliveryOf, dropOf}
+use Rattle.station.specs.Step.{switchOf, sendOf}
 use Rattle.protocol.specs.Table.{In}
 use Rattle.history.specs.Claims.{Typed}
 use Rattle.history.proofs.Carry.{put-all}

@@ -11,7 +11,8 @@ use Rattle.wire.specs.declared.Entry.{Entry}
 use Rattle.wire.specs.Message.{Message}
 use Rattle.wire.specs.Formed.{wellFormed}
 use Rattle.wire.specs.Encode.{encode, sizeOf, Fits}
-use Rattle.wire.specs.Decode.{kindOf, fromOf, toOf, ownerOf, serialOf, stampOf, entryCount, entriesPlace, entryAt, wordCount, wordsPlace, wordAt, itemsFrom, decode, accepted, checkOf}
+use Rattle.wire.specs.Decode.{kindOf, fromOf, toOf, ownerOf, serialOf, stampOf, entryCount, entriesPlace, entryAt, wordCount, wordsPlace, wordAt, itemsFrom}
+use Rattle.wire.specs.Decode.{decode, accepted, checkOf}
 use Rattle.wire.specs.Items.{noEntry, entryOf, wordOf}
 use Rattle.wire.proofs.RoundTrip.{decode-encode}
 use Rattle.wire.proofs.Theorems.{encoded-checked, accepted-of-check}
