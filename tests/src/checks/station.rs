@@ -1,0 +1,139 @@
+//! The model's own station: random scenarios, with demand 3 checked on each, and faults that this check must notice.
+
+mod scenario;
+mod seen;
+
+use crate::model::history::{History, Order};
+use crate::model::quorum::ALL;
+use crate::model::station::{blank, Station, Step};
+use crate::model::{image, number, record, Fault};
+use crate::random::Random;
+use crate::runner::{ensure, Runner, Verdict};
+use scenario::{closing_step, next_step, some_style};
+use seen::{Case, Seen};
+
+pub fn run(runner: &mut Runner) {
+    runner.check("station model: scenarios", scenarios);
+    for (name, fault) in FAULTS {
+        runner.check(&format!("station model: demand 3 notices {name}"), |random, _| noticed(random, *fault));
+    }
+    runner.check("station model: demand 3 notices the order of decisions", decision_order);
+}
+
+/// The faults that demand 3 must notice.
+const FAULTS: &[(&str, Fault)] = &[
+    ("a replica that ignores the holder", Fault::IgnoresHolder),
+    ("a replica that ignores the version", Fault::IgnoresVersion),
+    ("a commit by a majority", Fault::CommitsByMajority),
+    ("a late copy that changes what was found", Fault::TakesLateCopies),
+];
+
+/// One scenario under way.
+struct Run<'a> {
+    station: Station,
+    history: History,
+    fault: Fault,
+    seen: &'a mut Seen,
+}
+
+impl Run<'_> {
+    fn new(on: u16, fault: Fault, seen: &mut Seen) -> Run<'_> {
+        seen.start();
+        Run { station: blank(on), history: History::new(on), fault, seen }
+    }
+
+    /// One step, counted and fed to the history.
+    fn take(&mut self, step: Step) -> Result<(), String> {
+        let waiting = self.station.pool.len();
+        let before = self.station.clone();
+        let event = self.station.step(step, self.fault);
+        self.seen.count(&before, &event);
+        self.seen.count_more(&before, &event, &self.station);
+        if let (Step::Deliver { at, .. }, Err(number), Fault::None) = (&event.step, &event.told, self.fault) {
+            let known = *number == number::POOL_FULL || (*number == number::OUT_OF_TURN && *at >= waiting);
+            ensure!(known, "a delivery of {:?} gave {number}", before.pool[*at]);
+        }
+        ensure!(event.told.is_ok() || self.station == before, "{event:?} was refused and changed something");
+        self.history.feed(&event, &self.station)
+    }
+
+    /// All that is stored is valid, as bytes too.
+    fn stored(&self) -> Result<(), String> {
+        for node in 0..13 {
+            let (stored, kept) = (&self.station.records[node], &self.station.images[node]);
+            ensure!(record::load(&record::encode(stored)).as_ref() == Ok(stored), "{stored:?} breaks {:?}", record::broken(stored));
+            ensure!(image::valid(kept), "the image of node {node} breaks {:?}", image::broken(kept));
+        }
+        Ok(())
+    }
+
+    /// Steps until every coordinator is idle and no message waits.
+    fn close(&mut self, random: &mut Random) -> Result<(), String> {
+        for _ in 0..20_000 {
+            match closing_step(random, &self.station) {
+                Some(step) => self.take(step)?,
+                None => return Ok(()),
+            }
+        }
+        Err(String::from("the station does not come to rest"))
+    }
+}
+
+/// One scenario of so many steps, then on to rest, with demand 3 checked now and then and at the end.
+fn one_scenario(random: &mut Random, fault: Fault, steps: usize, order: Order, seen: &mut Seen) -> Result<(), String> {
+    let style = some_style(random);
+    let on = if random.once_in(4) { random.word() & ALL } else { ALL };
+    let mut run = Run::new(on, fault, seen);
+    for at in 0..steps {
+        let step = next_step(random, &run.station, &style);
+        run.take(step)?;
+        if at % 100 == 0 {
+            run.history.check(&run.station, order)?;
+        }
+        if at % 25 == 0 && fault == Fault::None {
+            run.stored()?;
+        }
+    }
+    run.close(random)?;
+    run.history.check(&run.station, order)?;
+    if fault == Fault::None {
+        ensure!(run.station.at_rest() && run.history.settled(), "the station is at rest, but not settled");
+    }
+    Ok(())
+}
+
+/// Heavy conflict, repeats, losses, switches, aborts and fresh looks: demand 3 holds after all of them.
+fn scenarios(random: &mut Random, rounds: usize) -> Verdict {
+    let mut seen = Seen::default();
+    for _ in 0..200 * rounds {
+        one_scenario(random, Fault::None, 2000, Order::Log, &mut seen)?;
+    }
+    let (case, least) = seen.rarest();
+    let counted = format!("{}; the rarest ({case}) {least} times", seen.words());
+    ensure!(least > 20 * rounds && seen.of(Case::Committed) > 1000 * rounds, "too poor: {counted}");
+    Ok(counted)
+}
+
+/// The check of demand 3 ends some scenario of a model with this fault.
+fn noticed(random: &mut Random, fault: Fault) -> Verdict {
+    let mut seen = Seen::default();
+    for scenario in 1..=400 {
+        if let Err(wrong) = one_scenario(random, fault, 2000, Order::Log, &mut seen) {
+            ensure!(wrong.starts_with('('), "another thing than demand 3 ended it: {wrong}");
+            return Ok(format!("in scenario {scenario}, after {} commits: {wrong}", seen.of(Case::Committed)));
+        }
+    }
+    Err(format!("never noticed in {} steps", seen.steps()))
+}
+
+/// With the order of decisions in place of node 0's first yes, replay gives another value somewhere.
+fn decision_order(random: &mut Random, _: usize) -> Verdict {
+    let mut seen = Seen::default();
+    for scenario in 1..=400 {
+        if let Err(wrong) = one_scenario(random, Fault::None, 2000, Order::Decisions, &mut seen) {
+            ensure!(wrong.starts_with("(a)"), "another thing than (a) ended it: {wrong}");
+            return Ok(format!("in scenario {scenario}, after {} commits: {wrong}", seen.of(Case::Committed)));
+        }
+    }
+    Err(format!("never noticed in {} steps", seen.steps()))
+}
