@@ -1,15 +1,15 @@
 //! Random scenarios (document 01: stories): which step comes next, from what the station is in and how rough the scenario is.
 
 use crate::checks::message::records::some_byte;
-use crate::model::coordinator::{known_rivals, Call};
-use crate::model::message::{kind, WRITE};
+use crate::model::coordinator::{due, known_rivals, Call};
+use crate::model::message::{kind, Message, WRITE};
 use crate::model::quorum::{nodes, ALL, NODES};
 use crate::model::record::{phase, Record};
 use crate::model::station::{Station, Step, POOL};
 use crate::model::OBJECTS;
 use crate::random::Random;
 
-/// How rough a scenario is. Each of the last ones happens once in so many times.
+/// How rough a scenario is. Each of the fields after those of `slow` happens once in so many times.
 pub struct Style {
     /// The nodes that begin transactions.
     pub owners: Vec<u8>,
@@ -18,12 +18,15 @@ pub struct Style {
     pub most: usize,
     /// With more messages waiting than this, one is delivered rather than sent.
     pub calm: usize,
-    /// Messages of this kind and this owner's transactions are slow: another is delivered first, most often.
-    pub slow: (u8, u8),
+    /// Messages of this kind that belong to these owners' transactions are slow: others are delivered first, most often.
+    pub slow: u8,
+    pub slow_owners: Vec<u8>,
     /// A message that has waited long is delivered, rather than one of the newest.
     pub old: usize,
     /// A transaction that could ask for votes does so.
     pub ask: usize,
+    /// What waits already is sent again.
+    pub again: usize,
     pub keep: usize,
     pub lose: usize,
     pub switch: usize,
@@ -40,21 +43,41 @@ pub fn some_style(random: &mut Random) -> Style {
     while owners.len() > count {
         owners.remove(random.below(owners.len()));
     }
+    // A gentle scenario has none of the frequent ones.
+    let gentle = usize::from(random.once_in(2));
     Style {
-        slow: (*random.pick(&[kind::COPY, kind::VOTE, kind::VOTE, kind::OUTCOME, kind::DONE, kind::YIELD]), *random.pick(&owners)),
+        slow: *random.pick(&[kind::COPY, kind::VOTE, kind::VOTE, kind::OUTCOME, kind::DONE, kind::YIELD]),
+        slow_owners: if random.once_in(3) { owners.clone() } else { vec![owners[0]] },
         owners,
         objects: *random.pick(&[1, 2, 2, 3, 5, 9, 64]),
         most: *random.pick(&[1, 2, 2, 3, 8, 9]),
-        calm: *random.pick(&[4, 12, 30, 30, 60, 60, 126, 400]),
-        old: *random.pick(&[1, 4, 20, 20, 60]),
+        calm: *random.pick(&[4, 12, 30, 60, 126, 400][..4 + 2 * (1 - gentle)]),
+        old: *random.pick(&[1, 4, 20, 60]),
         ask: *random.pick(&[1, 1, 4, 20]),
-        keep: *random.pick(&[2, 5, 20, 200, 200]),
-        lose: *random.pick(&[15, 60, 400, 400]),
-        switch: *random.pick(&[40, 400, 2000, 2000]),
-        abort: *random.pick(&[10, 60, 300, 300]),
-        reselect: *random.pick(&[6, 30, 200]),
+        again: *random.pick(&[2, 10, 40]),
+        keep: *random.pick(&[2, 5, 20, 200][gentle..]),
+        lose: *random.pick(&[15, 60, 400][gentle..]),
+        switch: *random.pick(&[40, 400, 2000][gentle..]),
+        abort: *random.pick(&[10, 60, 300][gentle..]),
+        reselect: *random.pick(&[6, 30, 200][gentle..]),
         write: *random.pick(&[1, 2, 2, 3]),
-        wild: *random.pick(&[20, 60, 100]),
+        wild: *random.pick(&[20, 60, 200][gentle..]),
+    }
+}
+
+impl Style {
+    /// Transactions stay open for long, fetches are repeated, and yields are slow.
+    pub fn lingering(mut self) -> Style {
+        (self.ask, self.keep, self.again, self.old) = (12, 2, 2, 1);
+        (self.slow, self.slow_owners) = (kind::YIELD, self.owners.clone());
+        self
+    }
+
+    /// Votes to one owner are slow.
+    pub fn slow_votes(mut self) -> Style {
+        (self.objects, self.most, self.keep, self.calm) = (2, 2, 20, 60);
+        (self.slow, self.slow_owners) = (kind::VOTE, vec![self.owners[0]]);
+        self
     }
 }
 
@@ -171,21 +194,17 @@ fn wild_step(random: &mut Random, station: &Station, style: &Style) -> Step {
     }
 }
 
-/// Which waiting message is delivered: one of the newest, or any, and seldom a slow one.
-fn some_place(random: &mut Random, station: &Station, style: &Style) -> usize {
-    let waiting = station.pool.len();
-    let place = |random: &mut Random| match random.once_in(style.old) {
-        true => random.below(waiting),
-        false => waiting - 1 - random.below(waiting.min(3)),
-    };
-    for _ in 0..6 {
-        let at = place(random);
-        let message = &station.pool[at];
-        if (message.kind, message.transaction.owner) != style.slow || random.once_in(20) {
-            return at;
-        }
+/// Which waiting message is delivered: one of the newest, or any; a slow one seldom, unless `must`. None where none should be.
+fn some_place(random: &mut Random, station: &Station, style: &Style, must: bool) -> Option<usize> {
+    let slow = |message: &Message| message.kind == style.slow && style.slow_owners.contains(&message.transaction.owner);
+    let quick = |at: &usize| !slow(&station.pool[*at]);
+    let all = 0..station.pool.len();
+    let places: Vec<usize> = if random.once_in(40) { all.collect() } else { all.filter(quick).collect() };
+    let waiting = places.len();
+    if waiting == 0 {
+        return must.then(|| random.below(station.pool.len()));
     }
-    random.below(waiting)
+    Some(if random.once_in(style.old) { *random.pick(&places) } else { places[waiting - 1 - random.below(waiting.min(3))] })
 }
 
 /// The next step of a scenario.
@@ -201,14 +220,22 @@ pub fn next_step(random: &mut Random, station: &Station, style: &Style) -> Step 
     if waiting > 0 && random.once_in(style.lose) {
         return Step::Drop { at: random.below(waiting) };
     }
-    if waiting > 0 && (waiting > style.calm || random.below(5) < 3 && style.calm < POOL) {
-        let kept = random.once_in(style.keep) && (waiting <= style.calm || random.once_in(4));
-        return Step::Deliver { at: some_place(random, station, style), kept };
+    let step = owner_step(random, station, style);
+    let crowded = waiting > style.calm;
+    let often = random.below(5) < if style.calm < POOL { 3 } else { 1 };
+    if waiting > 0 && (crowded || often || (waits(station, &step) && !random.once_in(style.again))) {
+        let kept = random.once_in(style.keep) && (!crowded || random.once_in(4));
+        if let Some(at) = some_place(random, station, style, crowded) {
+            return Step::Deliver { at, kept };
+        }
     }
-    if waiting > 0 && random.once_in(3) {
-        return Step::Deliver { at: some_place(random, station, style), kept: random.once_in(style.keep) };
-    }
-    owner_step(random, station, style)
+    step
+}
+
+/// Whether a step would send what waits already.
+fn waits(station: &Station, step: &Step) -> bool {
+    let Step::Send { node, to, object } = *step else { return false };
+    due(&station.records[usize::from(node)], node, to, object).is_some_and(|message| station.pool.contains(&message))
 }
 
 /// The next step towards rest, with all nodes on: open transactions are given up, what is due is sent, what waits is delivered.
