@@ -3,9 +3,12 @@
 mod scenario;
 mod seen;
 
+use crate::model::coordinator::{due_call, host_call, receive_call, Left};
 use crate::model::history::{History, Order};
+use crate::model::message::{self, LONGEST};
 use crate::model::quorum::ALL;
-use crate::model::station::{blank, Station, Step};
+use crate::model::record::RECORD;
+use crate::model::station::{blank, for_replica, Event, Station, Step, Told, POOL};
 use crate::model::{image, number, record, Fault};
 use crate::random::Random;
 use crate::runner::{ensure, Runner, Verdict};
@@ -62,14 +65,43 @@ impl Run<'_> {
             ensure!(known, "a delivery of {:?} gave {number}", before.pool[*at]);
         }
         ensure!(event.told.is_ok() || self.station == before, "{event:?} was refused and changed something");
+        if self.seen.steps() % 16 == 0 {
+            self.as_bytes(&before, &event)?;
+        }
         self.history.feed(&event, &self.station)
+    }
+
+    /// A step at a coordinator that is on is the same as the call on its record's bytes.
+    fn as_bytes(&self, before: &Station, event: &Event) -> Result<(), String> {
+        let bytes = |station: &Station, node: u8| record::encode(&station.records[usize::from(node)]);
+        let left = |told: &Told, node: u8| Left { answer: told.answer, record: bytes(&self.station, node) };
+        let same = match event.step {
+            Step::Host { node, ref call } if node < 13 && before.is_on(node) => {
+                host_call(&bytes(before, node), node, call) == event.told.as_ref().map(|told| left(told, node)).map_err(|number| *number)
+            }
+            Step::Send { node, to, object } if node < 13 && before.is_on(node) && before.pool.len() < POOL => {
+                let put = event.told.as_ref().map(|told| told.put.as_ref().map(message::encode).unwrap_or_default());
+                due_call(&bytes(before, node), node, to, object, LONGEST) == put.map_err(|number| *number)
+            }
+            Step::Deliver { at, .. } => match (before.pool.get(at), &event.told, self.fault) {
+                (Some(message), Ok(told), Fault::None) if !for_replica(message) && before.is_on(message.to) => {
+                    receive_call(&bytes(before, message.to), message.to, &message::encode(message)) == Ok(left(told, message.to))
+                }
+                _ => true,
+            },
+            _ => true,
+        };
+        ensure!(same, "{event:?} is another on the record's bytes");
+        Ok(())
     }
 
     /// All that is stored is valid, as bytes too.
     fn stored(&self) -> Result<(), String> {
         for node in 0..13 {
             let (stored, kept) = (&self.station.records[node], &self.station.images[node]);
-            ensure!(record::load(&record::encode(stored)).as_ref() == Ok(stored), "{stored:?} breaks {:?}", record::broken(stored));
+            let bytes = record::encode(stored);
+            ensure!(record::check_call(&bytes) == number::OK, "{stored:?} breaks {:?}", record::broken(stored));
+            ensure!(record::decode(&bytes).as_ref() == Some(stored), "{stored:?} has other bytes");
             ensure!(image::valid(kept), "the image of node {node} breaks {:?}", image::broken(kept));
         }
         Ok(())
@@ -91,6 +123,8 @@ impl Run<'_> {
 fn one_scenario(random: &mut Random, style: &Style, fault: Fault, order: Order, seen: &mut Seen) -> Result<(), String> {
     let on = if random.once_in(4) { random.word() & ALL } else { ALL };
     let mut run = Run::new(on, fault, seen);
+    let blank_bytes = record::blank_call(RECORD);
+    ensure!(run.station.records.iter().all(|it| Ok(record::encode(it)) == blank_bytes), "a blank station's record is not blank");
     for at in 0..2000 {
         let step = next_step(random, &run.station, style);
         run.take(step)?;

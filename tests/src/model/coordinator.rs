@@ -5,18 +5,16 @@ use super::quorum::{distances_of, inside, nearest, nodes, only, Kind, ALL, DISTA
 use super::record::{self, decided, phase, Opened, Record, RECORD};
 use super::{number, Fault};
 
-/// A call of the host. Distances are bytes, as they are lent.
+/// A call of the host. Distances are bytes, as they are lent. Document 01 has for the last three: "a fresh live mask and distances may be
+/// given", asking for votes, giving up.
 #[derive(Clone, Debug, PartialEq, Eq)]
 pub enum Call {
     Begin { live: u16, distances: Vec<u8>, timestamp: u32 },
     Open { object: u8, mode: u8 },
     SetValue { object: u8, value: i64 },
     Found { object: u8 },
-    /// Document 01: "a fresh live mask and distances".
     Reselect { live: u16, distances: Vec<u8> },
-    /// Document 01: asking for votes.
     RequestCommit,
-    /// Document 01: giving up.
     Abort,
 }
 

@@ -171,7 +171,7 @@ impl History {
         story.lost |= message.kind == kind::VOTE && takes_part && message.words != [YES];
         story.lost |= message.kind == kind::YIELD && message.rivals[0].serial == name.serial;
         let says = told.answer == Brought::Committed as i64;
-        ensure!(commits == says, "(committed) {name:?}: {message:?} brought about {}, participants {:?}", told.answer, self.stories[&name].participants);
+        ensure!(commits == says, "(committed) {name:?}: {message:?} was answered with {}", told.answer);
         if says {
             self.commit(name);
         }

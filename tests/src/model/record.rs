@@ -203,7 +203,9 @@ impl Clause {
             Clause::Unused => !unused || (record.phase == phase::IDLE && record.outcome == decided::NONE),
             Clause::Objects => each(|opened| usize::from(opened.object) < OBJECTS),
             Clause::Modes => each(|opened| opened.mode <= 1),
-            Clause::Once => record.objects().iter().all(|one| record.objects().iter().filter(|other| other.object == one.object).count() == 1),
+            Clause::Once => {
+                record.objects().iter().all(|one| record.objects().iter().filter(|other| other.object == one.object).count() == 1)
+            }
             Clause::CameContacted => record.objects().iter().all(|opened| inside(opened.came, record.contacted)),
             Clause::FoundCame => each(|opened| opened.came != 0 || (opened.version == 0 && opened.value == 0)),
             Clause::GivenByte => each(|opened| opened.given <= 1),
