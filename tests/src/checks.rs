@@ -5,3 +5,4 @@ pub mod message;
 pub mod program;
 pub mod quorum;
 pub mod replica;
+pub mod station;

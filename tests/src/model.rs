@@ -3,11 +3,15 @@
 //! A module for each part of the rules. Speed does not matter here; a reader compares each function with a sentence.
 
 mod bytes;
+pub mod coordinator;
+pub mod history;
 pub mod image;
 pub mod message;
 pub mod program;
 pub mod quorum;
+pub mod record;
 pub mod replica;
+pub mod station;
 
 /// Objects (document 01: tallies) are 0 to 63.
 pub const OBJECTS: usize = 64;
@@ -20,5 +24,25 @@ pub mod number {
     pub const GARBLED: u8 = 3;
     pub const STRANGER: u8 = 4;
     pub const OUT_OF_TURN: u8 = 5;
+    pub const NO_SUCH_OBJECT: u8 = 6;
+    pub const EIGHT_OPEN: u8 = 7;
     pub const NO_QUORUM: u8 = 8;
+    pub const USED_UP: u8 = 9;
+    pub const BUSY: u8 = 10;
+    pub const NOT_READY: u8 = 11;
+    pub const POOL_FULL: u8 = 12;
+}
+
+/// A rule broken on purpose, to see that the check of demand 3 notices. The model itself has none.
+#[derive(Clone, Copy, Debug, PartialEq, Eq)]
+pub enum Fault {
+    None,
+    /// A replica's vote does not mind that another holds an object.
+    IgnoresHolder,
+    /// A replica's vote does not mind that a copy here has a higher version.
+    IgnoresVersion,
+    /// A coordinator commits with more than half of the participants' yes.
+    CommitsByMajority,
+    /// A coordinator lets a copy change what was found for an object that is ready.
+    TakesLateCopies,
 }

@@ -2,8 +2,8 @@
 
 use super::image::{self, state, Image, IMAGE, NOBODY};
 use super::message::{self, kind, Entry, Message, Rival, Transaction, COMMIT, LONGEST, NO, READ, SHORTEST, WRITE, YES};
-use super::number;
 use super::quorum::{nodes, only, NODES};
+use super::{number, Fault};
 
 /// How a message's transaction stands to the last one of its owner.
 #[derive(Clone, Copy, Debug, PartialEq, Eq, PartialOrd, Ord)]
@@ -123,7 +123,7 @@ fn fetch(image: &mut Image, me: u8, message: &Message) -> Result<Option<Message>
 
 /// "Held answers yes and refused answers no again, both naming no rivals. Listed is judged." A yes "names the rivals and holds the written
 /// copies. Either way the owner leaves all lists."
-fn ask(image: &mut Image, me: u8, message: &Message) -> Result<Option<Message>, u8> {
+fn ask(image: &mut Image, me: u8, message: &Message, fault: Fault) -> Result<Option<Message>, u8> {
     let transaction = message.transaction;
     let owner = transaction.owner;
     match Standing::of(image, transaction) {
@@ -133,7 +133,9 @@ fn ask(image: &mut Image, me: u8, message: &Message) -> Result<Option<Message>, 
         Standing::Refused => return Ok(Some(message::vote(me, transaction, vec![], NO))),
         Standing::Fresh | Standing::Listed => enter(image, transaction),
     }
-    let judgement = judge(image, message);
+    let mut judgement = judge(image, message);
+    judgement.held &= fault != Fault::IgnoresHolder;
+    judgement.newer &= fault != Fault::IgnoresVersion;
     unlist(image, owner);
     if judgement.no() {
         image.owners[usize::from(owner)].state = state::REFUSED;
@@ -176,13 +178,13 @@ fn outcome(image: &mut Image, me: u8, message: &Message) -> Result<Option<Messag
 }
 
 /// A message that is well formed at the replica of node `me`: 4, then 5, else the answer. A refused one may leave a half-changed image.
-fn deliver(image: &mut Image, me: u8, message: &Message) -> Result<Option<Message>, u8> {
+pub fn deliver(image: &mut Image, me: u8, message: &Message, fault: Fault) -> Result<Option<Message>, u8> {
     if usize::from(me) >= NODES || message.to != me {
         return Err(number::STRANGER);
     }
     match message.kind {
         kind::FETCH => fetch(image, me, message),
-        kind::ASK => ask(image, me, message),
+        kind::ASK => ask(image, me, message, fault),
         kind::OUTCOME => outcome(image, me, message),
         // "So is a kind meant for the other end, at either end."
         _ => Err(number::OUT_OF_TURN),
@@ -203,7 +205,7 @@ pub fn receive_call(image: &[u8], me: u8, message: &[u8], size: usize) -> Result
     }
     let mut image = image::load(image)?;
     let message = message::receive(message)?;
-    let answer = deliver(&mut image, me, &message)?;
+    let answer = deliver(&mut image, me, &message, Fault::None)?;
     let answer = answer.as_ref().map(message::encode).unwrap_or_default();
     Ok(Delivered { image: image::encode(&image), answer })
 }

@@ -1,0 +1,257 @@
+//! Random scenarios (document 01: stories): which step comes next, from what the station is in and how rough the scenario is.
+
+use crate::checks::message::records::some_byte;
+use crate::model::coordinator::{due, known_rivals, Call};
+use crate::model::message::{kind, Message, WRITE};
+use crate::model::quorum::{nodes, ALL, NODES};
+use crate::model::record::{phase, Record};
+use crate::model::station::{Station, Step, POOL};
+use crate::model::OBJECTS;
+use crate::random::Random;
+
+/// How rough a scenario is. Each of the fields after those of `slow` happens once in so many times.
+pub struct Style {
+    /// The nodes that begin transactions.
+    pub owners: Vec<u8>,
+    /// Objects 0 and up to here are wanted, each transaction at most `most`.
+    pub objects: usize,
+    pub most: usize,
+    /// With more messages waiting than this, one is delivered rather than sent.
+    pub calm: usize,
+    /// Messages of this kind that belong to these owners' transactions are slow: others are delivered first, most often.
+    pub slow: u8,
+    pub slow_owners: Vec<u8>,
+    /// A message that has waited long is delivered, rather than one of the newest.
+    pub old: usize,
+    /// A transaction that could ask for votes does so.
+    pub ask: usize,
+    /// What waits already is sent again.
+    pub again: usize,
+    pub keep: usize,
+    pub lose: usize,
+    pub switch: usize,
+    pub abort: usize,
+    pub reselect: usize,
+    pub write: usize,
+    pub wild: usize,
+}
+
+/// A style; what is wanted is few or many, and what goes wrong rare or frequent, independently of each other.
+pub fn some_style(random: &mut Random) -> Style {
+    let count = *random.pick(&[2, 3, 3, 4, 6, 13]);
+    let mut owners: Vec<u8> = (0..NODES as u8).collect();
+    while owners.len() > count {
+        owners.remove(random.below(owners.len()));
+    }
+    // A gentle scenario has none of the frequent ones.
+    let gentle = usize::from(random.once_in(2));
+    Style {
+        slow: *random.pick(&[kind::COPY, kind::VOTE, kind::VOTE, kind::OUTCOME, kind::DONE, kind::YIELD]),
+        slow_owners: if random.once_in(3) { owners.clone() } else { vec![owners[0]] },
+        owners,
+        objects: *random.pick(&[1, 2, 2, 3, 5, 9, 64]),
+        most: *random.pick(&[1, 2, 2, 3, 8, 9]),
+        calm: *random.pick(&[4, 12, 30, 60, 126, 400][..4 + 2 * (1 - gentle)]),
+        old: *random.pick(&[1, 4, 20, 60]),
+        ask: *random.pick(&[1, 1, 4, 20]),
+        again: *random.pick(&[2, 10, 40]),
+        keep: *random.pick(&[2, 5, 20, 200][gentle..]),
+        lose: *random.pick(&[15, 60, 400][gentle..]),
+        switch: *random.pick(&[40, 400, 2000][gentle..]),
+        abort: *random.pick(&[10, 60, 300][gentle..]),
+        reselect: *random.pick(&[6, 30, 200][gentle..]),
+        write: *random.pick(&[1, 2, 2, 3]),
+        wild: *random.pick(&[20, 60, 200][gentle..]),
+    }
+}
+
+impl Style {
+    /// Transactions stay open for long, fetches are repeated, and yields are slow.
+    pub fn lingering(mut self) -> Style {
+        (self.ask, self.keep, self.again, self.old) = (12, 2, 2, 1);
+        (self.slow, self.slow_owners) = (kind::YIELD, self.owners.clone());
+        self
+    }
+
+    /// Votes to one owner are slow.
+    pub fn slow_votes(mut self) -> Style {
+        (self.objects, self.most, self.keep, self.calm) = (2, 2, 20, 60);
+        (self.slow, self.slow_owners) = (kind::VOTE, vec![self.owners[0]]);
+        self
+    }
+}
+
+/// Any mask of nodes: those that are on most often, or one with few nodes, or with more than there are.
+fn some_live(random: &mut Random, station: &Station) -> u16 {
+    match random.below(20) {
+        0 => random.word() & ALL,
+        1 => random.word() & random.word() & ALL,
+        2..=6 => ALL,
+        _ => station.on,
+    }
+}
+
+/// Thirteen distances: all the same, few different ones, or any.
+pub fn some_distances(random: &mut Random) -> Vec<u8> {
+    let limit = *random.pick(&[1, 3, 20, 65_536]);
+    (0..NODES).flat_map(|_| (random.below(limit) as u16).to_le_bytes()).collect()
+}
+
+fn one_of(random: &mut Random, mask: u16) -> u8 {
+    let list: Vec<usize> = nodes(mask).collect();
+    if list.is_empty() {
+        random.below(NODES) as u8
+    } else {
+        *random.pick(&list) as u8
+    }
+}
+
+/// What the host of an open transaction does next.
+fn while_open(random: &mut Random, station: &Station, style: &Style, node: u8) -> Step {
+    let record = &station.records[usize::from(node)];
+    let host = |call| Step::Host { node, call };
+    let object = random.below(style.objects) as u8;
+    let known = if record.count == 0 { object } else { random.pick(record.objects()).object };
+    if random.once_in(style.abort * 2) {
+        return host(Call::Abort);
+    }
+    if random.once_in(style.reselect) {
+        return host(Call::Reselect { live: some_live(random, station), distances: some_distances(random) });
+    }
+    if record.count == 0 || (usize::from(record.count) < style.most && random.once_in(4)) {
+        return host(Call::Open { object, mode: u8::from(random.once_in(style.write)) });
+    }
+    let unset = record.objects().iter().find(|opened| opened.mode == WRITE && opened.given == 0);
+    if let (Some(opened), true) = (unset, random.once_in(3)) {
+        return host(Call::SetValue { object: opened.object, value: random.next() as i64 });
+    }
+    if record.objects().iter().all(|opened| opened.settled()) {
+        return host(match random.below(8) {
+            0 => Call::SetValue { object: known, value: random.next() as i64 },
+            1 | 2 => Call::Found { object: known },
+            _ if random.once_in(style.ask) => Call::RequestCommit,
+            _ => Call::Found { object: known },
+        });
+    }
+    let unready = record.objects().iter().find(|opened| !opened.ready());
+    let (object, came) = unready.map_or((known, 0), |opened| (opened.object, opened.came));
+    let missing = if random.once_in(6) { record.quorum } else { record.quorum & !came };
+    Step::Send { node, to: one_of(random, missing), object }
+}
+
+/// A rival's owner, or a node that is still awaited.
+fn while_finishing(random: &mut Random, record: &Record) -> u8 {
+    let rivals: Vec<usize> = known_rivals(record).collect();
+    if !rivals.is_empty() && random.once_in(3) {
+        return *random.pick(&rivals) as u8;
+    }
+    one_of(random, record.awaited() & !record.done)
+}
+
+/// What an owner does next: a host call, or a send of what is due.
+fn owner_step(random: &mut Random, station: &Station, style: &Style) -> Step {
+    let node = *random.pick(&style.owners);
+    let record = &station.records[usize::from(node)];
+    match record.phase {
+        phase::IDLE => {
+            let timestamp = record.timestamp + 1 + random.below(4) as u32;
+            let (live, distances) = (some_live(random, station), some_distances(random));
+            Step::Host { node, call: Call::Begin { live, distances, timestamp } }
+        }
+        phase::OPEN => while_open(random, station, style, node),
+        phase::VOTING if random.once_in(style.abort * 4) => Step::Host { node, call: Call::Abort },
+        phase::VOTING => Step::Send { node, to: one_of(random, record.participants & !record.yes), object: 0 },
+        _ => Step::Send { node, to: while_finishing(random, record), object: 0 },
+    }
+}
+
+/// A host call with any arguments, fitting or not.
+fn wild_call(random: &mut Random, object: u8) -> Call {
+    match random.below(8) {
+        0 => Call::Begin { live: random.word(), distances: some_distances(random), timestamp: random.below(40) as u32 },
+        1 => Call::Begin { live: random.word() & ALL, distances: some_distances(random), timestamp: random.below(900) as u32 },
+        2 => Call::Open { object, mode: random.below(2) as u8 },
+        3 => Call::SetValue { object, value: random.next() as i64 },
+        4 => Call::Found { object },
+        5 => Call::Reselect { live: random.word(), distances: some_distances(random) },
+        6 => Call::Reselect { live: random.word() & random.word() & ALL, distances: some_distances(random) },
+        _ => Call::RequestCommit,
+    }
+}
+
+/// A step with any arguments.
+fn wild_step(random: &mut Random, station: &Station, style: &Style) -> Step {
+    let stranger = if random.once_in(8) { some_byte(random) } else { random.below(NODES) as u8 };
+    let node = *random.pick(&[stranger, style.owners[0]]);
+    let object = if random.once_in(6) { some_byte(random) } else { random.below(style.objects.min(OBJECTS)) as u8 };
+    let at = random.below(station.pool.len() + 2);
+    match random.below(12) {
+        0..=4 => Step::Host { node, call: wild_call(random, object) },
+        5..=8 => Step::Send { node, to: if random.once_in(8) { some_byte(random) } else { random.below(NODES) as u8 }, object },
+        9 => Step::Deliver { at, kept: random.once_in(2) },
+        10 => Step::Drop { at },
+        _ => Step::Switch { node: stranger, on: random.once_in(2) },
+    }
+}
+
+/// Which waiting message is delivered: one of the newest, or any; a slow one seldom, unless `must`. None where none should be.
+fn some_place(random: &mut Random, station: &Station, style: &Style, must: bool) -> Option<usize> {
+    let slow = |message: &Message| message.kind == style.slow && style.slow_owners.contains(&message.transaction.owner);
+    let quick = |at: &usize| !slow(&station.pool[*at]);
+    let all = 0..station.pool.len();
+    let places: Vec<usize> = if random.once_in(40) { all.collect() } else { all.filter(quick).collect() };
+    let waiting = places.len();
+    if waiting == 0 {
+        return must.then(|| random.below(station.pool.len()));
+    }
+    Some(if random.once_in(style.old) { *random.pick(&places) } else { places[waiting - 1 - random.below(waiting.min(3))] })
+}
+
+/// The next step of a scenario.
+pub fn next_step(random: &mut Random, station: &Station, style: &Style) -> Step {
+    let waiting = station.pool.len();
+    if random.once_in(style.wild) {
+        return wild_step(random, station, style);
+    }
+    if random.once_in(style.switch) || (station.on != ALL && random.once_in(12)) {
+        let node = if random.once_in(3) { random.below(NODES) as u8 } else { one_of(random, ALL & !station.on) };
+        return Step::Switch { node, on: !station.is_on(node) };
+    }
+    if waiting > 0 && random.once_in(style.lose) {
+        return Step::Drop { at: random.below(waiting) };
+    }
+    let step = owner_step(random, station, style);
+    let crowded = waiting > style.calm;
+    let often = random.below(5) < if style.calm < POOL { 3 } else { 1 };
+    if waiting > 0 && (crowded || often || (waits(station, &step) && !random.once_in(style.again))) {
+        let kept = random.once_in(style.keep) && (!crowded || random.once_in(4));
+        if let Some(at) = some_place(random, station, style, crowded) {
+            return Step::Deliver { at, kept };
+        }
+    }
+    step
+}
+
+/// Whether a step would send what waits already.
+fn waits(station: &Station, step: &Step) -> bool {
+    let Step::Send { node, to, object } = *step else { return false };
+    due(&station.records[usize::from(node)], node, to, object).is_some_and(|message| station.pool.contains(&message))
+}
+
+/// The next step towards rest, with all nodes on: open transactions are given up, what is due is sent, what waits is delivered.
+pub fn closing_step(random: &mut Random, station: &Station) -> Option<Step> {
+    if station.on != ALL {
+        return Some(Step::Switch { node: one_of(random, ALL & !station.on), on: true });
+    }
+    if !station.pool.is_empty() {
+        return Some(Step::Deliver { at: random.below(station.pool.len()), kept: false });
+    }
+    let busy: Vec<usize> = (0..NODES).filter(|&node| station.records[node].phase != phase::IDLE).collect();
+    let node = *busy.first()? as u8;
+    let record = &station.records[usize::from(node)];
+    Some(match record.phase {
+        phase::OPEN => Step::Host { node, call: Call::Abort },
+        phase::VOTING => Step::Send { node, to: one_of(random, record.participants & !record.yes), object: 0 },
+        _ => Step::Send { node, to: one_of(random, record.awaited() & !record.done), object: 0 },
+    })
+}

@@ -1,0 +1,230 @@
+//! What the scenarios met: each step's number, and what became of transactions and why.
+
+use crate::model::coordinator::{misfits, Brought, Call};
+use crate::model::image::Image;
+use crate::model::message::{kind, Message, NO, WRITE};
+use crate::model::record::phase;
+use crate::model::replica::{enter, judge, Standing};
+use crate::model::station::{Event, Station, Step};
+use std::collections::BTreeMap;
+
+/// What a scenario should meet often.
+#[derive(Clone, Copy, Debug, PartialEq, Eq, PartialOrd, Ord)]
+pub enum Case {
+    Begun,
+    Reselected,
+    /// A look again while objects are open that brings nodes that were not contacted yet.
+    ReselectedMore,
+    Ready,
+    Committed,
+    CommittedReading,
+    /// A commit whose votes named rivals.
+    CommittedOverRivals,
+    GivenUpOpen,
+    GivenUpVoting,
+    /// A transaction that contacted nobody is given up and is idle at once.
+    GivenUpAtOnce,
+    YieldedOpen,
+    YieldedVoting,
+    /// A no that aborted its transaction, by the first reason that it had.
+    AbortedByHolder,
+    AbortedByVersion,
+    AbortedByOlderRival,
+    Finished,
+    /// A message that reached a node which is off.
+    ReachedOff,
+    /// A copy, vote, done or yield that brought nothing about.
+    BroughtNothing,
+    /// Of those, a copy of a higher version than found, for an object that is ready.
+    LateNewer,
+    /// A fetch or ask that came late and got no answer.
+    Unanswered,
+    KeptDelivery,
+    SentYield,
+    SentNothing,
+}
+
+impl Case {
+    pub const ALL: [Case; 23] = [
+        Case::Begun,
+        Case::Reselected,
+        Case::ReselectedMore,
+        Case::Ready,
+        Case::Committed,
+        Case::CommittedReading,
+        Case::CommittedOverRivals,
+        Case::GivenUpOpen,
+        Case::GivenUpVoting,
+        Case::GivenUpAtOnce,
+        Case::YieldedOpen,
+        Case::YieldedVoting,
+        Case::AbortedByHolder,
+        Case::AbortedByVersion,
+        Case::AbortedByOlderRival,
+        Case::Finished,
+        Case::ReachedOff,
+        Case::BroughtNothing,
+        Case::LateNewer,
+        Case::Unanswered,
+        Case::KeptDelivery,
+        Case::SentYield,
+        Case::SentNothing,
+    ];
+}
+
+/// The steps' names, in the order of their counts.
+const STEPS: [&str; 5] = ["host", "send", "deliver", "drop", "switch"];
+
+/// The numbers that each step can have in a run from blank.
+const REACHED: [&[usize]; 5] = [&[0, 4, 5, 6, 7, 8, 10, 11], &[0, 4, 5, 6, 12], &[0, 5, 12], &[0, 5], &[0, 4]];
+
+fn place(step: &Step) -> usize {
+    match step {
+        Step::Host { .. } => 0,
+        Step::Send { .. } => 1,
+        Step::Deliver { .. } => 2,
+        Step::Drop { .. } => 3,
+        Step::Switch { .. } => 4,
+    }
+}
+
+#[derive(Default)]
+pub struct Seen {
+    pub numbers: [[usize; 13]; 5],
+    cases: BTreeMap<Case, usize>,
+    /// Why a node voted no to a transaction: by owner, serial and node.
+    reasons: BTreeMap<(u8, u32, u8), Case>,
+}
+
+impl Seen {
+    pub fn add(&mut self, case: Case) {
+        *self.cases.entry(case).or_insert(0) += 1;
+    }
+
+    fn add_if(&mut self, met: bool, case: Case) {
+        if met {
+            self.add(case);
+        }
+    }
+
+    /// A new scenario: names of transactions come again.
+    pub fn start(&mut self) {
+        self.reasons.clear();
+    }
+
+    /// One step, with the station before it.
+    pub fn count(&mut self, before: &Station, event: &Event) {
+        let number = event.told.as_ref().err().copied().unwrap_or(0);
+        self.numbers[place(&event.step)][usize::from(number)] += 1;
+        let Ok(told) = &event.told else { return };
+        match &event.step {
+            Step::Host { node, call } => self.count_call(before, *node, call),
+            Step::Deliver { at, kept } => {
+                let message = &before.pool[*at];
+                self.add_if(*kept, Case::KeptDelivery);
+                self.add_if(!before.is_on(message.to), Case::ReachedOff);
+                if before.is_on(message.to) {
+                    self.count_delivery(before, message, told.answer, told.put.as_ref());
+                }
+            }
+            Step::Send { .. } => {
+                self.add_if(told.put.is_none(), Case::SentNothing);
+                self.add_if(told.put.as_ref().is_some_and(|put| put.kind == kind::YIELD), Case::SentYield);
+            }
+            _ => {}
+        }
+    }
+
+    fn count_call(&mut self, before: &Station, node: u8, call: &Call) {
+        let record = &before.records[usize::from(node)];
+        match call {
+            Call::Begin { .. } => self.add(Case::Begun),
+            Call::Reselect { .. } => self.add(Case::Reselected),
+            Call::Abort if record.contacted == 0 => self.add(Case::GivenUpAtOnce),
+            Call::Abort if record.phase == phase::OPEN => self.add(Case::GivenUpOpen),
+            Call::Abort => self.add(Case::GivenUpVoting),
+            _ => {}
+        }
+    }
+
+    fn count_delivery(&mut self, before: &Station, message: &Message, answer: i64, put: Option<&Message>) {
+        let record = &before.records[usize::from(message.to)];
+        let own = message.transaction;
+        match message.kind {
+            kind::ASK if put.is_some() => {
+                let reason = reason(&before.images[usize::from(message.to)], message);
+                reason.map(|case| self.reasons.entry((own.owner, own.serial, message.to)).or_insert(case));
+            }
+            kind::FETCH | kind::ASK => self.add_if(put.is_none(), Case::Unanswered),
+            kind::OUTCOME => {}
+            kind::COPY if misfits(record, message).is_empty() => {
+                let entry = message.entries[0];
+                let newer = record.find(entry.object).is_some_and(|opened| opened.ready() && entry.version > opened.version);
+                self.add_if(newer, Case::LateNewer);
+            }
+            kind::YIELD if answer == Brought::Aborted as i64 => {
+                self.add(if record.phase == phase::OPEN { Case::YieldedOpen } else { Case::YieldedVoting });
+            }
+            kind::VOTE if answer == Brought::Aborted as i64 && message.words == [NO] => {
+                let reason = self.reasons.get(&(own.owner, own.serial, message.from)).copied();
+                reason.into_iter().for_each(|case| self.add(case));
+            }
+            _ => {}
+        }
+        self.add_if(answer == Brought::Ready as i64, Case::Ready);
+        self.add_if(answer == Brought::Finished as i64, Case::Finished);
+        self.add_if(answer == Brought::Nothing as i64 && [2, 4, 6, 7].contains(&message.kind), Case::BroughtNothing);
+        if answer == Brought::Committed as i64 {
+            self.add(Case::Committed);
+            self.add_if(record.objects().iter().all(|opened| opened.mode != WRITE), Case::CommittedReading);
+            self.add_if(record.rivals.iter().any(|&serial| serial != 0) || !message.rivals.is_empty(), Case::CommittedOverRivals);
+        }
+    }
+
+    /// What a look again brought: the station before it and after it.
+    pub fn count_more(&mut self, before: &Station, event: &Event, after: &Station) {
+        if let (Step::Host { node, call: Call::Reselect { .. } }, Ok(_)) = (&event.step, &event.told) {
+            let at = usize::from(*node);
+            self.add_if(before.records[at].contacted != after.records[at].contacted, Case::ReselectedMore);
+        }
+    }
+
+    pub fn of(&self, case: Case) -> usize {
+        self.cases.get(&case).copied().unwrap_or(0)
+    }
+
+    pub fn steps(&self) -> usize {
+        self.numbers.iter().flatten().sum()
+    }
+
+    /// The rarest case and the rarest number that a step can have.
+    pub fn rarest(&self) -> (String, usize) {
+        let cases = Case::ALL.into_iter().map(|case| (format!("{case:?}"), self.of(case)));
+        let numbers = (0..5).flat_map(|step| REACHED[step].iter().map(move |&number| (step, number)));
+        let numbers = numbers.map(|(step, number)| (format!("{} {number}", STEPS[step]), self.numbers[step][number]));
+        cases.chain(numbers).min_by_key(|(_, count)| *count).expect("some case")
+    }
+
+    pub fn words(&self) -> String {
+        let numbers: Vec<String> = (0..5)
+            .map(|step| {
+                let met = (0..13).filter(|&number| self.numbers[step][number] > 0);
+                let met: Vec<String> = met.map(|number| format!("{number}: {}", self.numbers[step][number])).collect();
+                format!("{} {{{}}}", STEPS[step], met.join(", "))
+            })
+            .collect();
+        format!("{} steps, {}; {:?}", self.steps(), numbers.join(", "), self.cases)
+    }
+}
+
+/// Why an ask is voted down, if it is: the first reason that holds.
+fn reason(image: &Image, message: &Message) -> Option<Case> {
+    if ![Standing::Fresh, Standing::Listed].contains(&Standing::of(image, message.transaction)) {
+        return None;
+    }
+    let mut image = image.clone();
+    enter(&mut image, message.transaction);
+    let judgement = judge(&image, message);
+    let held = judgement.held.then_some(Case::AbortedByHolder);
+    held.or(judgement.newer.then_some(Case::AbortedByVersion)).or(judgement.older.then_some(Case::AbortedByOlderRival))
+}

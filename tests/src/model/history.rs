@@ -1,0 +1,284 @@
+//! Demand 3: what a run tells, the one-by-one running (here: replay) of the committed transactions, and what must hold between the two.
+//!
+//! The history is fed with events. It keeps the pool, who is on and each owner's serial by itself; of the station it reads only what
+//! demand 3 speaks of: what a record has found, and the copies in the images.
+
+use super::coordinator::{Brought, Call};
+use super::message::{kind, Entry, Message, COMMIT, WRITE, YES};
+use super::quorum::{inside, is_quorum, nodes, only, Kind, ALL, NODES};
+use super::record::Opened;
+use super::station::{Event, Station, Step, Told};
+use super::OBJECTS;
+use crate::runner::ensure;
+use std::collections::{BTreeMap, BTreeSet};
+use std::sync::OnceLock;
+
+/// A transaction's name.
+#[derive(Clone, Copy, Debug, PartialEq, Eq, PartialOrd, Ord)]
+pub struct Name {
+    pub owner: u8,
+    pub serial: u32,
+}
+
+/// An object of a transaction as the accepted host calls give it.
+#[derive(Clone, Copy, Debug, PartialEq, Eq)]
+struct Wanted {
+    object: u8,
+    mode: u8,
+    new: Option<i64>,
+}
+
+/// What the events tell of one transaction.
+#[derive(Clone, Debug, Default)]
+struct Story {
+    wanted: Vec<Wanted>,
+    /// What an accepted request for votes answered; 0 before one.
+    participants: u16,
+    /// The participants whose yes was delivered.
+    yes: u16,
+    /// An abort call, a no of a participant or a yield came since the request.
+    lost: bool,
+    committed: bool,
+    /// The nodes that put a done on a delivery of its commit.
+    done: u16,
+    /// Each value found for an object once it was ready: told to the host, or in the record after a step.
+    found: BTreeMap<u8, BTreeSet<i64>>,
+}
+
+/// What replay gives: what each transaction finds for its objects, and the last values.
+struct Replayed {
+    finds: BTreeMap<(Name, u8), i64>,
+    last: [i64; OBJECTS],
+}
+
+/// In which order the committed transactions are replayed.
+#[derive(Clone, Copy, Debug, PartialEq, Eq)]
+pub enum Order {
+    /// "In the order of controller 0's first yes to each."
+    Log,
+    /// In the order in which they were decided, which is wrong: the last of document 01's slips.
+    Decisions,
+}
+
+pub struct History {
+    pool: Vec<Message>,
+    on: u16,
+    serials: [u32; NODES],
+    stories: BTreeMap<Name, Story>,
+    /// The transactions in the order of node 0's first yes.
+    log: Vec<Name>,
+    /// The committed ones in the order of their decisions.
+    pub committed: Vec<Name>,
+    /// The new values that committed transactions gave each object.
+    given: [BTreeSet<i64>; OBJECTS],
+}
+
+fn name_of(message: &Message) -> Name {
+    Name { owner: message.transaction.owner, serial: message.transaction.serial }
+}
+
+fn is_commit(message: &Message) -> bool {
+    message.kind == kind::OUTCOME && message.words == [COMMIT]
+}
+
+/// Every read quorum, larger sets too.
+fn read_quorums() -> &'static [u16] {
+    static LIST: OnceLock<Vec<u16>> = OnceLock::new();
+    LIST.get_or_init(|| (0..=ALL).filter(|&mask| is_quorum(Kind::Read, mask)).collect())
+}
+
+impl History {
+    pub fn new(on: u16) -> History {
+        let given = std::array::from_fn(|_| BTreeSet::new());
+        History { pool: vec![], on, serials: [0; NODES], stories: BTreeMap::new(), log: vec![], committed: vec![], given }
+    }
+
+    /// The transaction that an owner began last.
+    fn current(&self, owner: u8) -> Name {
+        Name { owner, serial: self.serials[usize::from(owner)] }
+    }
+
+    fn story(&mut self, name: Name) -> &mut Story {
+        self.stories.entry(name).or_default()
+    }
+
+    /// One event more, with the station after it. What is wrong already is said at once.
+    pub fn feed(&mut self, event: &Event, after: &Station) -> Result<(), String> {
+        let Ok(told) = &event.told else { return Ok(()) };
+        let touched = match event.step {
+            Step::Host { node, ref call } => {
+                self.hear_host(node, call, told)?;
+                Some(node)
+            }
+            Step::Deliver { at, kept } => {
+                let message = if kept { self.pool[at].clone() } else { self.pool.remove(at) };
+                self.hear_delivery(&message, told)?;
+                Some(message.to)
+            }
+            Step::Drop { at } => {
+                self.pool.remove(at);
+                None
+            }
+            Step::Switch { node, on } => {
+                let bit = only(usize::from(node));
+                self.on = if on { self.on | bit } else { self.on & !bit };
+                None
+            }
+            Step::Send { .. } => None,
+        };
+        if let Some(message) = &told.put {
+            self.hear_put(message)?;
+            self.pool.push(message.clone());
+        }
+        ensure!(self.pool.len() == after.pool.len() && self.on == after.on, "the events tell another pool, or others that are on");
+        touched.map_or(Ok(()), |node| self.look(node, after))
+    }
+
+    /// An accepted host call.
+    fn hear_host(&mut self, node: u8, call: &Call, told: &Told) -> Result<(), String> {
+        let name = self.current(node);
+        match *call {
+            Call::Begin { .. } => self.serials[usize::from(node)] += 1,
+            Call::Open { object, mode } => self.story(name).wanted.push(Wanted { object, mode, new: None }),
+            Call::SetValue { object, value } => {
+                let mut wanted = self.story(name).wanted.iter_mut();
+                wanted.find(|wanted| wanted.object == object).ok_or("a value was set for no object")?.new = Some(value);
+            }
+            Call::Found { object } => self.see(name, object, told.answer)?,
+            Call::RequestCommit => self.story(name).participants = told.answer as u16,
+            Call::Abort => self.story(name).lost = true,
+            Call::Reselect { .. } => {}
+        }
+        Ok(())
+    }
+
+    /// An accepted delivery. 'Committed' is answered exactly when the last yes of the participants comes and nothing spoke against it.
+    fn hear_delivery(&mut self, message: &Message, told: &Told) -> Result<(), String> {
+        if !inside(only(usize::from(message.to)), self.on) {
+            ensure!(told.answer == 0 && told.put.is_none(), "a node that is off answered");
+            return Ok(());
+        }
+        let name = self.current(message.to);
+        let own = name_of(message) == name;
+        let from = only(usize::from(message.from));
+        let story = self.story(name);
+        let takes_part = own && inside(from, story.participants);
+        let mut commits = false;
+        if message.kind == kind::VOTE && takes_part && message.words == [YES] {
+            story.yes |= from;
+            commits = !story.lost && !story.committed && story.yes == story.participants;
+        }
+        story.lost |= message.kind == kind::VOTE && takes_part && message.words != [YES];
+        story.lost |= message.kind == kind::YIELD && message.rivals[0].serial == name.serial;
+        let says = told.answer == Brought::Committed as i64;
+        ensure!(commits == says, "(committed) {name:?}: {message:?} was answered with {}", told.answer);
+        if says {
+            self.commit(name);
+        }
+        if is_commit(message) && told.put.as_ref().is_some_and(|put| put.kind == kind::DONE) {
+            self.story(name_of(message)).done |= only(usize::from(message.to));
+        }
+        Ok(())
+    }
+
+    fn commit(&mut self, name: Name) {
+        self.committed.push(name);
+        self.story(name).committed = true;
+        for wanted in self.stories[&name].wanted.clone() {
+            self.given[usize::from(wanted.object)].extend(wanted.new);
+        }
+    }
+
+    /// A message put into the pool. (0): "its entries are those of every ask and commit put for it". A commit is put for committed ones only.
+    fn hear_put(&mut self, message: &Message) -> Result<(), String> {
+        let name = name_of(message);
+        if message.kind == kind::VOTE && message.from == 0 && message.words == [YES] && !self.log.contains(&name) {
+            self.log.push(name);
+        }
+        if message.kind == kind::ASK || is_commit(message) {
+            let entry = |entry: &Entry| (entry.object, entry.mode, entry.value);
+            let mut wanted: Vec<_> = self.story(name).wanted.iter().map(|it| (it.object, it.mode, it.new.unwrap_or(0))).collect();
+            wanted.sort();
+            let sent: Vec<_> = message.entries.iter().map(entry).collect();
+            ensure!(sent == wanted, "(0) {name:?} sent {sent:?}, but the host wanted {wanted:?}");
+            ensure!(!is_commit(message) || self.story(name).committed, "(committed) a commit of {name:?}, which is not");
+        }
+        Ok(())
+    }
+
+    /// A value found for an object that is ready. (b): "0 or the new value that a transaction committed within that prefix gave the object".
+    fn see(&mut self, name: Name, object: u8, value: i64) -> Result<(), String> {
+        self.story(name).found.entry(object).or_default().insert(value);
+        let known = value == 0 || self.given[usize::from(object)].contains(&value);
+        ensure!(known, "(b) {name:?} found {value} for object {object}, which nobody committed gave it");
+        Ok(())
+    }
+
+    /// What the record of a node has found after a step.
+    fn look(&mut self, node: u8, after: &Station) -> Result<(), String> {
+        let name = self.current(node);
+        let ready: Vec<Opened> = after.records[usize::from(node)].objects().iter().copied().filter(Opened::ready).collect();
+        ready.iter().try_for_each(|opened| self.see(name, opened.object, opened.value))
+    }
+
+    /// "For each committed transaction every participant put a done into the pool on a delivery of its commit."
+    pub fn settled(&self) -> bool {
+        self.committed.iter().map(|name| &self.stories[name]).all(|story| inside(story.participants, story.done))
+    }
+
+    /// "A booking finds the value held for each of its tallies, then its written ones take their new values."
+    fn replay(&self, order: Order) -> Replayed {
+        let logged = self.log.iter().filter(|name| self.stories[name].committed);
+        let order: Vec<Name> = match order {
+            Order::Log => logged.copied().collect(),
+            Order::Decisions => self.committed.clone(),
+        };
+        let mut replayed = Replayed { finds: BTreeMap::new(), last: [0; OBJECTS] };
+        for name in order {
+            for wanted in &self.stories[&name].wanted {
+                let held = &mut replayed.last[usize::from(wanted.object)];
+                replayed.finds.insert((name, wanted.object), *held);
+                if wanted.mode == WRITE {
+                    *held = wanted.new.unwrap_or(0);
+                }
+            }
+        }
+        replayed
+    }
+
+    /// Demand 3 of the run so far: (0), (a), and (c) where it is settled. (b) and the rest were checked at each event.
+    pub fn check(&self, station: &Station, order: Order) -> Result<(), String> {
+        let replayed = self.replay(order);
+        for name in &self.committed {
+            ensure!(self.log.iter().filter(|other| *other == name).count() == 1, "(0) {name:?} is committed but not once in the log");
+            let story = &self.stories[name];
+            for wanted in &story.wanted {
+                let found = story.found.get(&wanted.object);
+                let replays = replayed.finds[&(*name, wanted.object)];
+                let same = found.is_some_and(|found| found.iter().all(|&value| value == replays));
+                ensure!(same, "(a) {name:?} found {found:?} for object {}, but replay gives {replays}", wanted.object);
+            }
+        }
+        if self.settled() {
+            (0..OBJECTS).try_for_each(|object| newest(station, object, replayed.last[object]))?;
+        }
+        Ok(())
+    }
+}
+
+/// (c) of one object: in every read quorum, each node whose version is the highest there has this value.
+fn newest(station: &Station, object: usize, value: i64) -> Result<(), String> {
+    let copies: [(u32, i64); NODES] = std::array::from_fn(|node| {
+        let copy = &station.images[node].copies[object];
+        (copy.version, copy.value)
+    });
+    if copies.iter().all(|&copy| copy == (copies[0].0, value)) {
+        return Ok(());
+    }
+    for &mask in read_quorums() {
+        let highest = nodes(mask).map(|node| copies[node].0).max().unwrap_or(0);
+        let wrong = nodes(mask).find(|&node| copies[node].0 == highest && copies[node].1 != value);
+        ensure!(wrong.is_none(), "(c) in {mask} node {wrong:?} has {copies:?} of object {object}, but replay ends with {value}");
+    }
+    Ok(())
+}

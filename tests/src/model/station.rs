@@ -1,0 +1,134 @@
+//! The station: thirteen replicas and thirteen coordinators, the pool of waiting messages, who is on, and the steps.
+
+use super::coordinator::{self, due, due_refusals, first, is_stranger, At, Call};
+use super::image::{self, Image};
+use super::message::{kind, Message};
+use super::quorum::{inside, only, NODES};
+use super::record::{phase, Record};
+use super::replica;
+use super::{number, Fault};
+
+/// "The pool lists up to 128 messages."
+pub const POOL: usize = 128;
+
+#[derive(Clone, Debug, PartialEq, Eq)]
+pub struct Station {
+    pub images: [Image; NODES],
+    pub records: [Record; NODES],
+    /// In sending order.
+    pub pool: Vec<Message>,
+    /// The nodes that are on.
+    pub on: u16,
+}
+
+/// "The station's steps are a host call, a send of what is due, a delivery of any waiting message (kept or not), a drop, and switching a
+/// controller off or on."
+#[derive(Clone, Debug, PartialEq, Eq)]
+pub enum Step {
+    Host { node: u8, call: Call },
+    Send { node: u8, to: u8, object: u8 },
+    Deliver { at: usize, kept: bool },
+    Drop { at: usize },
+    Switch { node: u8, on: bool },
+}
+
+/// What a step that nothing refuses tells: its answer, and the message that it put into the pool.
+#[derive(Clone, Debug, PartialEq, Eq)]
+pub struct Told {
+    pub answer: i64,
+    pub put: Option<Message>,
+}
+
+/// A step with its number, and where that is 0 with what it tells.
+#[derive(Clone, Debug, PartialEq, Eq)]
+pub struct Event {
+    pub step: Step,
+    pub told: Result<Told, u8>,
+}
+
+/// "A station is blank when its 13 images are, no message waits, and every booking end is idle with last serial and stamp 0."
+pub fn blank(on: u16) -> Station {
+    Station { images: std::array::from_fn(|_| image::blank()), records: std::array::from_fn(|_| Record::default()), pool: vec![], on }
+}
+
+/// Whether a message is meant for a replica; otherwise it is for a coordinator.
+pub fn for_replica(message: &Message) -> bool {
+    [kind::FETCH, kind::ASK, kind::OUTCOME].contains(&message.kind)
+}
+
+impl Station {
+    pub fn is_on(&self, node: u8) -> bool {
+        inside(only(usize::from(node)), self.on)
+    }
+
+    /// "At rest, every booking end is idle."
+    pub fn at_rest(&self) -> bool {
+        self.records.iter().all(|record| record.phase == phase::IDLE)
+    }
+
+    /// "A host call .. at one [that is off] is 5."
+    fn host(&mut self, node: u8, asked: &Call) -> Result<Told, u8> {
+        first(&[(number::LENGTH, asked.misfits()), (number::STRANGER, is_stranger(node))])?;
+        let at = At { me: node, on: self.is_on(node) };
+        let answer = coordinator::call(&mut self.records[usize::from(node)], at, asked)?;
+        Ok(Told { answer, put: None })
+    }
+
+    /// "What is due to a named controller .. changes no state." 12 with 128 messages waiting, also where nothing is due.
+    fn send(&mut self, node: u8, to: u8, object: u8) -> Result<Told, u8> {
+        first(&[(number::STRANGER, is_stranger(node) || is_stranger(to))])?;
+        let record = &self.records[usize::from(node)];
+        first(&due_refusals(record, At { me: node, on: self.is_on(node) }, to, object))?;
+        first(&[(number::POOL_FULL, self.pool.len() == POOL)])?;
+        let put = due(record, node, to, object);
+        self.pool.extend(put.clone());
+        Ok(Told { answer: 0, put })
+    }
+
+    /// "A message delivered to a controller that is off does nothing there." "An answer goes to the pool's end."
+    fn deliver(&mut self, at: usize, kept: bool, fault: Fault) -> Result<Told, u8> {
+        let message = self.pool.get(at).ok_or(number::OUT_OF_TURN)?.clone();
+        let to = usize::from(message.to);
+        let mut told = Told { answer: 0, put: None };
+        if self.is_on(message.to) && for_replica(&message) {
+            let mut image = self.images[to].clone();
+            told.put = replica::deliver(&mut image, message.to, &message, fault)?;
+            first(&[(number::POOL_FULL, kept && told.put.is_some() && self.pool.len() == POOL)])?;
+            self.images[to] = image;
+        } else if self.is_on(message.to) {
+            told.answer = coordinator::deliver(&mut self.records[to], message.to, &message, fault)? as i64;
+        }
+        if !kept {
+            self.pool.remove(at);
+        }
+        self.pool.extend(told.put.clone());
+        Ok(told)
+    }
+
+    /// "A delivery or drop of no waiting message" is 5.
+    fn drop_message(&mut self, at: usize) -> Result<Told, u8> {
+        first(&[(number::OUT_OF_TURN, at >= self.pool.len())])?;
+        self.pool.remove(at);
+        Ok(Told { answer: 0, put: None })
+    }
+
+    /// "A repeated switch changes nothing."
+    fn switch(&mut self, node: u8, on: bool) -> Result<Told, u8> {
+        first(&[(number::STRANGER, is_stranger(node))])?;
+        let bit = only(usize::from(node));
+        self.on = if on { self.on | bit } else { self.on & !bit };
+        Ok(Told { answer: 0, put: None })
+    }
+
+    /// One step. A refused one leaves everything as it was.
+    pub fn step(&mut self, step: Step, fault: Fault) -> Event {
+        let told = match step {
+            Step::Host { node, ref call } => self.host(node, call),
+            Step::Send { node, to, object } => self.send(node, to, object),
+            Step::Deliver { at, kept } => self.deliver(at, kept, fault),
+            Step::Drop { at } => self.drop_message(at),
+            Step::Switch { node, on } => self.switch(node, on),
+        };
+        Event { step, told }
+    }
+}
