@@ -1,5 +1,6 @@
 //! The checks, a module for each part of the product.
 
+pub mod coordinator;
 pub mod image;
 pub mod message;
 pub mod program;

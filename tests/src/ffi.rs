@@ -1,5 +1,7 @@
 //! The library's C functions as `include/senna.h` declares them, and safe wrappers over them.
 
+pub mod coordinator;
+
 use crate::model::message::{Entry, Rival, Transaction, ENTRIES};
 use crate::model::quorum::{Choice, Kind, NODES};
 

@@ -44,6 +44,7 @@ fn main() -> ExitCode {
     checks::message::run(&mut runner);
     checks::image::run(&mut runner);
     checks::replica::run(&mut runner);
+    checks::coordinator::run(&mut runner);
     checks::station::run(&mut runner);
     checks::program::run(&mut runner, &program);
     if runner.close() {

@@ -14,16 +14,16 @@ struct SennaCalled {
 extern "C" {
     fn senna_check_record(record: *const u8, length: usize) -> u8;
     fn senna_blank_record(record: *mut u8, length: usize) -> u8;
-    fn senna_begin(record: *mut u8, length: usize, me: u8, live: u16, distances: *const u8, size: usize, timestamp: u32) -> SennaCalled;
-    fn senna_open_read(record: *mut u8, length: usize, me: u8, object: u8) -> SennaCalled;
-    fn senna_open_write(record: *mut u8, length: usize, me: u8, object: u8) -> SennaCalled;
-    fn senna_set_value(record: *mut u8, length: usize, me: u8, object: u8, value: i64) -> SennaCalled;
-    fn senna_found(record: *const u8, length: usize, me: u8, object: u8) -> SennaCalled;
-    fn senna_reselect(record: *mut u8, length: usize, me: u8, live: u16, distances: *const u8, size: usize) -> SennaCalled;
-    fn senna_request_commit(record: *mut u8, length: usize, me: u8) -> SennaCalled;
-    fn senna_abort(record: *mut u8, length: usize, me: u8) -> SennaCalled;
+    fn senna_coordinator_begin(record: *mut u8, length: usize, me: u8, live: u16, distances: *const u8, size: usize, timestamp: u32) -> SennaCalled;
+    fn senna_coordinator_open_read(record: *mut u8, length: usize, me: u8, object: u8) -> SennaCalled;
+    fn senna_coordinator_open_write(record: *mut u8, length: usize, me: u8, object: u8) -> SennaCalled;
+    fn senna_coordinator_set_value(record: *mut u8, length: usize, me: u8, object: u8, value: i64) -> SennaCalled;
+    fn senna_coordinator_found(record: *mut u8, length: usize, me: u8, object: u8) -> SennaCalled;
+    fn senna_coordinator_reselect(record: *mut u8, length: usize, me: u8, live: u16, distances: *const u8, size: usize) -> SennaCalled;
+    fn senna_coordinator_request_commit(record: *mut u8, length: usize, me: u8) -> SennaCalled;
+    fn senna_coordinator_abort(record: *mut u8, length: usize, me: u8) -> SennaCalled;
     fn senna_coordinator_receive(record: *mut u8, length: usize, me: u8, message: *const u8, size: usize) -> SennaCalled;
-    fn senna_due(record: *const u8, length: usize, me: u8, node: u8, object: u8, out: *mut u8, size: usize) -> SennaWritten;
+    fn senna_coordinator_due(record: *const u8, length: usize, me: u8, node: u8, object: u8, out: *mut u8, size: usize) -> SennaWritten;
 }
 
 /// The library's number for the bytes of a record.
@@ -46,15 +46,15 @@ pub fn host_call(record: &mut [u8], me: u8, call: &Call) -> (u8, i64) {
     let called = unsafe {
         match *call {
             Call::Begin { live, ref distances, timestamp } => {
-                senna_begin(at, length, me, live, distances.as_ptr(), distances.len(), timestamp)
+                senna_coordinator_begin(at, length, me, live, distances.as_ptr(), distances.len(), timestamp)
             }
-            Call::Open { object, mode: READ } => senna_open_read(at, length, me, object),
-            Call::Open { object, .. } => senna_open_write(at, length, me, object),
-            Call::SetValue { object, value } => senna_set_value(at, length, me, object, value),
-            Call::Found { object } => senna_found(at, length, me, object),
-            Call::Reselect { live, ref distances } => senna_reselect(at, length, me, live, distances.as_ptr(), distances.len()),
-            Call::RequestCommit => senna_request_commit(at, length, me),
-            Call::Abort => senna_abort(at, length, me),
+            Call::Open { object, mode: READ } => senna_coordinator_open_read(at, length, me, object),
+            Call::Open { object, .. } => senna_coordinator_open_write(at, length, me, object),
+            Call::SetValue { object, value } => senna_coordinator_set_value(at, length, me, object, value),
+            Call::Found { object } => senna_coordinator_found(at, length, me, object),
+            Call::Reselect { live, ref distances } => senna_coordinator_reselect(at, length, me, live, distances.as_ptr(), distances.len()),
+            Call::RequestCommit => senna_coordinator_request_commit(at, length, me),
+            Call::Abort => senna_coordinator_abort(at, length, me),
         }
     };
     (called.number, called.answer)
@@ -72,6 +72,6 @@ pub fn receive(record: &mut [u8], me: u8, message: &[u8]) -> (u8, i64) {
 pub fn due(record: &[u8], me: u8, node: u8, object: u8, out: &mut [u8]) -> (u8, u8) {
     // SAFETY: the function reads at most `length` bytes at `record` and writes at most `size` bytes at `out`, all lent for the call and
     // apart from each other.
-    let written = unsafe { senna_due(record.as_ptr(), record.len(), me, node, object, out.as_mut_ptr(), out.len()) };
+    let written = unsafe { senna_coordinator_due(record.as_ptr(), record.len(), me, node, object, out.as_mut_ptr(), out.len()) };
     (written.number, written.length)
 }
