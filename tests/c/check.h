@@ -36,4 +36,15 @@ static int closing(void)
     return failed > 0;
 }
 
+/* One object of a message. */
+static inline senna_entry entry(unsigned object, unsigned mode, uint32_t version, int64_t value)
+{
+    senna_entry e;
+    e.object = (uint8_t)object;
+    e.mode = (uint8_t)mode;
+    e.version = version;
+    e.value = value;
+    return e;
+}
+
 #endif

@@ -34,16 +34,6 @@ static senna_called deliver(senna_written w)
     return senna_coordinator_receive(record, sizeof record, ME, message, w.length);
 }
 
-static senna_entry copy_of(unsigned object, unsigned mode, uint32_t version, int64_t value)
-{
-    senna_entry e;
-    e.object = (uint8_t)object;
-    e.mode = (uint8_t)mode;
-    e.version = version;
-    e.value = value;
-    return e;
-}
-
 static senna_written due(unsigned node, unsigned object)
 {
     memset(message, 0xa5, sizeof message);
@@ -75,9 +65,9 @@ static void one_transaction(void)
     check(senna_coordinator_is_ready(record, sizeof record, 0) == 0, "not ready yet");
     check(due(0, OBJECT).length == 29 && message[0] == 1 && message[2] == 0 && message[13] == OBJECT && message[14] == 1, "a fetch to the root");
     check(due(1, OBJECT).length == 0 && message[0] == 0xa5, "nothing is due to another");
-    taken(deliver(senna_write_copy(message, sizeof message, 0, ME, 1, 5, copy_of(OBJECT, 1, 8, -90))), SENNA_READY, "the copy makes it ready");
-    taken(deliver(senna_write_copy(message, sizeof message, 0, ME, 1, 5, copy_of(OTHER, 0, 2, 11))), SENNA_READY, "and the other");
-    taken(deliver(senna_write_copy(message, sizeof message, 0, ME, 1, 5, copy_of(OBJECT, 1, 9, 0))), SENNA_NOTHING, "a late copy changes nothing");
+    taken(deliver(senna_write_copy(message, sizeof message, 0, ME, 1, 5, entry(OBJECT, 1, 8, -90))), SENNA_READY, "the copy makes it ready");
+    taken(deliver(senna_write_copy(message, sizeof message, 0, ME, 1, 5, entry(OTHER, 0, 2, 11))), SENNA_READY, "and the other");
+    taken(deliver(senna_write_copy(message, sizeof message, 0, ME, 1, 5, entry(OBJECT, 1, 9, 0))), SENNA_NOTHING, "a late copy changes nothing");
     found = senna_coordinator_found(record, sizeof record, ME, OBJECT);
     check(found.number == SENNA_OK && found.value == -90, "the value found");
     check(memcmp(record, before, sizeof record) == 0, "found leaves every byte");

@@ -38,16 +38,6 @@ static int filled(const uint8_t *bytes, size_t count)
     return 1;
 }
 
-static senna_entry entry(unsigned object, unsigned mode, uint32_t version, int64_t value)
-{
-    senna_entry e;
-    e.object = (uint8_t)object;
-    e.mode = (uint8_t)mode;
-    e.version = version;
-    e.value = value;
-    return e;
-}
-
 /* The objects first, first + 1, .., read and written by turns. */
 static senna_entries entries(unsigned count, unsigned first)
 {

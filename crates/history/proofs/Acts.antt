@@ -219,17 +219,27 @@ module _ (st : Station) (σ : State ℕ) (log : List Tx) (sim : Sim st σ log) (
     at-node : st₁ .images n ≡ i₁
     at-node = put-same (st .images) n i₁
 
-    fetch-view : (j : List ℕ) → j ≡ i₁ → SameCopies j (fetchImage l m)
-    fetch-view j e = copies-from j (fetchImage l m) (λ t p.
-        let c = fetch-copy l m (k .sound) (k .owner) (k .serial) (k .stamp) (k .fits) a t p in
+    -- an image whose copies are those before, in value and version, against the listed one; and its holders
+    copies-of : (i j : List ℕ) → j ≡ i₁ → ((t : ℕ) → t < shape .objects → (copyOf i t .value ≡ copyOf l t .value) × (copyOf i t .version ≡ copyOf l t .version))
+        → SameCopies j i
+    copies-of i j e h = copies-from j i (λ t p.
+        let c = h t p in
         let d = ap (λ (y : List ℕ). copyOf y t) e ∙ entered-copy l m (k .sound) (k .owner) (k .serial) (k .stamp) (k .fits) t p in
-        (ap (λ (y : Copy). y .value) c ∙ sym (ap (λ (y : Copy). y .value) d), ap (λ (y : Copy). y .version) c ∙ sym (ap (λ (y : Copy). y .version) d)))
+        (c .0 ∙ sym (ap (λ (y : Copy). y .value) d), c .1 ∙ sym (ap (λ (y : Copy). y .version) d)))
+
+    holders-of : (i j : List ℕ) → j ≡ i₁ → ((t : ℕ) → t < shape .objects → copyOf i t .holder ≡ copyOf l t .holder) → (t : ℕ) → holder i t ≡ holder j t
+    holders-of i j e h = holders-from j i (λ t p.
+        h t p ∙ sym (ap (λ (y : List ℕ). copyOf y t .holder) e
+        ∙ ap (λ (y : Copy). y .holder) (entered-copy l m (k .sound) (k .owner) (k .serial) (k .stamp) (k .fits) t p)))
+
+    fetch-view : (j : List ℕ) → j ≡ i₁ → SameCopies j (fetchImage l m)
+    fetch-view j e = copies-of (fetchImage l m) j e (λ t p.
+        let c = fetch-copy l m (k .sound) (k .owner) (k .serial) (k .stamp) (k .fits) a t p in
+        (ap (λ (y : Copy). y .value) c, ap (λ (y : Copy). y .version) c))
 
     fetch-holders : (j : List ℕ) → j ≡ i₁ → (t : ℕ) → holder (fetchImage l m) t ≡ holder j t
-    fetch-holders j e = holders-from j (fetchImage l m) (λ t p.
-        ap (λ (y : Copy). y .holder) (fetch-copy l m (k .sound) (k .owner) (k .serial) (k .stamp) (k .fits) a t p)
-        ∙ sym (ap (λ (y : List ℕ). copyOf y t .holder) e
-        ∙ ap (λ (y : Copy). y .holder) (entered-copy l m (k .sound) (k .owner) (k .serial) (k .stamp) (k .fits) t p)))
+    fetch-holders j e = holders-of (fetchImage l m) j e
+        (λ t p. ap (λ (y : Copy). y .holder) (fetch-copy l m (k .sound) (k .owner) (k .serial) (k .stamp) (k .fits) a t p))
 
     fetch-owners : (j : List ℕ) → j ≡ i₁ → OneOwner j (fetchImage l m) o (serial j o) (state j o)
     unfolding ownerOf
@@ -272,16 +282,13 @@ module _ (st : Station) (σ : State ℕ) (log : List Tx) (sim : Sim st σ log) (
 
     -- ---- a vote no
     no-view : (j : List ℕ) → j ≡ i₁ → votesNo i₁ m ≡ true → SameCopies j (askImage l m)
-    no-view j e v = copies-from j (askImage l m) (λ t p.
+    no-view j e v = copies-of (askImage l m) j e (λ t p.
         let c = no-copy l m (k .sound) (k .owner) (k .serial) (k .stamp) (k .fits) a v t p in
-        let d = ap (λ (y : List ℕ). copyOf y t) e ∙ entered-copy l m (k .sound) (k .owner) (k .serial) (k .stamp) (k .fits) t p in
-        (ap (λ (y : Copy). y .value) c ∙ sym (ap (λ (y : Copy). y .value) d), ap (λ (y : Copy). y .version) c ∙ sym (ap (λ (y : Copy). y .version) d)))
+        (ap (λ (y : Copy). y .value) c, ap (λ (y : Copy). y .version) c))
 
     no-holders : (j : List ℕ) → j ≡ i₁ → votesNo i₁ m ≡ true → (t : ℕ) → holder (askImage l m) t ≡ holder j t
-    no-holders j e v = holders-from j (askImage l m) (λ t p.
-        ap (λ (y : Copy). y .holder) (no-copy l m (k .sound) (k .owner) (k .serial) (k .stamp) (k .fits) a v t p)
-        ∙ sym (ap (λ (y : List ℕ). copyOf y t .holder) e
-        ∙ ap (λ (y : Copy). y .holder) (entered-copy l m (k .sound) (k .owner) (k .serial) (k .stamp) (k .fits) t p)))
+    no-holders j e v = holders-of (askImage l m) j e
+        (λ t p. ap (λ (y : Copy). y .holder) (no-copy l m (k .sound) (k .owner) (k .serial) (k .stamp) (k .fits) a v t p))
 
     -- a vote's owner: the serial stays, the state is the vote's
     voted-owner : (j : List ℕ) → j ≡ i₁ → (u : ℕ)
@@ -365,10 +372,9 @@ module _ (st : Station) (σ : State ℕ) (log : List Tx) (sim : Sim st σ log) (
               (entered-owner l m (k .sound) (k .owner) (k .serial) (k .stamp) (k .fits) a) .its-serial
 
       yes-view : (j : List ℕ) → j ≡ i₁ → SameCopies j (askImage l m)
-      yes-view j e = copies-from j (askImage l m) (λ t p.
+      yes-view j e = copies-of (askImage l m) j e (λ t p.
           let c = yes-copy l m (k .sound) (k .owner) (k .serial) (k .stamp) (k .fits) a v t p in
-          let d = ap (λ (y : List ℕ). copyOf y t) e ∙ entered-copy l m (k .sound) (k .owner) (k .serial) (k .stamp) (k .fits) t p in
-          (ap (λ (y : Copy). y .value) c ∙ sym (ap (λ (y : Copy). y .value) d), ap (λ (y : Copy). y .version) c ∙ sym (ap (λ (y : Copy). y .version) d)))
+          (ap (λ (y : Copy). y .value) c, ap (λ (y : Copy). y .version) c))
 
       -- the holder of an object below 64
       held-holder : (j : List ℕ) → j ≡ i₁ → (t : ℕ) → t < 64 → holder (askImage l m) t ≡ holderIn o (m .entries) t (holder j t)

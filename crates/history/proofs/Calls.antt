@@ -33,10 +33,10 @@ use Rattle.station.specs.Step.{Call, begin, openRead, openWrite, setValue, foun
 use Rattle.station.specs.Run.{eventOf}
 use Rattle.protocol.specs.Proof.Tables.{on, clash}
 use Rattle.history.specs.Ledger.{Ledger, withMode, noted, note}
-use Rattle.history.proofs.Books.{Past, More, World, Books, found-next}
+use Rattle.history.proofs.Books.{Past, More, World}
 use Rattle.history.proofs.Quiet.{reselect-owner}
 use Rattle.history.proofs.Sim.{modeOf}
-use Rattle.history.proofs.Host.{begin-world, open-world, set-world, same-world, SameTold, SameObjects, objects-still}
+use Rattle.history.proofs.Host.{again, begin-world, open-world, set-world, same-world, SameTold, SameObjects, objects-still}
 use Rattle.history.proofs.Turns.{request-world, abort-world}
 
 -- the negation that a refusal does not fit
@@ -75,29 +75,11 @@ module _ (st : Station) (L : Ledger) (F : Past) (w : World st L F) where
   abbrev pub Next : Call → Outcome → Type 0
   Next call r = World (r .station) (note L (eventOf call r)) (More F (r .station))
 
-  -- the same station once more
-  pub again : World st L (More F st)
-  again = let b = w .books in record {
-    state = w .state;
-    log = w .log;
-    sim = w .sim;
-    valid = w .valid;
-    books = record {
-      pool-as = b .pool-as;
-      puts-true = b .puts-true;
-      log-as = b .log-as;
-      decided = b .decided;
-      present = b .present;
-      dones = b .dones;
-      found = found-next F st (w .state) (w .log) (w .sim) (w .valid .records) (b .found .still) (b .found .carried) (λ x t a q. inl (b .found .had x t a q));
-    };
-  }
-
   -- a refusal
   pub refused-next : (call : Call) (number : ℕ) → (number ≡ 0 → ⊥) → Next call (refusedWith number st)
   unfolding note
   refused-next call number e =
-      subst (λ (b : Bool). World st (cond b (noted L call 0 none) L) (More F st)) (sym (ne-eqb number 0 e)) again
+      subst (λ (b : Bool). World st (cond b (noted L call 0 none) L) (More F st)) (sym (ne-eqb number 0 e)) (again st L F w)
 
   -- ---- a host call: its refusals, its answer, the record after it
   module _ (n : ℕ) (call : Call) (rs : List Refusal) (answer : ℕ) (c' : Coordinator) (all : T (numbered rs)) where

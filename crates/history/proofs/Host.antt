@@ -10,6 +10,7 @@ use lib.Dec.{eqb, ltb}
 use lib.ListN.{length, set, replicate}
 use borrow.Author.Tests.{eqb-true, ltb-true}
 use Rattle.mask.specs.Mask.{contains}
+use Rattle.octets.proofs.Laws.{Bytes}
 use Rattle.coordinator.specs.declared.Object.{Object}
 use Rattle.coordinator.specs.declared.Coordinator.{Coordinator}
 use Rattle.coordinator.specs.declared.BeginWith.{BeginWith}
@@ -27,11 +28,11 @@ use Rattle.protocol.specs.State.{Tx, Tx-discrete, fresh, committed, History}
 use Rattle.protocol.specs.Proof.Tables.{on, clash, put-cases, put-here, put2-cases}
 use Rattle.history.specs.Ledger.{Ledger, current, withMode, withSerial}
 use Rattle.history.specs.Claims.{Shows}
-use Rattle.history.proofs.Sim.{tx, modeOf, contentsOf, Owner}
-use Rattle.history.proofs.Carry.{put-all}
+use Rattle.history.proofs.Sim.{tx, modeOf, contentsOf, Owner, Tells}
+use Rattle.history.proofs.Carry.{put-all, by-pool}
 use Rattle.history.proofs.Quiet.{begin-owner, open-owner, set-owner, copy-owner}
 use Rattle.history.proofs.Objects.{shut-blank, listed-of, OneSet, its-object, other-object, its-mode, other-mode, others-shown, set-shown}
-use Rattle.history.proofs.Books.{Decided, Present, Past, More, World, changed, quiet}
+use Rattle.history.proofs.Books.{Decided, Present, Past, More, World, found-next, changed, quiet}
 
 pub no-both : {b : Bool} → b ≡ true → b ≡ false → ⊥
 no-both {b} h k = let z : true ≡ false = sym h ∙ k in clash (cc)
@@ -394,3 +395,48 @@ module _ (st : Station) (L : Ledger) (F : Past) (w : World st L F) (n : ℕ) whe
         (put-all (Present L') (st .records) n c' (present-on L L' n c c' k told p)
         (λ i f. present-on L L' i (st .records i) (st .records i) (objects-still (st .records i)) told (w .books .present i)))
         e ep (λ t v f g. shown-on c c' k (c .serial) t v f)
+
+-- ---- a step that changes no record and no image: of pool, nodes and ledger whatever else
+module _ (st : Station) (L : Ledger) (F : Past) (w : World st L F) where
+  abbrev True : List ℕ → Type 0
+  True b = Tells (w .state .history) (w .state .votes) (w .state .sent) b
+
+  pub steady : (pool : List (List ℕ)) (up : ℕ) (L' : Ledger) → ((y : List ℕ) → In y pool → In y (st .pool) ⊎ (True y × Bytes y)) → L' .pool ≡ pool
+      → ((y : List ℕ) → In y (L' .puts) → In y (L .puts) ⊎ True y) → L' .log ≡ L .log → L' .committed ≡ L .committed → L' .dones ≡ L .dones → SameTold L L'
+      → World (record { images = st .images; records = st .records; pool = pool; on = up }) L'
+      (More F (record { images = st .images; records = st .records; pool = pool; on = up }))
+  steady pool up L' new a puts b d e told =
+      let st' : Station = record { images = st .images; records = st .records; pool = pool; on = up } in
+      let sim' = by-pool st (w .log) (w .sim) pool up (λ y i. on (new y i) inl (λ z. inr (z .0))) in
+      let bk = w .books in
+      record {
+        state = w .state;
+        log = w .log;
+        sim = sim';
+        valid = record {
+          images = w .valid .images;
+          records = w .valid .records;
+          messages = λ y i. on (new y i) (λ j. w .valid .messages y j) (λ z. z .1);
+        };
+        books = record {
+          pool-as = a;
+          puts-true = λ y i. on (puts y i) (λ j. bk .puts-true y j) (λ z. z);
+          log-as = b ∙ bk .log-as;
+          decided = same-decided st L F w 0 d (told .modes) (told .news) (told .parties);
+          present = λ i. present-on L L' i (st .records i) (st .records i) (objects-still (st .records i)) told (bk .present i);
+          dones = λ z i. bk .dones z (subst (In z) e i);
+          found = found-next F st' (w .state) (w .log) sim' (w .valid .records) (bk .found .still) (bk .found .carried)
+              (λ x t q r. inl (bk .found .had x t q r));
+        };
+      }
+
+  -- fewer messages wait, or others are on; nothing is put
+  pub fewer : (pool : List (List ℕ)) (up : ℕ) (L' : Ledger) → ((y : List ℕ) → In y pool → In y (st .pool)) → L' .pool ≡ pool → L' .log ≡ L .log
+      → L' .dones ≡ L .dones → L' .puts ≡ L .puts → L' .committed ≡ L .committed → SameTold L L'
+      → World (record { images = st .images; records = st .records; pool = pool; on = up }) L'
+      (More F (record { images = st .images; records = st .records; pool = pool; on = up }))
+  fewer pool up L' sub a b c cp d told = steady pool up L' (λ y i. inl (sub y i)) a (λ y i. inl (subst (In y) cp i)) b d c told
+
+  -- the same station once more
+  pub again : World st L (More F st)
+  again = fewer (st .pool) (st .on) L (λ y i. i) (w .books .pool-as) refl refl refl refl (record { serials = refl; modes = refl; news = refl; parties = refl })

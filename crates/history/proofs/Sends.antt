@@ -37,15 +37,13 @@ use Rattle.protocol.specs.State.{Tx, fresh, voting, committed, aborted, Content
 use Rattle.protocol.specs.Proof.Tables.{on, clash}
 use Rattle.history.specs.Ledger.{Ledger, txOf, rootYes, firstOnly, withPut, noted, note}
 use Rattle.history.proofs.Sim.{tx, modeOf, contentsOf, Match, Tells, Owner, Sim}
-use Rattle.history.proofs.Carry.{by-pool}
-use Rattle.history.proofs.Books.{Past, More, World, found-next}
-use Rattle.history.proofs.Host.{SameTold, objects-still, present-on, same-decided}
+use Rattle.history.proofs.Books.{Past, More, World}
+use Rattle.history.proofs.Host.{steady, fewer}
 use Rattle.history.proofs.Words.{txIn, kind-of, tx-of, word-of, entries-of, check-of}
 use Rattle.history.proofs.Images.{all-in, small-object}
 use Rattle.history.proofs.Encoded.{bytes-encode}
 use Rattle.history.proofs.Replies.{root-yes}
 use Rattle.history.proofs.Arrive.{in-append, in-place}
-use Rattle.history.proofs.Served.{fewer}
 use Rattle.history.proofs.Calls.{Next, refused-next, off-number, not-false, or-false}
 
 -- ---- the entries of a record are its contents
@@ -303,34 +301,14 @@ module _ (st : Station) (L : Ledger) (F : Past) (w : World st L F) (n to object 
   put-world : (b : List ℕ) → Bytes b → Tells (w .state .history) (w .state .votes) (w .state .sent) b → (rootYes b ≡ false)
       → World (withPool st (st .pool ++ (b ∷ []))) (withPut L (L .pool) (some b)) (More F (withPool st (st .pool ++ (b ∷ []))))
   put-world b y t quiet =
-      let st' = withPool st (st .pool ++ (b ∷ [])) in
-      let cases : (z : List ℕ) → In z (st .pool ++ (b ∷ [])) → In z (st .pool) ⊎ (z ≡ b) =
-      λ z i. on (in-append z (st .pool) (b ∷ []) i) inl (λ j. on j inr (λ q. absurd q)) in
-      let sim' = by-pool st (w .log) (w .sim) (st .pool ++ (b ∷ [])) (st .on)
-      (λ z i. on (cases z i) inl (λ e. inr (subst (Tells (w .state .history) (w .state .votes) (w .state .sent)) (sym e) t))) in
-      let bk = w .books in
-      record {
-        state = w .state;
-        log = w .log;
-        sim = sim';
-        valid = record {
-          images = w .valid .images;
-          records = w .valid .records;
-          messages = λ z i. on (cases z i) (λ j. w .valid .messages z j) (λ e. subst Bytes (sym e) y);
-        };
-        books = record {
-          pool-as = ap (λ (l : List (List ℕ)). l ++ (b ∷ [])) (bk .pool-as);
-          puts-true = λ z i. on (in-append z (L .puts) (b ∷ []) i) (λ j. bk .puts-true z j)
-              (λ j. on j (λ e. subst (Tells (w .state .history) (w .state .votes) (w .state .sent)) (sym e) t) (λ q. absurd q));
-          log-as = ap (λ (g : Bool). cond g (firstOnly (txOf b) (L .log)) (L .log)) quiet ∙ bk .log-as;
-          decided = same-decided st L F w 0 refl refl refl refl;
-          present = λ i. present-on L _ i (st .records i) (st .records i) (objects-still (st .records i))
-              (record { serials = refl; modes = refl; news = refl; parties = refl }) (bk .present i);
-          dones = bk .dones;
-          found = found-next F st' (w .state) (w .log) sim' (w .valid .records) (bk .found .still) (bk .found .carried)
-              (λ x t q r. inl (bk .found .had x t q r));
-        };
-      }
+      steady st L F w (st .pool ++ (b ∷ [])) (st .on) (withPut L (L .pool) (some b))
+      (λ z i. on (in-append z (st .pool) (b ∷ []) i) inl
+      (λ j. on j (λ e. inr (subst (Tells (w .state .history) (w .state .votes) (w .state .sent)) (sym e) t, subst Bytes (sym e) y)) (λ q. absurd q)))
+      (ap (λ (l : List (List ℕ)). l ++ (b ∷ [])) (w .books .pool-as))
+      (λ z i. on (in-append z (L .puts) (b ∷ []) i) inl
+      (λ j. on j (λ e. inr (subst (Tells (w .state .history) (w .state .votes) (w .state .sent)) (sym e) t)) (λ q. absurd q)))
+      (ap (λ (g : Bool). cond g (firstOnly (txOf b) (L .log)) (L .log)) quiet) refl refl
+      (record { serials = refl; modes = refl; news = refl; parties = refl })
 
   pub send-next : Rattle.clauses.proofs.Fits.Fits d → Next st L F w (send n to object) (sendOf st n to object)
   unfolding sendOf sendNumber note noted

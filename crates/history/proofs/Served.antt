@@ -31,8 +31,8 @@ use Rattle.protocol.specs.Proof.Tables.{on, clash}
 use Rattle.history.specs.Ledger.{Ledger, txOf, withPut, withDelivered, noted, note}
 use Rattle.history.proofs.Sim.{Match, Tells, Sim}
 use Rattle.history.proofs.Carry.{by-pool}
-use Rattle.history.proofs.Books.{Past, More, World, found-next}
-use Rattle.history.proofs.Host.{SameTold, objects-still, present-on, same-decided}
+use Rattle.history.proofs.Books.{Past, More, World}
+use Rattle.history.proofs.Host.{fewer}
 use Rattle.history.proofs.Words.{txIn, tx-decoded, word-decoded, header}
 use Rattle.history.proofs.Acts.{Acted}
 use Rattle.history.proofs.Replies.{Said, fetch-reply, ask-reply, outcome-reply}
@@ -57,34 +57,6 @@ kind-cases l n m k P f a o = by (eqb (m .kind) 1) (eqb (m .kind) 3) (eqb (m .kin
     by false true z p q r = a (eqb-true (m .kind) 3 q)
     by false false true p q r = o (eqb-true (m .kind) 5 r)
     by false false false p q r = absurd (let e = sym (k .turn) ∙ out-of-turn l m p q r in clash (cc))
-
-module _ (st : Station) (L : Ledger) (F : Past) (w : World st L F) where
-  -- the pool has fewer messages, or others are on; nothing is put
-  pub fewer : (pool : List (List ℕ)) (up : ℕ) (L' : Ledger) → ((y : List ℕ) → In y pool → In y (st .pool)) → L' .pool ≡ pool → L' .log ≡ L .log
-      → L' .dones ≡ L .dones
-      → L' .puts ≡ L .puts → L' .committed ≡ L .committed → SameTold L L'
-      → World (record { images = st .images; records = st .records; pool = pool; on = up }) L'
-      (More F (record { images = st .images; records = st .records; pool = pool; on = up }))
-  fewer pool up L' sub a b c cp d told =
-      let st' : Station = record { images = st .images; records = st .records; pool = pool; on = up } in
-      let sim' = by-pool st (w .log) (w .sim) pool up (λ y i. inl (sub y i)) in
-      let bk = w .books in
-      record {
-        state = w .state;
-        log = w .log;
-        sim = sim';
-        valid = record { images = w .valid .images; records = w .valid .records; messages = λ y i. w .valid .messages y (sub y i) };
-        books = record {
-          pool-as = a;
-          puts-true = λ z i. bk .puts-true z (subst (In z) cp i);
-          log-as = b ∙ bk .log-as;
-          decided = same-decided st L F w 0 d (told .modes) (told .news) (told .parties);
-          present = λ i. present-on L L' i (st .records i) (st .records i) (objects-still (st .records i)) told (bk .present i);
-          dones = λ z i. bk .dones z (subst (In z) c i);
-          found = found-next F st' (w .state) (w .log) sim' (w .valid .records) (bk .found .still) (bk .found .carried)
-              (λ x t q r. inl (bk .found .had x t q r));
-        };
-      }
 
 module _ (st : Station) (L : Ledger) (F : Past) (w : World st L F) (k : ℕ) (kept : Bool) (b : List ℕ) (is-b : b ≡ getD (st .pool) k [])
     (waits : k < length (st .pool)) where
