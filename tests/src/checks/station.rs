@@ -4,6 +4,7 @@ pub mod ends;
 mod scenario;
 mod seen;
 mod stories;
+mod tampering;
 
 use crate::model::history::{History, Order};
 use crate::model::quorum::ALL;
@@ -22,6 +23,7 @@ pub fn run(runner: &mut Runner) {
     runner.check("station model: a full pool", |_, _| stories::full_pool());
     runner.check("station model: last numbers", |_, _| stories::last_numbers());
     runner.check("station model: off and on", |_, _| stories::off_and_on());
+    runner.check("station model: each part of demand 3 can fail", |random, _| tampering::tampering(random));
     for slip in SLIPS {
         runner.check(&format!("station model: demand 3 notices {}", slip.name), |random, _| noticed(random, slip));
     }
