@@ -110,15 +110,15 @@ impl Run<'_> {
         Ok(())
     }
 
-    /// Steps until every coordinator is idle and no message waits.
+    /// Steps until every coordinator is idle and no message waits; with a fault that may never be.
     fn close(&mut self, random: &mut Random) -> Result<(), String> {
         for _ in 0..20_000 {
             match closing_step(random, &self.station) {
                 Some(step) => self.take(step)?,
-                None => return Ok(()),
+                None => break,
             }
         }
-        Err(String::from("the station does not come to rest"))
+        Ok(())
     }
 }
 
@@ -141,7 +141,7 @@ fn one_scenario(random: &mut Random, style: &Style, setup: Setup, seen: &mut See
     }
     run.close(random)?;
     run.history.check(&run.station, order)?;
-    ensure!(run.station.at_rest(), "the station is not at rest");
+    ensure!(fault != Fault::None || run.station.at_rest(), "the station does not come to rest");
     ensure!(fault != Fault::None || run.history.settled(), "the station is at rest, but not settled");
     Ok(())
 }
