@@ -6,6 +6,7 @@ mod runs;
 mod seen;
 
 use crate::checks::message::records::{change, some_byte, some_node};
+use crate::checks::station::{self, ends::Ends};
 use crate::ffi::coordinator as ffi;
 use crate::model::coordinator::Call;
 use crate::model::message::{self, LONGEST};
@@ -29,7 +30,11 @@ pub fn run(runner: &mut Runner) {
     runner.check("coordinator: the lowest number of several", several_numbers);
     runner.check("coordinator: long runs of one record", runs::long_runs);
     runner.check("coordinator in four threads", threads);
+    runner.check("coordinator: scenarios of the station", |random, rounds| station::scenarios(random, rounds, LIBRARY, 1));
 }
+
+/// The compiled coordinator's calls.
+const LIBRARY: Ends = Ends { host: ffi::host_call, receive: ffi::receive, due: ffi::due };
 
 /// One call of each sort that meets a record, with the node itself most often, or another, or a stranger.
 fn some_try(random: &mut Random, record: &Record, bytes: &[u8], me: u8, seen: &mut Seen) -> Result<Vec<u8>, String> {

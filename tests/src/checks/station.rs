@@ -1,22 +1,29 @@
 //! The model's own station: random scenarios, with demand 3 checked on each, and faults that this check must notice.
 
+pub mod ends;
 mod scenario;
 mod seen;
+mod stories;
+mod tampering;
 
-use crate::model::coordinator::{due_call, host_call, receive_call, Left};
 use crate::model::history::{History, Order};
-use crate::model::message::{self, LONGEST};
 use crate::model::quorum::ALL;
 use crate::model::record::RECORD;
-use crate::model::station::{blank, for_replica, Event, Station, Step, Told, POOL};
+use crate::model::station::{blank, Station, Step};
 use crate::model::{image, number, record, Fault};
 use crate::random::Random;
 use crate::runner::{ensure, Runner, Verdict};
+use ends::{Ends, MODEL};
 use scenario::{closing_step, next_step, some_style, Style};
 use seen::{Case, Seen};
 
 pub fn run(runner: &mut Runner) {
-    runner.check("station model: scenarios", scenarios);
+    runner.check("station model: scenarios", |random, rounds| scenarios(random, rounds, MODEL, 16));
+    runner.check("station model: two conflict", |_, _| stories::conflict());
+    runner.check("station model: a full pool", |_, _| stories::full_pool());
+    runner.check("station model: last numbers", |_, _| stories::last_numbers());
+    runner.check("station model: off and on", |_, _| stories::off_and_on());
+    runner.check("station model: each part of demand 3 can fail", |random, _| tampering::tampering(random));
     for slip in SLIPS {
         runner.check(&format!("station model: demand 3 notices {}", slip.name), |random, _| noticed(random, slip));
     }
@@ -27,72 +34,68 @@ struct Slip {
     name: &'static str,
     fault: Fault,
     order: Order,
+    /// Whether the history checks what 'committed' means, or only (0), (a), (b) and (c).
+    meaning: bool,
     /// What makes a scenario likely to show it.
     point: fn(Style) -> Style,
 }
 
+const fn slip(name: &'static str, fault: Fault, order: Order, meaning: bool, point: fn(Style) -> Style) -> Slip {
+    Slip { name, fault, order, meaning, point }
+}
+
 const SLIPS: &[Slip] = &[
-    Slip { name: "a replica that ignores the holder", fault: Fault::IgnoresHolder, order: Order::Log, point: |style| style },
-    Slip { name: "a replica that ignores the version", fault: Fault::IgnoresVersion, order: Order::Log, point: |style| style },
-    Slip { name: "a commit by a majority", fault: Fault::CommitsByMajority, order: Order::Log, point: |style| style },
-    Slip { name: "a late copy that changes what was found", fault: Fault::TakesLateCopies, order: Order::Log, point: Style::lingering },
-    Slip { name: "the order of decisions", fault: Fault::None, order: Order::Decisions, point: Style::slow_votes },
+    slip("a replica that ignores the holder", Fault::IgnoresHolder, Order::Log, true, |style| style),
+    slip("a replica that ignores the version", Fault::IgnoresVersion, Order::Log, true, |style| style),
+    slip("a commit by a majority", Fault::CommitsByMajority, Order::Log, true, |style| style),
+    slip("a commit by a majority, by (0) to (c) alone", Fault::CommitsByMajority, Order::Log, false, |style| style),
+    slip("a late copy that changes what was found", Fault::TakesLateCopies, Order::Log, true, Style::lingering),
+    slip("the order of decisions", Fault::None, Order::Decisions, true, Style::slow_votes),
 ];
+
+/// What a scenario is run with: a fault or none, what its history checks, and which calls on bytes every how many steps are compared.
+#[derive(Clone, Copy)]
+struct Setup {
+    fault: Fault,
+    order: Order,
+    meaning: bool,
+    ends: Ends,
+    every: usize,
+}
+
+/// The rules as they are.
+const SETUP: Setup = Setup { fault: Fault::None, order: Order::Log, meaning: true, ends: MODEL, every: 16 };
 
 /// One scenario under way.
 struct Run<'a> {
     station: Station,
     history: History,
-    fault: Fault,
+    setup: Setup,
     seen: &'a mut Seen,
 }
 
 impl Run<'_> {
-    fn new(on: u16, fault: Fault, seen: &mut Seen) -> Run<'_> {
+    fn new(on: u16, setup: Setup, seen: &mut Seen) -> Run<'_> {
         seen.start();
-        Run { station: blank(on), history: History::new(on), fault, seen }
+        Run { station: blank(on), history: History::new(on, setup.meaning), setup, seen }
     }
 
     /// One step, counted and fed to the history.
     fn take(&mut self, step: Step) -> Result<(), String> {
         let waiting = self.station.pool.len();
         let before = self.station.clone();
-        let event = self.station.step(step, self.fault);
+        let event = self.station.step(step, self.setup.fault);
         self.seen.count(&before, &event);
         self.seen.count_more(&before, &event, &self.station);
-        if let (Step::Deliver { at, .. }, Err(number), Fault::None) = (&event.step, &event.told, self.fault) {
+        if let (Step::Deliver { at, .. }, Err(number), Fault::None) = (&event.step, &event.told, self.setup.fault) {
             let known = *number == number::POOL_FULL || (*number == number::OUT_OF_TURN && *at >= waiting);
             ensure!(known, "a delivery of {:?} gave {number}", before.pool[*at]);
         }
         ensure!(event.told.is_ok() || self.station == before, "{event:?} was refused and changed something");
-        if self.seen.steps() % 16 == 0 {
-            self.as_bytes(&before, &event)?;
+        if self.setup.fault == Fault::None && self.seen.steps() % self.setup.every == 0 {
+            ends::same(self.setup.ends, &before, &event, &self.station)?;
         }
         self.history.feed(&event, &self.station)
-    }
-
-    /// A step at a coordinator that is on is the same as the call on its record's bytes.
-    fn as_bytes(&self, before: &Station, event: &Event) -> Result<(), String> {
-        let bytes = |station: &Station, node: u8| record::encode(&station.records[usize::from(node)]);
-        let left = |told: &Told, node: u8| Left { answer: told.answer, record: bytes(&self.station, node) };
-        let same = match event.step {
-            Step::Host { node, ref call } if node < 13 && before.is_on(node) => {
-                host_call(&bytes(before, node), node, call) == event.told.as_ref().map(|told| left(told, node)).map_err(|number| *number)
-            }
-            Step::Send { node, to, object } if node < 13 && before.is_on(node) && before.pool.len() < POOL => {
-                let put = event.told.as_ref().map(|told| told.put.as_ref().map(message::encode).unwrap_or_default());
-                due_call(&bytes(before, node), node, to, object, LONGEST) == put.map_err(|number| *number)
-            }
-            Step::Deliver { at, .. } => match (before.pool.get(at), &event.told, self.fault) {
-                (Some(message), Ok(told), Fault::None) if !for_replica(message) && before.is_on(message.to) => {
-                    receive_call(&bytes(before, message.to), message.to, &message::encode(message)) == Ok(left(told, message.to))
-                }
-                _ => true,
-            },
-            _ => true,
-        };
-        ensure!(same, "{event:?} is another on the record's bytes");
-        Ok(())
     }
 
     /// All that is stored is valid, as bytes too.
@@ -107,22 +110,23 @@ impl Run<'_> {
         Ok(())
     }
 
-    /// Steps until every coordinator is idle and no message waits.
+    /// Steps until every coordinator is idle and no message waits; with a fault that may never be.
     fn close(&mut self, random: &mut Random) -> Result<(), String> {
         for _ in 0..20_000 {
             match closing_step(random, &self.station) {
                 Some(step) => self.take(step)?,
-                None => return Ok(()),
+                None => break,
             }
         }
-        Err(String::from("the station does not come to rest"))
+        Ok(())
     }
 }
 
 /// One scenario, then on to rest, with demand 3 checked now and then and at the end.
-fn one_scenario(random: &mut Random, style: &Style, fault: Fault, order: Order, seen: &mut Seen) -> Result<(), String> {
+fn one_scenario(random: &mut Random, style: &Style, setup: Setup, seen: &mut Seen) -> Result<(), String> {
+    let Setup { fault, order, .. } = setup;
     let on = if random.once_in(4) { random.word() & ALL } else { ALL };
-    let mut run = Run::new(on, fault, seen);
+    let mut run = Run::new(on, setup, seen);
     let blank_bytes = record::blank_call(RECORD);
     ensure!(run.station.records.iter().all(|it| Ok(record::encode(it)) == blank_bytes), "a blank station's record is not blank");
     for at in 0..2000 {
@@ -137,18 +141,20 @@ fn one_scenario(random: &mut Random, style: &Style, fault: Fault, order: Order, 
     }
     run.close(random)?;
     run.history.check(&run.station, order)?;
-    ensure!(run.station.at_rest(), "the station is not at rest");
+    ensure!(fault != Fault::None || run.station.at_rest(), "the station does not come to rest");
     ensure!(fault != Fault::None || run.history.settled(), "the station is at rest, but not settled");
     Ok(())
 }
 
-/// Heavy conflict, repeats, losses, switches, aborts and fresh looks: demand 3 holds after all of them.
-fn scenarios(random: &mut Random, rounds: usize) -> Verdict {
+/// Heavy conflict, repeats, losses, switches, aborts and fresh looks: demand 3 holds after all of them. Every so many steps the calls on
+/// bytes are compared with the step.
+pub fn scenarios(random: &mut Random, rounds: usize, ends: Ends, every: usize) -> Verdict {
+    let setup = Setup { ends, every, ..SETUP };
     let mut seen = Seen::default();
     for _ in 0..200 * rounds {
         let point = *random.pick(&[|style| style, |style| style, Style::lingering, Style::slow_votes]);
         let style = point(some_style(random));
-        one_scenario(random, &style, Fault::None, Order::Log, &mut seen)?;
+        one_scenario(random, &style, setup, &mut seen)?;
     }
     let (case, least) = seen.rarest();
     let counted = format!("{}; the rarest ({case}) {least} times", seen.words());
@@ -159,9 +165,10 @@ fn scenarios(random: &mut Random, rounds: usize) -> Verdict {
 /// The check of demand 3 ends some scenario in which this is wrong.
 fn noticed(random: &mut Random, slip: &Slip) -> Verdict {
     let mut seen = Seen::default();
+    let setup = Setup { fault: slip.fault, order: slip.order, meaning: slip.meaning, ..SETUP };
     for scenario in 1..=400 {
         let style = (slip.point)(some_style(random));
-        if let Err(wrong) = one_scenario(random, &style, slip.fault, slip.order, &mut seen) {
+        if let Err(wrong) = one_scenario(random, &style, setup, &mut seen) {
             ensure!(wrong.starts_with('('), "another thing than demand 3 ended it: {wrong}");
             return Ok(format!("in scenario {scenario}, after {} commits: {wrong}", seen.of(Case::Committed)));
         }

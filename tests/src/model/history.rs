@@ -71,6 +71,8 @@ pub struct History {
     pub committed: Vec<Name>,
     /// The new values that committed transactions gave each object.
     given: [BTreeSet<i64>; OBJECTS],
+    /// Whether it is checked what 'committed' means; the tests of the other parts leave this one out.
+    meaning: bool,
 }
 
 fn name_of(message: &Message) -> Name {
@@ -88,9 +90,9 @@ fn read_quorums() -> &'static [u16] {
 }
 
 impl History {
-    pub fn new(on: u16) -> History {
+    pub fn new(on: u16, meaning: bool) -> History {
         let given = std::array::from_fn(|_| BTreeSet::new());
-        History { pool: vec![], on, serials: [0; NODES], stories: BTreeMap::new(), log: vec![], committed: vec![], given }
+        History { pool: vec![], on, serials: [0; NODES], stories: BTreeMap::new(), log: vec![], committed: vec![], given, meaning }
     }
 
     /// The transaction that an owner began last.
@@ -171,7 +173,7 @@ impl History {
         story.lost |= message.kind == kind::VOTE && takes_part && message.words != [YES];
         story.lost |= message.kind == kind::YIELD && message.rivals[0].serial == name.serial;
         let says = told.answer == Brought::Committed as i64;
-        ensure!(commits == says, "(committed) {name:?}: {message:?} was answered with {}", told.answer);
+        ensure!(commits == says || !self.meaning, "(committed) {name:?}: {message:?} was answered with {}", told.answer);
         if says {
             self.commit(name);
         }
