@@ -220,7 +220,8 @@ module _ (st : Station) (σ : State ℕ) (log : List Tx) (sim : Sim st σ log) (
     at-node = put-same (st .images) n i₁
 
     -- an image whose copies are those before, in value and version, against the listed one; and its holders
-    copies-of : (i j : List ℕ) → j ≡ i₁ → ((t : ℕ) → t < shape .objects → (copyOf i t .value ≡ copyOf l t .value) × (copyOf i t .version ≡ copyOf l t .version))
+    copies-of : (i j : List ℕ) → j ≡ i₁ → ((t : ℕ) → t < shape .objects → (copyOf i t .value ≡ copyOf l t .value) ×
+        (copyOf i t .version ≡ copyOf l t .version))
         → SameCopies j i
     copies-of i j e h = copies-from j i (λ t p.
         let c = h t p in
