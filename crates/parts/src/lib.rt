@@ -1,0 +1,1 @@
+// No code: a part of lent bytes, and what its lender has when it comes back.
