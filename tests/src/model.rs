@@ -1,4 +1,4 @@
-//! The second model: the rules once more, written from document 01 alone and for plainness, to be compared with the library.
+//! The second model: the rules once more, written from document 01 and for plainness, to be compared with the library.
 //!
 //! A module for each part of the rules. Speed does not matter here; a reader compares each function with a sentence.
 
