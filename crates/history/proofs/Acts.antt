@@ -1,10 +1,10 @@
 -- A message at a replica is none, one or two transitions there. A fetch or a first ask lists the transaction; then the copy is sent, or the vote given.
 use mathlib.Core.Path.{_≡_, refl, sym, _∙_, ap, subst}
 use mathlib.Core.Logic.{_≢_, _⊎_, inl, inr, by-cases}
-use mathlib.Core.Bool.{Bool, true, false, cond, _&&_, _||_}
+use mathlib.Core.Bool.{Bool, true, false, cond}
 use mathlib.Core.List.{List, _∷_}
 use mathlib.Core.Option.{none, some}
-use Prim.Native.Nat.{ℕ, suc, _+_, _<_, _≤_}
+use Prim.Native.Nat.{ℕ, suc, _<_, _≤_}
 use native.Mathlib.Decide.{ℕ-discrete}
 use native.Mathlib.Numerals.{add-one}
 use native.Mathlib.Omega.{arith}
@@ -13,7 +13,7 @@ use borrow.Author.Tests.{eqb-true, eqb-false, ltb-true, ltb-false, eq-eqb, ne-eq
 use Rattle.image.proofs.Each.{lt-or-le}
 use Rattle.wire.specs.declared.Entry.{Entry}
 use Rattle.wire.specs.Message.{Message}
-use Rattle.wire.specs.Formed.{wordOf, between, countsOk, wellFormed}
+use Rattle.wire.specs.Formed.{wordOf}
 use Rattle.image.specs.declared.Copy.{Copy}
 use Rattle.image.specs.declared.Owner.{Owner}
 use Rattle.image.specs.Layout.{shape, owners, value, version, holder, serial, state, copyOf, ownerOf}
@@ -21,26 +21,25 @@ use Rattle.image.specs.Layout.{versionField, valueField}
 use Rattle.image.specs.Valid.{nobody}
 use Rattle.image.specs.Change.{freeing}
 use Rattle.image.proofs.Lens.{of-out}
-use Rattle.image.proofs.Sound.{Sound}
 use Rattle.replica.specs.Standing.{aboveOf, standing, active, entered}
-use Rattle.replica.specs.Judge.{votesNo, newerHere}
-use Rattle.replica.specs.Steps.{wanted, fetchImage, askImage, outcomeImage}
+use Rattle.replica.specs.Judge.{votesNo}
+use Rattle.replica.specs.Steps.{fetchImage, askImage, outcomeImage}
 use Rattle.replica.proofs.Delivered.{entries-of, commit-raises}
 use Rattle.replica.proofs.Fields.{restated, ownerWith, holderIn}
 use Rattle.replica.proofs.Holders.{yes-passes, yes-only-free}
 use Rattle.replica.proofs.Commits.{version-rises, commit-writes, commit-others}
 use Rattle.replica.proofs.Kept.{keeps-entered, fresh-state, or-split}
-use Rattle.replica.proofs.Taken.{Taken, fetch-still, ask-still}
+use Rattle.replica.proofs.Taken.{Taken}
 use Rattle.replica.proofs.After.{here-last, listedOwner, entered-copy, entered-owner, fetch-copy, fetch-owner, no-copy, no-owner, yes-copy, yes-owner}
 use Rattle.replica.proofs.After.{commit-copy, abort-copy, outcome-owner, early-copy, early-owner}
 use Rattle.station.specs.Station.{Station, putAt, withImage}
 use Rattle.protocol.specs.Table.{pick, In}
-use Rattle.protocol.specs.State.{Tx, Tx-discrete, fresh, committed, aborted, over, listed, held, refused, History, State, Writes, Touches, Held}
+use Rattle.protocol.specs.State.{Tx, Tx-discrete, fresh, committed, aborted, over, listed, held, History, State, Writes, Touches, Held}
 use Rattle.protocol.specs.Transitions.{doList, CanList, list, doCopy, copy, doNo, voteNo, doYes, CanYes, voteYes, doApply, CanApply, apply, doDrop, CanDrop}
 use Rattle.protocol.specs.Transitions.{drop}
 use Rattle.protocol.specs.Log.{logged}
 use Rattle.protocol.specs.Tree.{tree-free}
-use Rattle.protocol.specs.Proof.Tables.{on, clash, put2-here}
+use Rattle.protocol.specs.Proof.Tables.{on, put2-here}
 use Rattle.protocol.specs.Proof.Yes.{first-yes}
 use Rattle.protocol.specs.Refine.Holders.{nobody-else}
 use Rattle.protocol.specs.Refine.Growth.{Late, Grows, step-grows, grows-same, grows-then}
@@ -49,7 +48,7 @@ use Rattle.history.proofs.Sim.{stateOf, holderOf, holders, Match, Sim}
 use Rattle.history.proofs.Words.{txIn}
 use Rattle.history.proofs.Rows.{SameCopies, OneOwner, sim-lists, sim-listed, sim-sent, sim-refused, sim-held, sim-applied, sim-dropped, sim-twice}
 use Rattle.history.proofs.Images.{copies-from, holders-from, owner-from, holder-some, holder-none, all-in, small-object, its-entry, written-in, not-in}
-use Rattle.history.proofs.Images.{holder-taken, holder-left, freed-from, and-true}
+use Rattle.history.proofs.Images.{holder-taken, holder-left, freed-from}
 
 -- ---- standings
 fresh-by : (a b : Bool) (st : ℕ) → st ≤ 3 → cond a (aboveOf st) (cond b st 0) ≡ 4 → a ≡ true
@@ -89,22 +88,6 @@ pub late-standing : (l : List ℕ) (m : Message) → standing l m ≡ 0 → (m .
 unfolding standing
 late-standing l m e = late-by (ltb (serial l (m .owner)) (m .serial)) (eqb (serial l (m .owner)) (m .serial)) (state l (m .owner)) (serial l (m .owner))
     (m .serial) refl refl e
-
--- the word of an outcome is 0 or 1
-word-by : (b c : Bool) (w : ℕ) (e : Bool) → eqb w 1 ≡ b → (cond b e (eqb w 0 && c)) ≡ true → (w ≡ 0) ⊎ (w ≡ 1)
-word-by true c w e q f = inr (eqb-true w 1 q)
-word-by false c w e q f = inl (eqb-true w 0 (and-true (eqb w 0) c f .0))
-
-outcome-counts : (kind entries rivals words w : ℕ) → kind ≡ 5 → countsOk kind entries rivals words w ≡ true
-    → (cond (eqb w 1) (between 1 8 entries) (eqb w 0 && eqb entries 0) && (eqb rivals 0 && eqb words 1)) ≡ true
-unfolding countsOk
-outcome-counts kind entries rivals words w e f = subst (λ (k : ℕ). countsOk k entries rivals words w ≡ true) e f
-
-pub outcome-word : (m : Message) → wellFormed m ≡ true → m .kind ≡ 5 → (wordOf m ≡ 0) ⊎ (wordOf m ≡ 1)
-unfolding wellFormed
-outcome-word m f e =
-    let a = and-true _ _ (outcome-counts (m .kind) _ _ _ (wordOf m) e (and-true (countsOk (m .kind) _ _ _ (wordOf m)) _ f .0)) .0 in
-    word-by (eqb (wordOf m) 1) _ (wordOf m) _ refl a
 
 -- what is read at the node whose image was changed
 pub put-same : {A : Type 0} (f : ℕ → A) (n : ℕ) (v : A) → putAt f n v n ≡ v

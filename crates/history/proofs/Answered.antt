@@ -1,70 +1,44 @@
 -- A message delivered at a coordinator, with what the events tell. By the cases of crate clauses: each step that a delivery can be, with its reason.
 use mathlib.Core.Path.{_≡_, refl, sym, _∙_, ap, subst}
-use mathlib.Core.Logic.{_≢_, _⊎_, inl, inr}
-use mathlib.Core.Bool.{Bool, true, false, cond, _&&_, _||_}
+use mathlib.Core.Bool.{Bool, true, false, cond}
 use mathlib.Core.List.{List, [], _∷_}
 use mathlib.Core.Option.{none}
-use Prim.Native.Nat.{ℕ, zero, suc, _<_, _≤_}
+use Prim.Native.Nat.{ℕ, zero, suc, _<_}
 use native.Mathlib.Omega.{arith}
-use lib.Dec.{T, eqb, ltb, leb}
+use lib.Dec.{T, eqb}
 use lib.ListN.{length, getD}
-use borrow.Author.Tests.{eqb-true, eq-eqb, ne-eqb, lt-ltb}
-use Rattle.mask.specs.Mask.{contains, only, joined, within}
+use borrow.Author.Tests.{eq-eqb, ne-eqb, lt-ltb}
+use Rattle.mask.specs.Mask.{within}
 use Rattle.mask.proofs.Tests.{T-true}
-use Rattle.wire.specs.declared.Entry.{Entry}
-use Rattle.wire.specs.Message.{Message, vote}
-use Rattle.wire.specs.Formed.{countsOk, wellFormed}
-use Rattle.wire.specs.Decode.{kindOf, fromOf, ownerOf, serialOf, decode, checkOf}
-use Rattle.wire.specs.Items.{entryOf, wordOf}
+use Rattle.wire.specs.Decode.{fromOf}
+use Rattle.wire.specs.Items.{entryOf}
 use Rattle.coordinator.specs.declared.Coordinator.{Coordinator}
 use Rattle.coordinator.specs.declared.Step.{Step}
 use Rattle.coordinator.specs.System.{tree}
-use Rattle.coordinator.specs.State.{eight, votingPhase, finishingPhase, aborted, placeOf, objectAt, isOpen, ready, awaited, idleAfter}
+use Rattle.coordinator.specs.State.{eight, votingPhase, finishingPhase, placeOf, ready, awaited, idleAfter}
 use Rattle.coordinator.specs.Calls.{withPhase, endedAborted}
-use Rattle.coordinator.specs.Receive.{brought, receiveOf}
+use Rattle.coordinator.specs.Receive.{brought}
 use Rattle.clauses.proofs.Facts.{Meets}
+use Rattle.clauses.proofs.Parts.{T-false}
 use Rattle.clauses.proofs.Sets.{node-known}
 use Rattle.clauses.proofs.Messages.{vote-owner}
 use Rattle.clauses.proofs.Deliver.{receive-keeps}
-use Rattle.clauses.proofs.Deliveries.{CopyFitting, YesFitting, DoneFitting, Aborts, Endings, OpenOrVoting, copiedObject, afterCopy, saidYes, named, saidDone}
-use Rattle.clauses.proofs.Deliveries.{Deliveries, receive-cases}
+use Rattle.clauses.proofs.Deliveries.{CopyFitting, YesFitting, DoneFitting, OpenOrVoting, copiedObject, afterCopy, saidYes, named, saidDone}
+use Rattle.clauses.proofs.Deliveries.{receive-cases}
 use Rattle.station.specs.Station.{Station, withRecord, without}
 use Rattle.station.specs.Step.{delivery, Outcome, refusedWith, taken, takenOut, atCoordinator}
 use Rattle.protocol.specs.Table.{In}
 use Rattle.protocol.specs.State.{Tx, tx-path}
-use Rattle.protocol.specs.Proof.Tables.{on, clash}
+use Rattle.protocol.specs.Proof.Tables.{on}
 use Rattle.history.specs.Ledger.{Ledger, txOf, withPut, withDelivered, noted, note}
 use Rattle.history.proofs.Sim.{tx}
 use Rattle.history.proofs.Quiet.{yes-owner, done-owner}
 use Rattle.history.proofs.Books.{Past, More, World, changed}
 use Rattle.history.proofs.Host.{SameTold, objects-still, same-world, copy-world}
 use Rattle.history.proofs.Turns.{abort-world, commit-world, idle-world}
-use Rattle.history.proofs.Words.{word-decoded, formed-of, header}
-use Rattle.history.proofs.Images.{and-true}
+use Rattle.history.proofs.Words.{word-known}
 use Rattle.history.proofs.Arrive.{in-left, in-place}
 use Rattle.history.proofs.Calls.{Next, refused-next}
-
--- ---- the word of a vote is 0 or 1
-word-by : (b c : Bool) (w : ℕ) (e : Bool) → eqb w 1 ≡ b → (cond b e (eqb w 0 && c)) ≡ true → (w ≡ 0) ⊎ (w ≡ 1)
-word-by true c w e q f = inr (eqb-true w 1 q)
-word-by false c w e q f = inl (eqb-true w 0 (and-true (eqb w 0) c f .0))
-
-vote-counts : (kind entries rivals words w : ℕ) → kind ≡ 4 → countsOk kind entries rivals words w ≡ true
-    → (cond (eqb w 1) (leb rivals 12) (eqb w 0 && eqb rivals 0) && (eqb entries 0 && eqb words 1)) ≡ true
-unfolding countsOk
-vote-counts kind entries rivals words w e f = subst (λ (k : ℕ). countsOk k entries rivals words w ≡ true) e f
-
-vote-word : (b : List ℕ) → checkOf b ≡ 0 → kindOf b ≡ vote → (wordOf b ≡ 0) ⊎ (wordOf b ≡ 1)
-unfolding wellFormed
-vote-word b e k =
-    let m = decode b in
-    let d = Rattle.wire.specs.Formed.wordOf m in
-    let a = and-true _ _ (vote-counts (m .kind) _ _ _ d (header b .0 ∙ k) (and-true (countsOk (m .kind) _ _ _ d) _ (formed-of b e) .0)) .0 in
-    on (word-by (eqb d 1) _ d _ refl a) (λ q. inl (word-decoded b ∙ q)) (λ q. inr (word-decoded b ∙ q))
-
-not-T-false : (b : Bool) → (T b → ⊥) → b ≡ false
-not-T-false true f = absurd (f tt)
-not-T-false false f = refl
 
 module _ (st : Station) (L : Ledger) (F : Past) (w : World st L F) (k : ℕ) (kept : Bool) (n : ℕ) (b : List ℕ) (is-b : b ≡ getD (st .pool) k [])
     (waits : k < length (st .pool)) where
@@ -121,7 +95,7 @@ module _ (st : Station) (L : Ledger) (F : Past) (w : World st L F) (k : ℕ) (ke
       let answer : ℕ = cond (ready tree (copiedObject c b)) 3 0 in
       go answer (afterCopy c b)
       (copy-world st L F w n (f .answer .in-phase) (fromOf b) (entryOf b 0) (lt-ltb (placeOf c (entryOf b 0 .object)) eight (f .is-open))
-      (not-T-false _ (f .not-ready)) (w .sim .waits b in-pool .a-copy (f .answer .its-kind)) pool (told answer) (same-told answer) m sub refl refl
+      (T-false _ (f .not-ready)) (w .sim .waits b in-pool .a-copy (f .answer .its-kind)) pool (told answer) (same-told answer) m sub refl refl
       (no-commit (ready tree (copiedObject c b))) refl refl)
 
   -- an abort
@@ -148,7 +122,7 @@ module _ (st : Station) (L : Ledger) (F : Past) (w : World st L F) (k : ℕ) (ke
     names-it = tx-path (txOf b) (tx n (c .serial)) (vote-owner n b (f .answer .taken) (f .answer .its-kind)) (f .answer .its-serial)
 
     was-yes : w .state .votes .yes (fromOf b) (tx n (c .serial)) ≡ true
-    was-yes = on (vote-word b (f .answer .taken .checked) (f .answer .its-kind)) (λ q. absurd (f .says-yes q))
+    was-yes = on (word-known b (f .answer .taken .checked) (f .answer .its-kind)) (λ q. absurd (f .says-yes q))
         (λ q. subst (λ (x : Tx). w .state .votes .yes (fromOf b) x ≡ true) names-it (w .sim .waits b in-pool .a-yes (f .answer .its-kind) q))
 
     from-small : fromOf b < 16

@@ -1,12 +1,12 @@
 -- A replica's answers fit their bytes, and its image stays bytes: so an answer in the pool decodes to itself.
 use mathlib.Core.Path.{_≡_, refl, sym, _∙_, ap, subst}
-use mathlib.Core.Logic.{_⊎_, inl, inr, by-cases}
+use mathlib.Core.Logic.{by-cases}
 use mathlib.Core.Bool.{Bool, true, false, cond}
 use mathlib.Core.List.{List, [], _∷_, _++_}
 use Prim.Native.Nat.{ℕ, zero, suc, _+_, _^_, _<_, _≤_}
 use native.Mathlib.Decide.{ℕ-discrete}
 use native.Mathlib.Omega.{arith}
-use lib.Dec.{eqb, ltb, lit<}
+use lib.Dec.{eqb, lit<}
 use lib.ListN.{length, getD, set, replicate}
 use lib.Seq.{getD-set-same, getD-set-other, set-out}
 use Rattle.mask.specs.Mask.{contains}
@@ -17,7 +17,7 @@ use Rattle.wire.specs.Message.{Message}
 use Rattle.wire.specs.Encode.{All, EntryFits, RivalFits, Fits}
 use Rattle.wire.specs.Formed.{wordOf}
 use Rattle.wire.specs.Write.{rivalsBy}
-use Rattle.image.specs.Layout.{shape, owners, valueField, versionField, holderField, readersField, writersField, serialField, stateField, stampField, value}
+use Rattle.image.specs.Layout.{shape, valueField, versionField, holderField, readersField, writersField, serialField, stateField, stampField, value}
 use Rattle.image.specs.Layout.{version, serial}
 use Rattle.image.specs.Change.{withOwner, withSerial, withState, withValue, free, unlist}
 use Rattle.image.proofs.Each.{lt-or-le}

@@ -1,42 +1,36 @@
 -- A message delivered at a replica, with what the events tell: pool, log and dones. Records and history stay.
 use mathlib.Core.Path.{_≡_, refl, sym, _∙_, ap, subst}
-use mathlib.Core.Logic.{_≢_, _⊎_, inl, inr}
+use mathlib.Core.Logic.{_⊎_, inl, inr}
 use mathlib.Core.Bool.{Bool, true, false, cond, _&&_}
 use mathlib.Core.List.{List, [], _∷_, _++_}
 use mathlib.Core.Option.{Option, none, some}
 use Prim.Native.Nat.{ℕ, zero, suc, _+_, _<_}
 use native.Mathlib.Omega.{arith}
-use lib.Dec.{eqb}
 use lib.ListN.{length, getD, take, drop}
 use Rattle.octets.proofs.Laws.{Bytes}
 use Rattle.wire.specs.Message.{Message}
-use Rattle.wire.specs.Formed.{wordOf}
 use Rattle.wire.specs.Encode.{encode}
 use Rattle.wire.specs.Decode.{kindOf, fromOf, decode}
 use Rattle.image.proofs.Sound.{Sound}
-use Rattle.replica.specs.Steps.{Answer, silent, says}
 use Rattle.replica.specs.Receive.{step}
 use Rattle.replica.proofs.Kept.{keeps-step}
 use Rattle.replica.proofs.Taken.{Taken}
-use Rattle.coordinator.specs.System.{tree}
-use Rattle.clauses.proofs.Facts.{Meets}
 use Rattle.station.specs.Station.{Station, putAt, withImage, without}
 use Rattle.protocol.specs.Table.{In}
-use Rattle.protocol.specs.Rules.{Mode}
-use Rattle.protocol.specs.State.{Tx, fresh, voting, committed, Contents, History, State}
+use Rattle.protocol.specs.State.{Tx, Contents, History, State}
 use Rattle.protocol.specs.Proof.Tables.{on}
 use Rattle.protocol.specs.Refine.Growth.{Late}
 use borrow.Author.Tests.{eqb-true}
-use Rattle.history.proofs.Images.{and-true}
+use Rattle.history.proofs.Tests.{and-true}
 use Rattle.history.specs.Ledger.{Done, Ledger, txOf, isCommit, isDone, poolPut, logPut, donesPut, withPut, withDelivered}
-use Rattle.history.proofs.Sim.{Tells, Sim}
+use Rattle.history.proofs.Sim.{Tells}
 use Rattle.history.proofs.Carry.{put-all, onward, tells-on, by-pool}
-use Rattle.history.proofs.Books.{Decided, Present, Past, More, Asked, Valid, World, found-next}
+use Rattle.history.proofs.Books.{Decided, Past, More, Asked, Valid, World, found-next}
 use Rattle.history.proofs.Host.{SameTold, objects-still, present-on}
 use Rattle.history.proofs.Words.{txIn, kind-of, from-of, tx-decoded}
 use Rattle.history.proofs.Acts.{Acted}
 use Rattle.history.proofs.Answers.{bytes-step}
-use Rattle.history.proofs.Replies.{Heard, Said}
+use Rattle.history.proofs.Replies.{Heard}
 
 -- ---- lists
 pub in-append : {A : Type 0} (x : A) (a b : List A) → In x (a ++ b) → In x a ⊎ In x b

@@ -1,24 +1,23 @@
 -- What the events tell against the abstract state: pool, serials and log; which transactions committed, and with what contents; the dones; and what
 -- was found so far (F: the transaction found the value for the object after some earlier step).
 use mathlib.Core.Path.{_≡_, refl, sym, _∙_, ap, subst}
-use mathlib.Core.Logic.{_≢_, _⊎_, inl, inr}
+use mathlib.Core.Logic.{_≢_, _⊎_, inl}
 use mathlib.Core.Bool.{Bool, true, false, cond}
 use mathlib.Core.List.{List}
 use Prim.Native.Nat.{ℕ, zero, suc, _<_, _≤_}
 use native.Mathlib.Omega.{arith}
 use lib.Dec.{eqb}
-use lib.ListN.{length}
 use Rattle.mask.specs.Mask.{contains}
 use Rattle.octets.proofs.Laws.{Bytes}
 use Rattle.image.proofs.Sound.{Sound}
 use Rattle.coordinator.specs.declared.Coordinator.{Coordinator}
 use Rattle.coordinator.specs.System.{tree}
-use Rattle.coordinator.specs.State.{idlePhase, openPhase, votingPhase, finishingPhase, objectAt, isOpen, ready}
-use Rattle.clauses.proofs.Facts.{Meets, Agreed}
+use Rattle.coordinator.specs.State.{idlePhase, openPhase, votingPhase, finishingPhase, objectAt}
+use Rattle.clauses.proofs.Facts.{Meets}
 use Rattle.station.specs.Station.{Station, putAt}
 use Rattle.protocol.specs.Table.{In}
 use Rattle.protocol.specs.Rules.{unused, read, write}
-use Rattle.protocol.specs.State.{Tx, fresh, voting, committed, aborted, Contents, Ends, History, State}
+use Rattle.protocol.specs.State.{Tx, fresh, voting, committed, Contents, History, State}
 use Rattle.protocol.specs.Refine.Growth.{Late}
 use Rattle.protocol.specs.Proof.Tables.{on, clash}
 use Rattle.history.specs.Ledger.{Done, Ledger}

@@ -1,6 +1,6 @@
 -- Each host call at a station: refused, nothing changes and nothing is told; taken, the record and what is told of it go together.
 use mathlib.Core.Path.{_≡_, refl, sym, _∙_, ap, subst}
-use mathlib.Core.Logic.{_≢_, _⊎_, inl, inr}
+use mathlib.Core.Logic.{_⊎_}
 use mathlib.Core.Bool.{Bool, true, false, cond, not, _||_}
 use mathlib.Core.List.{List, [], _∷_}
 use mathlib.Core.Option.{none}
@@ -31,22 +31,15 @@ use Rattle.clauses.proofs.Keep.{begin-keeps, open-keeps, set-keeps, reselect-ke
 use Rattle.station.specs.Station.{Station, withRecord}
 use Rattle.station.specs.Step.{Call, begin, openRead, openWrite, setValue, found, reselect, requestCommit, abort, Outcome, refusedWith, whenOff, hosted}
 use Rattle.station.specs.Run.{eventOf}
-use Rattle.protocol.specs.Proof.Tables.{on, clash}
+use Rattle.protocol.specs.Proof.Tables.{on}
 use Rattle.history.specs.Ledger.{Ledger, withMode, noted, note}
+use Rattle.replica.proofs.Delivered.{or-neither}
+use Rattle.history.proofs.Tests.{not-false}
 use Rattle.history.proofs.Books.{Past, More, World}
 use Rattle.history.proofs.Quiet.{reselect-owner}
 use Rattle.history.proofs.Sim.{modeOf}
 use Rattle.history.proofs.Host.{again, begin-world, open-world, set-world, same-world, SameTold, SameObjects, objects-still}
 use Rattle.history.proofs.Turns.{request-world, abort-world}
-
--- the negation that a refusal does not fit
-pub not-false : (b : Bool) → not b ≡ false → b ≡ true
-not-false true e = refl
-not-false false e = absurd (let z : true ≡ false = e in clash (cc))
-
-pub or-false : (a b : Bool) → (a || b) ≡ false → (a ≡ false) × (b ≡ false)
-or-false true b e = absurd (let z : true ≡ false = e in clash (cc))
-or-false false b e = (refl, e)
 
 -- the record after a call whose refusals do not fit
 zero-first : (rs : List Refusal) → Clear rs → firstOf rs ≡ 0
@@ -141,7 +134,7 @@ module _ (st : Station) (L : Ledger) (F : Past) (w : World st L F) where
         let rs = openRefusals d n t in
         host-next n call rs 0 (opened d t mode) tt (λ k.
         subst (λ (L' : Ledger). World (withRecord st n (opened d t mode)) L' (More F (withRecord st n (opened d t mode)))) (sym (says 0))
-        (open-world st L F w n (eqb-true (d .phase) openPhase (not-false _ (k .1 .0))) t mode (or-false (not (ltb t 64)) (isOpen d t) (k .1 .1 .0) .1)
+        (open-world st L F w n (eqb-true (d .phase) openPhase (not-false _ (k .1 .0))) t mode (or-neither (not (ltb t 64)) (isOpen d t) (k .1 .1 .0) .1)
         (ltb-true (d .count) eight (not-false _ (k .1 .1 .1 .0)))
         (subst (Meets tree) (taken-record rs 0 d (opened d t mode) k) (open-keeps tree tree-quorums d n md t mode small))))
 
@@ -159,7 +152,7 @@ module _ (st : Station) (L : Ledger) (F : Past) (w : World st L F) where
         let rs = setRefusals d n t in
         host-next n (setValue n t v) rs 0 (withNew d t v) tt (λ k.
         set-world st L F w n (eqb-true (d .phase) openPhase (not-false _ (k .1 .0))) t
-        (not-false (isOpen d t) (or-false (not (isOpen d t)) (eqb (objectAt d t .mode) 0) (k .1 .1 .0) .0)) v
+        (not-false (isOpen d t) (or-neither (not (isOpen d t)) (eqb (objectAt d t .mode) 0) (k .1 .1 .0) .0)) v
         (subst (Meets tree) (taken-record rs 0 d (withNew d t v) k) (set-keeps tree tree-quorums d n md t v)))
 
     pub found-next' : (t : ℕ) → Next (found n t) (hosted st n (foundOf tree d n t))

@@ -10,16 +10,16 @@ use lib.ListN.{getD}
 use borrow.Author.Tests.{eqb-true, eqb-false}
 use Rattle.coordinator.specs.declared.Coordinator.{Coordinator}
 use Rattle.coordinator.specs.State.{noObject}
-use Rattle.station.specs.Station.{Station, putAt, withRecord, withPool, without, sent}
+use Rattle.station.specs.Station.{Station, putAt, sent}
 use Rattle.protocol.specs.Table.{In}
-use Rattle.protocol.specs.State.{Tx, fresh, committed, Contents, Copy, Votes, History, Chain, State}
+use Rattle.protocol.specs.State.{Tx, fresh, Contents, Copy, Votes, History, Chain, State}
 use Rattle.protocol.specs.Transitions.{byCoordinator, Step}
 use Rattle.protocol.specs.Log.{logged}
-use Rattle.protocol.specs.Proof.Tables.{on, clash}
+use Rattle.protocol.specs.Proof.Tables.{on}
 use Rattle.protocol.specs.Proof.AskAbort.{Forward, committed-asked}
 use Rattle.protocol.specs.Refine.Growth.{Grows, history-same}
 use Rattle.protocol.specs.Refine.Holders.{shown, holders-as-read}
-use Rattle.protocol.specs.Refine.Simulate.{Kept, step-kept}
+use Rattle.protocol.specs.Refine.Simulate.{step-kept}
 use Rattle.history.proofs.Quorums.{rules, top}
 use Rattle.history.proofs.Sim.{tx, WasSent, Owner, Match, Tells, Read, holders, Sim}
 

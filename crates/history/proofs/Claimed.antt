@@ -1,12 +1,12 @@
 -- What a good history and state has: the claims of demand 3, carried over from the abstract state. Then the theorem over every list of steps.
 use mathlib.Core.Path.{_≡_, refl, sym, _∙_, ap, subst}
 use mathlib.Core.Logic.{_≢_, _⊎_, inl, inr}
-use mathlib.Core.Bool.{Bool, true, false, cond, not, _||_}
+use mathlib.Core.Bool.{Bool, true, false, cond}
 use mathlib.Core.List.{List, [], _∷_}
 use Prim.Native.Nat.{ℕ, _<_, _≤_}
 use native.Mathlib.Omega.{arith}
-use lib.Dec.{eqb, ltb}
-use borrow.Author.Tests.{eqb-true, eqb-false, ltb-true, eq-eqb, ne-eqb}
+use lib.Dec.{eqb}
+use borrow.Author.Tests.{eqb-true, eqb-false, ltb-true, eq-eqb}
 use Rattle.mask.specs.Mask.{contains}
 use Rattle.numbers.specs.Refusal.{firstOf}
 use Rattle.quorum.specs.declared.Kind.the-variants.{Read}
@@ -16,10 +16,8 @@ use Rattle.wire.specs.Message.{ask, outcome}
 use Rattle.wire.specs.Decode.{kindOf, decode}
 use Rattle.wire.specs.Items.{wordOf}
 use Rattle.image.specs.Layout.{shape, value, version, versionField}
-use Rattle.image.specs.Blank.{blankAs}
 use Rattle.image.proofs.Blanks.{blank-zero}
 use Rattle.image.proofs.Each.{lt-or-le}
-use Rattle.coordinator.specs.declared.Object.{Object}
 use Rattle.coordinator.specs.declared.Coordinator.{Coordinator}
 use Rattle.coordinator.specs.declared.Step.{Step}
 use Rattle.coordinator.specs.System.{tree}
@@ -29,24 +27,25 @@ use Rattle.coordinator.proofs.Refusals.{clear}
 use Rattle.clauses.proofs.Places.{place-open}
 use Rattle.station.specs.Station.{Station, withRecord}
 use Rattle.station.specs.Step.{Call, found, Outcome, refusedWith, taken, hosted, whenOff, step}
-use Rattle.station.specs.Run.{eventOf, after, trace}
+use Rattle.station.specs.Run.{after}
 use Rattle.protocol.specs.Table.{In, Suffix, times, select}
-use Rattle.protocol.specs.Rules.{Mode, unused, write}
-use Rattle.protocol.specs.State.{Tx, Tx-discrete, fresh, committed, Contents, State}
+use Rattle.protocol.specs.Rules.{unused, write}
+use Rattle.protocol.specs.State.{Tx, Tx-discrete, committed, State}
 use Rattle.protocol.specs.Replay.{replay, given, committed?}
 use Rattle.protocol.specs.Claims.{AllApplied, Claims}
 use Rattle.protocol.specs.Log.{BaseClaims}
 use Rattle.protocol.specs.Proof.Tables.{on, clash}
-use Rattle.protocol.specs.Proof.Lists.{select-ext, given-ext, replay-ext, in-select, suffix-whole, suffix-tail}
+use Rattle.protocol.specs.Proof.Lists.{select-ext, given-ext, replay-ext, in-select, suffix-tail}
 use Rattle.protocol.specs.Proof.Core.{claims, committed-good}
 use Rattle.protocol.specs.Proof.Log.{base-claims}
 use Rattle.protocol.specs.Refine.Messages.{done-applied}
-use Rattle.history.specs.Ledger.{Done, Ledger, nothingYet, note, ledger, txOf, current, in?, fed, turn, givenTo, lastValue}
+use Rattle.history.specs.Ledger.{Ledger, ledger, txOf, in?, fed, turn, givenTo, lastValue}
 use Rattle.history.specs.Claims.{Typed, Shows, Finds, Carries, Settled, Newest, reached, told, Demand3}
 use Rattle.history.proofs.Quorums.{quorums, rules, top, of-mask}
-use Rattle.history.proofs.Sim.{tx, contentsOf, Match, Owner, Sim}
-use Rattle.history.proofs.Books.{Decided, Present, Past, More, World}
-use Rattle.history.proofs.Calls.{off-number, not-false}
+use Rattle.history.proofs.Sim.{tx, Match}
+use Rattle.history.proofs.Books.{Decided, Past, More, World}
+use Rattle.history.proofs.Tests.{not-false}
+use Rattle.history.proofs.Calls.{off-number}
 use Rattle.history.proofs.Theorem.{Good, good-next, good-past, blank-good}
 
 module _ (st : Station) (L : Ledger) (F : Past) (g : Good st L F) where

@@ -6,37 +6,31 @@ use mathlib.Core.Bool.{Bool, true, false, cond}
 use mathlib.Core.List.{List}
 use Prim.Native.Nat.{ℕ, _<_}
 use native.Mathlib.Omega.{arith}
-use lib.Dec.{T, eqb}
-use lib.ListN.{getD}
+use lib.Dec.{eqb}
 use Rattle.mask.specs.Mask.{contains, only, joined, within}
 use Rattle.mask.proofs.Laws.{within-contains}
 use Rattle.mask.proofs.Tests.{T-true}
 use Rattle.quorum.specs.declared.Kind.the-variants.{Write}
 use Rattle.quorum.specs.Quorum.{isQuorum}
 use Rattle.coordinator.specs.declared.Coordinator.{Coordinator}
-use Rattle.coordinator.specs.State.{openPhase, votingPhase, finishingPhase, noObject, placeOf, objectAt, isOpen, awaited, idleAfter}
+use Rattle.coordinator.specs.State.{openPhase, votingPhase, finishingPhase, placeOf, objectAt, isOpen, awaited, idleAfter}
 use Rattle.coordinator.specs.Calls.{withPhase, requested, endedAborted}
 use Rattle.station.specs.Station.{Station, putAt}
 use Rattle.protocol.specs.Table.{put, In}
 use Rattle.protocol.specs.Rules.{unused}
-use Rattle.protocol.specs.State.{Tx, Tx-discrete, Phase, fresh, voting, committed, aborted, Contents, Copy, Votes, History, State}
-use Rattle.protocol.specs.Transitions.{withAsked, doAsk, CanAsk, withCommit, doCommit, CanCommit, withAbort, doAbort, CanAbort, Step, ask, commit, abort}
-use Rattle.protocol.specs.Proof.Tables.{on, clash, put-cases, put-here}
+use Rattle.protocol.specs.State.{Tx, Tx-discrete, fresh, voting, committed, aborted, Contents, State}
+use Rattle.protocol.specs.Transitions.{doAsk, CanAsk, doCommit, CanCommit, doAbort, CanAbort, Step, ask, commit, abort}
+use Rattle.protocol.specs.Proof.Tables.{on, put-cases, put-here}
 use Rattle.protocol.specs.Refine.Growth.{step-grows}
-use Rattle.history.proofs.Quorums.{rules, of-mask, true-T}
-use Rattle.history.proofs.Sim.{tx, modeOf, contentsOf, copyIn, WasSent, Owner, Tells, Sim}
-use Rattle.history.proofs.Carry.{Onward, onward, put-all, owner-on, by-one, reads-still}
+use Rattle.clauses.proofs.Parts.{true-T}
+use Rattle.history.proofs.Quorums.{rules, of-mask}
+use Rattle.history.proofs.Sim.{tx, later-tx, modeOf, contentsOf, Owner, Sim}
+use Rattle.history.proofs.Carry.{onward, put-all, owner-on, by-one, reads-still}
 use Rattle.history.proofs.Quiet.{idle-owner, agreed-by}
 
 -- ---- other transactions
 pub put-else : {X : Type 0} (f : Tx → X) (x : Tx) (a : X) (y : Tx) → (y ≡ x → ⊥) → put Tx-discrete f x a y ≡ f y
 put-else f x a y e = on (put-cases Tx-discrete f x a y) (λ z. absurd (e (z .0))) (λ z. z .1)
-
-other-owner : (n i s r : ℕ) → (i ≡ n → ⊥) → tx i s ≡ tx n r → ⊥
-other-owner n i s r e f = e (ap (λ (x : Tx). x .owner) f)
-
-other-serial : (n s r : ℕ) → r < s → tx n s ≡ tx n r → ⊥
-other-serial n s r h f = let e = ap (λ (x : Tx). x .serial) f in omega (arith, e)
 
 -- ---- a station after a coordinator's transition: the record at n is c, all other records are as they were
 module _ (st : Station) (σ σ' : State ℕ) (l : List Tx) (sim : Sim st σ l) (n : ℕ) (c : Coordinator) (g : Step rules σ σ')
@@ -86,7 +80,7 @@ module _ (st : Station) (σ : State ℕ) (l : List Tx) (sim : Sim st σ l) (n : 
     owner-asked : Owner (σ₁ .history) (σ₁ .votes) (σ₁ .sent) n (requested c party)
     unfolding requested
     owner-asked = record {
-      later = λ s e. put-else (σ .history .phase) x voting (tx n s) (other-serial n s (c .serial) e) ∙ w .later s e;
+      later = λ s e. put-else (σ .history .phase) x voting (tx n s) (later-tx n s (c .serial) e) ∙ w .later s e;
       while-open = λ e. absurd (let z : ⊥ = omega arith in z);
       while-voting = λ e. put-here Tx-discrete (σ .history .phase) x voting;
       when-committed = λ e f. absurd (let z : ⊥ = omega arith in z);
@@ -115,7 +109,7 @@ module _ (st : Station) (σ : State ℕ) (l : List Tx) (sim : Sim st σ l) (n : 
     σ₂ = doAbort σ x
 
     later-than : (s : ℕ) → c .serial < s → σ₂ .history .phase (tx n s) ≡ fresh
-    later-than s e = put-else (σ .history .phase) x aborted (tx n s) (other-serial n s (c .serial) e) ∙ w .later s e
+    later-than s e = put-else (σ .history .phase) x aborted (tx n s) (later-tx n s (c .serial) e) ∙ w .later s e
 
     owner-finishing : Owner (σ₂ .history) (σ₂ .votes) (σ₂ .sent) n (withPhase c finishingPhase 2 (c .participants) (c .yes) (c .done) (c .rivals))
     owner-finishing = record {
@@ -167,7 +161,7 @@ module _ (st : Station) (σ : State ℕ) (l : List Tx) (sim : Sim st σ l) (n : 
 
     owner-committed : Owner (σ₃ .history) (σ₃ .votes) (σ₃ .sent) n decided
     owner-committed = record {
-      later = λ s e. put-else (σ .history .phase) x committed (tx n s) (other-serial n s (c .serial) e) ∙ w .later s e;
+      later = λ s e. put-else (σ .history .phase) x committed (tx n s) (later-tx n s (c .serial) e) ∙ w .later s e;
       while-open = λ e. absurd (let z : ⊥ = omega arith in z);
       while-voting = λ e. absurd (let z : ⊥ = omega arith in z);
       when-committed = λ e f. put-here Tx-discrete (σ .history .phase) x committed;

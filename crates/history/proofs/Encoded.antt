@@ -1,20 +1,20 @@
 -- An encoded message is bytes: every number in it is below 256.
-use mathlib.Core.Path.{_≡_, refl, sym, ap, subst, _∙_}
-use mathlib.Core.Bool.{Bool, true, false, cond, _&&_}
+use mathlib.Core.Path.{_≡_}
+use mathlib.Core.Bool.{true}
 use mathlib.Core.List.{List, [], _∷_, _++_}
-use mathlib.Core.Logic.{_⊎_, inl, inr}
 use Prim.Native.Nat.{ℕ, zero, suc, _+_, _/_, _%_, _<_, _≤_}
 use native.Mathlib.Omega.{arith}
 use native.Mathlib.Nat.{mod-lt}
-use lib.Dec.{eqb, ltb, leb, lit<}
-use lib.ListN.{length, getD}
-use borrow.Author.Tests.{ltb-true, leb-true, eqb-true}
+use lib.Dec.{ltb, lit<}
+use lib.ListN.{length}
+use borrow.Author.Tests.{ltb-true}
 use Rattle.octets.specs.Octets.{le}
 use Rattle.octets.proofs.Laws.{Bytes}
 use Rattle.wire.specs.declared.Entry.{Entry}
 use Rattle.wire.specs.declared.Rival.{Rival}
 use Rattle.wire.specs.Message.{Message}
 use Rattle.wire.specs.Formed.{wellFormed, countsOk, namesOk, wordOf}
+use Rattle.history.proofs.Tests.{and-true}
 use Rattle.wire.proofs.RoundTrip.{length-encode}
 use Rattle.wire.proofs.Theorems.{length-bounds}
 use Rattle.wire.specs.Encode.{encodeEntry, encodeRival, encodeWord, together, section, encodeHeader, encode, All, EntryFits, RivalFits, Fits}
@@ -57,11 +57,6 @@ rival-bytes : (r : Rival) → RivalFits r → Bytes (encodeRival r)
 unfolding encodeRival
 rival-bytes r f = bytes-cons (r .owner) (le 4 (r .serial)) (f .owner) (bytes-le 4 (r .serial))
 
--- ---- what a well-formed message has
-and-two : (a b : Bool) → (a && b) ≡ true → (a ≡ true) × (b ≡ true)
-and-two true b e = (refl, e)
-and-two false b e = absurd (subst (λ (c : Bool). cond c ⊥ (Unit {0})) e tt)
-
 -- three sections after the header, each count below 256
 module _ (m : Message) (f : Fits m) (w : wellFormed m ≡ true) where
   size : length (encode m) ≤ 128
@@ -70,10 +65,10 @@ module _ (m : Message) (f : Fits m) (w : wellFormed m ≡ true) where
   names : (m .from < 256) × ((m .to < 256) × (m .owner < 256))
   unfolding wellFormed
   names =
-      let a = and-two (namesOk m) _ (and-two (countsOk (m .kind) _ _ _ (wordOf m)) _ w .1) .0 in
-      let b = and-two (ltb (m .from) 13) _ a in
-      let c = and-two (ltb (m .to) 13) _ (b .1) in
-      let d = and-two (ltb (m .owner) 13) _ (c .1) in
+      let a = and-true (namesOk m) _ (and-true (countsOk (m .kind) _ _ _ (wordOf m)) _ w .1) .0 in
+      let b = and-true (ltb (m .from) 13) _ a in
+      let c = and-true (ltb (m .to) 13) _ (b .1) in
+      let d = and-true (ltb (m .owner) 13) _ (c .1) in
       (omega (arith, ltb-true (m .from) 13 (b .0)), (omega (arith, ltb-true (m .to) 13 (c .0)), omega (arith, ltb-true (m .owner) 13 (d .0))))
 
   pub bytes-encode : m .kind < 256 → All (λ (x : ℕ). x < 256) (m .words) → Bytes (encode m)

@@ -1,41 +1,38 @@
 -- The host's calls that are no transition: begin, open, set, reselect. What the events tell of the transaction goes with its record.
 use mathlib.Core.Path.{_≡_, refl, sym, _∙_, ap, subst}
 use mathlib.Core.Logic.{_≢_, _⊎_, inl, inr, by-cases}
-use mathlib.Core.Bool.{Bool, true, false, cond, not, _||_}
+use mathlib.Core.Bool.{Bool, true, false, cond, not}
 use mathlib.Core.List.{List}
-use Prim.Native.Nat.{ℕ, _+_, _<_, _≤_}
+use Prim.Native.Nat.{ℕ, _+_, _<_}
 use native.Mathlib.Decide.{ℕ-discrete}
 use native.Mathlib.Omega.{arith}
-use lib.Dec.{eqb, ltb}
-use lib.ListN.{length, set, replicate}
-use borrow.Author.Tests.{eqb-true, ltb-true}
+use lib.ListN.{set}
+use borrow.Author.Tests.{ltb-true}
 use Rattle.mask.specs.Mask.{contains}
 use Rattle.octets.proofs.Laws.{Bytes}
 use Rattle.coordinator.specs.declared.Object.{Object}
 use Rattle.coordinator.specs.declared.Coordinator.{Coordinator}
 use Rattle.coordinator.specs.declared.BeginWith.{BeginWith}
 use Rattle.coordinator.specs.System.{tree}
-use Rattle.coordinator.specs.State.{eight, idlePhase, openPhase, noObject, placeIn, placeOf, objectAt, isOpen, ready}
+use Rattle.coordinator.specs.State.{eight, idlePhase, openPhase, placeIn, placeOf, objectAt, isOpen, ready}
 use Rattle.coordinator.specs.Calls.{begun, opened, renewed, withNew, withObjects}
 use Rattle.coordinator.specs.Receive.{withCopy}
 use Rattle.wire.specs.declared.Entry.{Entry}
 use Rattle.clauses.proofs.Facts.{Meets}
 use Rattle.clauses.proofs.Places.{place-open}
-use Rattle.station.specs.Station.{Station, putAt}
+use Rattle.station.specs.Station.{Station}
 use Rattle.protocol.specs.Table.{put, put2, In}
-use Rattle.protocol.specs.Rules.{Mode, unused, read, write}
-use Rattle.protocol.specs.State.{Tx, Tx-discrete, fresh, committed, History}
+use Rattle.protocol.specs.Rules.{Mode, unused}
+use Rattle.protocol.specs.State.{Tx, Tx-discrete, fresh, committed}
 use Rattle.protocol.specs.Proof.Tables.{on, clash, put-cases, put-here, put2-cases}
 use Rattle.history.specs.Ledger.{Ledger, current, withMode, withSerial}
 use Rattle.history.specs.Claims.{Shows}
-use Rattle.history.proofs.Sim.{tx, modeOf, contentsOf, Owner, Tells}
+use Rattle.history.proofs.Tests.{no-both}
+use Rattle.history.proofs.Sim.{tx, other-tx, later-tx, modeOf, contentsOf, Owner, Tells}
 use Rattle.history.proofs.Carry.{put-all, by-pool}
 use Rattle.history.proofs.Quiet.{begin-owner, open-owner, set-owner, copy-owner}
 use Rattle.history.proofs.Objects.{shut-blank, listed-of, OneSet, its-object, other-object, its-mode, other-mode, others-shown, set-shown}
 use Rattle.history.proofs.Books.{Decided, Present, Past, More, World, found-next, changed, quiet}
-
-pub no-both : {b : Bool} → b ≡ true → b ≡ false → ⊥
-no-both {b} h k = let z : true ≡ false = sym h ∙ k in clash (cc)
 
 -- ---- a table of the ledger changed for one transaction and object
 module _ {X : Type 0} (f : Tx → ℕ → X) (x : Tx) (t : ℕ) (v : X) where
@@ -47,12 +44,6 @@ module _ {X : Type 0} (f : Tx → ℕ → X) (x : Tx) (t : ℕ) (v : X) where
 
   pub told-other : (y : Tx) (u : ℕ) → (u ≡ t → ⊥) → put2 Tx-discrete ℕ-discrete f x t v y u ≡ f y u
   told-other y u e = on (put2-cases Tx-discrete ℕ-discrete f x t v y u) (λ z. absurd (e (z .0 .1))) (λ z. z .1)
-
-pub other-tx : (n i s r : ℕ) → (i ≡ n → ⊥) → tx i s ≡ tx n r → ⊥
-other-tx n i s r e f = e (ap (λ (x : Tx). x .owner) f)
-
-pub later-tx : (n s r : ℕ) → r < s → tx n s ≡ tx n r → ⊥
-later-tx n s r h f = let e = ap (λ (x : Tx). x .serial) f in omega (arith, e)
 
 -- ---- another ledger that tells the same of every transaction, another record with the same objects
 pub record SameTold (L L' : Ledger) : Type 0 where

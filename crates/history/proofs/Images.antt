@@ -1,11 +1,10 @@
 -- What a replica's step makes of an image, as the rows that a transition changes: from the laws of crate replica, field by field, at every number.
 use mathlib.Core.Path.{_≡_, refl, sym, _∙_, ap, subst}
-use mathlib.Core.Logic.{_≢_, _⊎_, inl, inr, by-cases}
+use mathlib.Core.Logic.{inl, inr}
 use mathlib.Core.Bool.{Bool, true, false, cond, not, _&&_, _||_}
 use mathlib.Core.List.{List, [], _∷_}
 use mathlib.Core.Option.{Option, none, some}
-use Prim.Native.Nat.{ℕ, _+_, _<_, _≤_}
-use native.Mathlib.Decide.{ℕ-discrete}
+use Prim.Native.Nat.{ℕ, _<_, _≤_}
 use native.Mathlib.Omega.{arith}
 use lib.Dec.{eqb, ltb}
 use borrow.Author.Tests.{eqb-true, eqb-false, eq-eqb, ne-eqb, lt-ltb, le-ltb, ltb-true}
@@ -13,7 +12,6 @@ use Rattle.wire.specs.declared.Entry.{Entry}
 use Rattle.wire.specs.Formed.{every, entryOk}
 use Rattle.wire.specs.Encode.{All}
 use Rattle.image.specs.declared.Field.{Field}
-use Rattle.image.specs.declared.Copy.{Copy}
 use Rattle.image.specs.declared.Owner.{Owner}
 use Rattle.image.specs.Field.{fieldOf}
 use Rattle.image.specs.Layout.{shape, owners, valueField, versionField, holderField, serialField, stateField, value, version, holder, serial, state, copyOf}
@@ -24,9 +22,10 @@ use Rattle.image.proofs.Lens.{of-out}
 use Rattle.replica.proofs.Fields.{writesTo, holderIn}
 use Rattle.replica.proofs.Holders.{writesIn}
 use Rattle.protocol.specs.Table.{In}
-use Rattle.protocol.specs.Rules.{unused, read, write}
+use Rattle.protocol.specs.Rules.{read, write}
 use Rattle.protocol.specs.State.{Contents}
 use Rattle.protocol.specs.Proof.Tables.{on, clash}
+use Rattle.history.proofs.Tests.{and-true, or-true}
 use Rattle.history.proofs.Sim.{holderOf, modeOf, Match}
 use Rattle.history.proofs.Rows.{SameCopies, SameHolders, OneOwner, FreedHolders}
 
@@ -125,14 +124,6 @@ pub all-in : (P : Entry → Type 0) (es : List Entry) → All P es → (e : Entr
 all-in P [] a e i = absurd i
 all-in P (x ∷ es) a e (inl q) = subst P (sym q) (a .0)
 all-in P (x ∷ es) a e (inr i) = all-in P es (a .1) e i
-
-or-true : (a b : Bool) → (a || b) ≡ true → (a ≡ true) ⊎ (b ≡ true)
-or-true true b e = inl refl
-or-true false b e = inr e
-
-pub and-true : (a b : Bool) → (a && b) ≡ true → (a ≡ true) × (b ≡ true)
-and-true true b e = (refl, e)
-and-true false b e = absurd (let z : false ≡ true = e in clash (cc))
 
 writes-entry : (t : ℕ) (es : List Entry) → writesIn es t ≡ true → (e : Entry) × In e es × (writesTo e t ≡ true)
 unfolding Rattle.replica.specs.Judge.some

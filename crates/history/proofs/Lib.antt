@@ -1,7 +1,25 @@
--- How demand 3 is proved: the station's steps are transitions of crate protocol's abstract system.
---   Quorums   the tree's quorums as the rules of that system
---   Sim       what is kept: the station is read as an abstract state, and what records and waiting messages say is true there
---   Carry     what one transition leaves true
+-- How demand 3 is proved: the station's steps are transitions of crate protocol's abstract system, and what the events tell goes with them.
+-- What is kept, and what one transition leaves true:
+--   Tests, Words      tests joined; a message's bytes and its record
+--   Quorums           the tree's quorums as the rules of the abstract system
+--   Sim               the station read as an abstract state; what records and waiting messages say is true there
+--   Carry             what one transition leaves true of records and messages
+-- The coordinators:
+--   Quiet, Decide     calls and messages that are no transition; that are one
+--   Objects           what a record has of each object after one place is set
+-- The replicas:
+--   Rows, Images      one image changed is a transition; what a step makes of an image, as rows
+--   Acts, Answers     a message is none, one or two transitions; its answer fits its bytes
+--   Encoded, Replies  an encoded message is bytes; what an answer tells
+-- The events:
+--   Books             what the events tell against the abstract state; `World` is all that a step keeps
+--   Host, Turns       host calls and a coordinator's transitions with what is told
+--   Arrive            a message at a replica with what is told
+-- The steps, one by one, and the theorem:
+--   Calls, Answered, Served, Sends   each step of the station
+--   Wide              what else every step keeps
+--   Theorem, Claimed  one more step keeps a history good; a blank station is good; demand 3
+pub mod Tests
 pub mod Quorums
 pub mod Sim
 pub mod Carry

@@ -2,12 +2,11 @@
 -- record says of its transaction stays true.
 use mathlib.Core.Path.{_≡_, refl, sym, _∙_, ap, subst}
 use mathlib.Core.Logic.{_⊎_, inl, inr, by-cases}
-use mathlib.Core.Bool.{Bool, true, false, cond, _||_}
+use mathlib.Core.Bool.{Bool, true, false, cond}
 use mathlib.Core.List.{List}
-use Prim.Native.Nat.{ℕ, zero, suc, _+_, _<_}
+use Prim.Native.Nat.{ℕ, _+_, _<_}
 use native.Mathlib.Decide.{ℕ-discrete}
 use native.Mathlib.Omega.{arith}
-use lib.Dec.{eqb, ltb}
 use lib.ListN.{length, getD, set, replicate}
 use lib.Seq.{getD-set-same, getD-set-other, set-out}
 use Rattle.image.proofs.Each.{lt-or-le}
@@ -16,7 +15,7 @@ use Rattle.wire.specs.declared.Entry.{Entry}
 use Rattle.coordinator.specs.declared.Object.{Object}
 use Rattle.coordinator.specs.declared.Coordinator.{Coordinator}
 use Rattle.coordinator.specs.declared.BeginWith.{BeginWith}
-use Rattle.coordinator.specs.State.{eight, idlePhase, votingPhase, noObject, placeOf, objectAt, idleAfter}
+use Rattle.coordinator.specs.State.{eight, votingPhase, noObject, placeOf, objectAt, idleAfter}
 use Rattle.coordinator.specs.Calls.{begun, opened, fresh, renewed, withNew, reselected, withObjects, withPhase}
 use Rattle.coordinator.specs.Receive.{better, withCopy}
 use Rattle.protocol.specs.Table.{In}
@@ -25,7 +24,9 @@ use Rattle.protocol.specs.Proof.Tables.{on}
 use Rattle.image.proofs.Marks.{contains-none, contains-only}
 use Rattle.mask.proofs.Laws.{contains-joined}
 use borrow.Author.Tests.{eqb-true}
-use Rattle.history.proofs.Sim.{tx, copyIn, WasSent, Owner}
+use Rattle.clauses.proofs.Places.{at-blank}
+use Rattle.history.proofs.Tests.{no-both, or-true}
+use Rattle.history.proofs.Sim.{tx, WasSent, Owner}
 
 -- ---- objects
 -- what stands at the places after one of them is set
@@ -37,13 +38,8 @@ found-set m l p x w f i = by-cases (ℕ-discrete i p)
     (λ h. subst (λ (k : List Object). WasSent m (getD k i noObject)) (sym (set-out l p x h)) (f i)))
     (λ e. subst (WasSent m) (sym (getD-set-other l p i x noObject e)) (f i))
 
-blank-place : (n i : ℕ) → getD (replicate n noObject) i noObject ≡ noObject
-blank-place zero i = refl
-blank-place (suc n) zero = refl
-blank-place (suc n) (suc i) = blank-place n i
-
 pub found-blank : (m : List (Copy ℕ)) (n i : ℕ) → WasSent m (getD (replicate n noObject) i noObject)
-found-blank m n i = subst (WasSent m) (sym (blank-place n i)) (inl (refl, refl))
+found-blank m n i = subst (WasSent m) (sym (at-blank n i)) (inl (refl, refl))
 
 -- a copy that counts, or does not
 copied : (m : List (Copy ℕ)) (x : Object) (e : Entry) (t : Bool) → WasSent m x → In (record { object = x .object; version = e .version; value = e .value }) m
@@ -53,20 +49,13 @@ copied m x e true w i = inr i
 copied m x e false w i = w
 
 -- ---- bits
-false-true : false ≡ true → ⊥
-false-true e = subst (λ (b : Bool). cond b ⊥ (Unit {0})) e tt
-
 pub no-bit : (i : ℕ) → contains 0 i ≡ true → ⊥
-no-bit i e = false-true (sym (contains-none i) ∙ e)
-
-or-by : {P : Type 0} (a b : Bool) → (a || b) ≡ true → (a ≡ true → P) → (b ≡ true → P) → P
-or-by true b e f g = f refl
-or-by false b e f g = g e
+no-bit i e = no-both e (contains-none i)
 
 -- a node of a set with one node more
 pub agreed-by : {P : Type 0} (s i from : ℕ) → from < 16 → contains (joined s (only from)) i ≡ true → (contains s i ≡ true → P) → (i ≡ from → P) → P
 agreed-by s i from small e f g =
-    or-by (contains s i) (contains (only from) i) (sym (contains-joined s (only from) i) ∙ e) f
+    on (or-true (contains s i) (contains (only from) i) (sym (contains-joined s (only from) i) ∙ e)) f
     (λ a. g (sym (eqb-true from i (sym (contains-only from i small) ∙ a))))
 
 module _ (h : History ℕ) (v : Votes) (m : List (Copy ℕ)) (n : ℕ) (c : Coordinator) (w : Owner h v m n c) where

@@ -1,20 +1,17 @@
 -- The tree's quorums as the rules of the abstract protocol. A set of nodes counts as a quorum when it has every node of a mask that is one.
-use mathlib.Core.Path.{_≡_, sym, subst}
-use mathlib.Core.Bool.{Bool, true}
+use mathlib.Core.Path.{_≡_}
+use mathlib.Core.Bool.{true}
 use Prim.Native.Nat.{ℕ}
-use lib.Dec.{T}
 use Rattle.mask.specs.Mask.{contains}
 use Rattle.mask.proofs.Tests.{T-true}
 use Rattle.quorum.specs.declared.Kind.{Kind}
 use Rattle.quorum.specs.declared.Kind.the-variants.{Read, Write}
 use Rattle.quorum.specs.Quorum.{isQuorum}
 use Rattle.quorum.proofs.Theorems.{root-in-write, read-meets-write}
+use Rattle.clauses.proofs.Parts.{true-T}
 use Rattle.protocol.specs.Rules.{Nodes, Rules}
 use Rattle.protocol.specs.Log.{RootInAll}
 use Rattle.protocol.specs.Tree.{TreeQuorums, treeRules}
-
-pub true-T : (b : Bool) → b ≡ true → T b
-true-T b e = subst T (sym e) tt
 
 -- the set has every node of a mask that is a quorum of the kind
 pub record Has (kind : Kind) (p : Nodes) : Type 0 where

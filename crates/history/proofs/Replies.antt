@@ -1,15 +1,15 @@
 -- A delivery at a replica: the transitions that it is, and what its answer tells. By the message's kind and how its transaction stands there.
 use mathlib.Core.Path.{_≡_, refl, sym, _∙_, ap, subst}
-use mathlib.Core.Logic.{_≢_, _⊎_, inl, inr, by-cases}
+use mathlib.Core.Logic.{_≢_, inr, by-cases}
 use mathlib.Core.Bool.{Bool, true, false, cond, not, _&&_, _||_}
-use mathlib.Core.List.{List, [], _∷_}
-use mathlib.Core.Option.{none, some}
-use Prim.Native.Nat.{ℕ, _<_, _≤_}
+use mathlib.Core.List.{List, _∷_}
+use mathlib.Core.Option.{some}
+use Prim.Native.Nat.{ℕ, _<_}
 use native.Mathlib.Decide.{ℕ-discrete}
 use native.Mathlib.Omega.{arith}
-use lib.Dec.{eqb, ltb, lit<}
+use lib.Dec.{eqb, lit<}
 use lib.ListN.{getD}
-use borrow.Author.Tests.{eqb-true, eqb-false, eq-eqb, ne-eqb, ltb-true}
+use borrow.Author.Tests.{eqb-true, eq-eqb, ne-eqb, ltb-true}
 use Rattle.octets.proofs.Laws.{Bytes}
 use Rattle.wire.specs.declared.Entry.{Entry}
 use Rattle.wire.specs.Message.{Message}
@@ -22,23 +22,22 @@ use Rattle.replica.specs.Standing.{standing, active, entered}
 use Rattle.replica.specs.Judge.{votesNo, noSerials, serialsOf, rivalsOf}
 use Rattle.replica.specs.Steps.{Answer, silent, says, copyTo, voteTo, doneTo, wanted, copyHere, fetchImage, fetchAnswer, askImage, askAnswer, judgedAnswer}
 use Rattle.replica.specs.Steps.{outcomeImage, outcomeAnswer}
-use Rattle.replica.specs.Receive.{outcomeEarly, wrongTurn, step, Delivered}
+use Rattle.replica.specs.Receive.{outcomeEarly}
 use Rattle.replica.proofs.Spoken.{Named, named-of, done-formed, vote-formed, copy-formed, yes-formed, wanted-fits}
 use Rattle.replica.proofs.Delivered.{entries-of}
 use Rattle.replica.proofs.Late.{late-outcome}
 use Rattle.replica.proofs.Taken.{Taken, fetch-still, ask-still, outcome-cases, turn-outcome}
-use Rattle.station.specs.Station.{Station, withImage}
-use Rattle.protocol.specs.Table.{pick, In, times}
+use Rattle.station.specs.Station.{Station}
+use Rattle.protocol.specs.Table.{pick, In}
 use Rattle.protocol.specs.State.{Tx, Tx-discrete, fresh, committed, aborted, Copy, Votes, History, State}
 use Rattle.protocol.specs.Proof.Tables.{on, clash, pick-cases}
 use Rattle.protocol.specs.Proof.Lists.{times-none, times-once}
-use Rattle.protocol.specs.Refine.Growth.{Late, Grows}
+use Rattle.protocol.specs.Refine.Growth.{Late}
 use Rattle.history.specs.Ledger.{txOf, rootYes, firstOnly, logPut}
 use Rattle.history.proofs.Sim.{copyOfEntry, Match, Tells, Sim}
-use Rattle.history.proofs.Words.{txIn, kind-of, from-of, tx-of, word-of, entry-of, check-of}
+use Rattle.history.proofs.Words.{txIn, formed-word, kind-of, from-of, tx-of, word-of, entry-of, check-of}
 use Rattle.history.proofs.Encoded.{bytes-encode}
 use Rattle.history.proofs.Acts.{Acted, unmoved, fetched, voted-no, voted-yes, voted-before, late-here, dropped-early, dropped-here, applied-here}
-use Rattle.history.proofs.Acts.{outcome-word}
 use Rattle.history.proofs.Answers.{done-fits, copy-fits, vote-fits, none-small, yes-fits, here-fits, bytes-entered}
 
 -- ---- what an answer tells
@@ -257,10 +256,10 @@ module _ (st : Station) (σ : State ℕ) (log : List Tx) (sim : Sim st σ log) (
         (λ e. subst (λ (i : List ℕ). Acted st σ log sim n m k i (λ τ l'. Said τ log l' x (outcomeAnswer n m))) (sym (late-outcome l m e))
         (unmoved st σ log sim n m k _ (done-said σ log refl (late-here st σ log sim n m k e))))
         (λ r. on r
-        (λ e. on (outcome-word m (k .formed) kind)
+        (λ e. on (formed-word m (k .formed) (inr kind))
         (λ w. finish (dropped-early st σ log sim n m k e (an-abort w)))
         (λ w. absurd (let z : ⊥ = omega (arith, e, commit-held w (λ q. let y : ⊥ = omega (arith, e, q) in y)) in z)))
-        (λ e. on (outcome-word m (k .formed) kind)
+        (λ e. on (formed-word m (k .formed) (inr kind))
         (λ w. finish (dropped-here st σ log sim n m k (e .0) (e .1) w (an-abort w)))
         (λ w. let c = a-commit w in
         finish (applied-here st σ log sim n m k (e .0) (e .1) kind (commit-held w (λ q. let y : ⊥ = omega (arith, q, e .0) in y)) w (c .0) (c .1)))))

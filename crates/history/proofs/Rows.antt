@@ -1,18 +1,18 @@
 -- A replica's transition: one node's image changes, and what is read off it is what the transition says. One lemma for each transition, over any
 -- image that reads so.
 use mathlib.Core.Path.{_≡_, refl, sym, _∙_, ap, subst}
-use mathlib.Core.Logic.{_≢_, _⊎_, inl, inr, by-cases}
+use mathlib.Core.Logic.{inl, by-cases}
 use mathlib.Core.Bool.{Bool, true, false, cond}
 use mathlib.Core.List.{List}
-use mathlib.Core.Option.{Option, none, some}
-use Prim.Native.Nat.{ℕ, suc, _<_}
+use mathlib.Core.Option.{none, some}
+use Prim.Native.Nat.{ℕ, suc}
 use native.Mathlib.Decide.{ℕ-discrete}
 use lib.Dec.{eqb, ltb}
 use borrow.Author.Tests.{eqb-true, eqb-false}
 use Rattle.image.specs.Layout.{value, version, holder, serial, state}
 use Rattle.station.specs.Station.{Station, putAt, withImage}
-use Rattle.protocol.specs.Table.{put2, putRow, In}
-use Rattle.protocol.specs.State.{Tx, Tx-discrete, Contents, Copy, over, listed, held, refused, State, Writes, writes?}
+use Rattle.protocol.specs.Table.{put2, putRow}
+use Rattle.protocol.specs.State.{Tx, over, listed, held, State, Writes, writes?}
 use Rattle.protocol.specs.Transitions.{doList, CanList, doCopy, doYes, CanYes, doNo, CanNo, doApply, CanApply, doDrop, CanDrop}
 use Rattle.protocol.specs.Transitions.{Step, list, copy, voteYes, voteNo, apply, drop}
 use Rattle.protocol.specs.Log.{logged}
@@ -20,7 +20,7 @@ use Rattle.protocol.specs.Proof.Tables.{on, put2-cases, putRow-cases}
 use Rattle.protocol.specs.Refine.Growth.{step-grows}
 use Rattle.protocol.specs.Refine.Holders.{holders-as-read, holds?, taken, freed}
 use Rattle.history.proofs.Quorums.{rules}
-use Rattle.history.proofs.Sim.{stateOf, holderOf, holders, Read, Owner, Tells, Sim}
+use Rattle.history.proofs.Sim.{stateOf, holderOf, holders, Owner, Sim}
 use Rattle.history.proofs.Carry.{onward, owner-on, by-one}
 
 -- ---- one image changed, as rows of tables: f is the table, g what is read off an image

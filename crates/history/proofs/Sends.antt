@@ -1,13 +1,13 @@
 -- A send: what is due tells the truth. An ask or a commit has the contents that votes were asked for.
 use mathlib.Core.Path.{_≡_, refl, sym, _∙_, ap, subst}
-use mathlib.Core.Logic.{_≢_, _⊎_, inl, inr}
-use mathlib.Core.Bool.{Bool, true, false, cond, not, _&&_, _||_}
+use mathlib.Core.Logic.{_≢_, inl, inr}
+use mathlib.Core.Bool.{Bool, true, false, cond, not, _&&_}
 use mathlib.Core.List.{List, [], _∷_, _++_}
-use mathlib.Core.Option.{Option, none, some}
-use Prim.Native.Nat.{ℕ, _+_, _^_, _<_, _≤_}
+use mathlib.Core.Option.{none, some}
+use Prim.Native.Nat.{ℕ, _+_, _^_, _<_}
 use native.Mathlib.Omega.{arith}
 use lib.Dec.{eqb, ltb, lit<}
-use lib.ListN.{length, getD}
+use lib.ListN.{getD}
 use borrow.Author.Tests.{eqb-true, eqb-false, ltb-true}
 use Rattle.mask.specs.Mask.{contains}
 use Rattle.octets.proofs.Laws.{Bytes}
@@ -18,11 +18,11 @@ use Rattle.wire.specs.Formed.{wordOf, wellFormed}
 use Rattle.wire.specs.Decode.{decode}
 use Rattle.wire.specs.Items.{noEntry}
 use Rattle.wire.specs.Write.{sent}
-use Rattle.wire.specs.Encode.{encode, All, EntryFits, RivalFits, Fits}
+use Rattle.wire.specs.Encode.{encode, All, EntryFits, Fits}
 use Rattle.coordinator.specs.declared.Object.{Object}
 use Rattle.coordinator.specs.declared.Coordinator.{Coordinator}
 use Rattle.coordinator.specs.System.{tree}
-use Rattle.coordinator.specs.State.{idlePhase, openPhase, votingPhase, finishingPhase, placeOf, objectAt, isOpen, awaited, ready}
+use Rattle.coordinator.specs.State.{openPhase, votingPhase, finishingPhase, placeOf, objectAt, isOpen, awaited, ready}
 use Rattle.coordinator.specs.Due.{dueKind, openDue, votingDue, finishingDue, dueRefusals}
 use Rattle.clauses.proofs.Facts.{Meets}
 use Rattle.due.specs.Due.{entryFor, entriesOf, fetchTo, askTo, outcomeTo, yieldTo, messageDue}
@@ -30,13 +30,13 @@ use Rattle.due.proofs.Entries.{Stands, open-place, every-entry, entries-only, e
 use Rattle.coordinator.specs.Calls.{noNode}
 use Rattle.coordinator.proofs.Refusals.{clear}
 use Rattle.station.specs.Station.{Station, withPool}
-use Rattle.station.specs.Step.{send, Outcome, refusedWith, putting, full, whenOff, sendNumber, sendOf}
+use Rattle.station.specs.Step.{send, refusedWith, putting, full, whenOff, sendNumber, sendOf}
 use Rattle.protocol.specs.Table.{In}
 use Rattle.protocol.specs.Rules.{unused, read, write}
-use Rattle.protocol.specs.State.{Tx, fresh, voting, committed, aborted, Contents, Copy, Votes, History, State}
+use Rattle.protocol.specs.State.{Tx, fresh, committed, aborted, Contents, Copy, Votes, History}
 use Rattle.protocol.specs.Proof.Tables.{on, clash}
 use Rattle.history.specs.Ledger.{Ledger, txOf, rootYes, firstOnly, withPut, noted, note}
-use Rattle.history.proofs.Sim.{tx, modeOf, contentsOf, Match, Tells, Owner, Sim}
+use Rattle.history.proofs.Sim.{tx, modeOf, contentsOf, Match, Tells, Owner}
 use Rattle.history.proofs.Books.{Past, More, World}
 use Rattle.history.proofs.Host.{steady, fewer}
 use Rattle.history.proofs.Words.{txIn, kind-of, tx-of, word-of, entries-of, check-of}
@@ -44,7 +44,9 @@ use Rattle.history.proofs.Images.{all-in, small-object}
 use Rattle.history.proofs.Encoded.{bytes-encode}
 use Rattle.history.proofs.Replies.{root-yes}
 use Rattle.history.proofs.Arrive.{in-append, in-place}
-use Rattle.history.proofs.Calls.{Next, refused-next, off-number, not-false, or-false}
+use Rattle.replica.proofs.Delivered.{or-neither}
+use Rattle.history.proofs.Tests.{not-false}
+use Rattle.history.proofs.Calls.{Next, refused-next, off-number}
 
 -- ---- the entries of a record are its contents
 module _ (c : Coordinator) (m : Meets tree c) where
@@ -290,7 +292,7 @@ module _ (st : Station) (L : Ledger) (F : Past) (w : World st L F) (n to object 
 
   known-to : number ≡ 0 → to < 13
   unfolding dueRefusals
-  known-to e = let k = clear (dueRefusals d n to object) tt e in ltb-true to 13 (not-false (ltb to 13) (or-false (noNode n) (noNode to) (k .0) .1))
+  known-to e = let k = clear (dueRefusals d n to object) tt e in ltb-true to 13 (not-false (ltb to 13) (or-neither (noNode n) (noNode to) (k .0) .1))
 
   well-formed : (x y : Bool) → (not x && not y) ≡ false → x ≡ false → y ≡ true
   well-formed true y e q = absurd (let z : true ≡ false = q in clash (cc))

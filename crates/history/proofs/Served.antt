@@ -1,36 +1,33 @@
 -- A delivery at a station: at a replica, at a coordinator, or at a node that is off; then drops, switches. By the cases of each definition.
 use mathlib.Core.Path.{_≡_, refl, sym, _∙_, ap, subst}
-use mathlib.Core.Logic.{_≢_, _⊎_, inl, inr}
-use mathlib.Core.Bool.{Bool, true, false, cond, not, _&&_, _||_}
+use mathlib.Core.Logic.{_≢_}
+use mathlib.Core.Bool.{Bool, true, false, cond, _&&_}
 use mathlib.Core.List.{List, [], _∷_, _++_}
 use mathlib.Core.Option.{Option, none, some}
 use Prim.Native.Nat.{ℕ, _<_}
 use native.Mathlib.Omega.{arith}
 use lib.Dec.{eqb, ltb}
 use lib.ListN.{length, getD}
-use borrow.Author.Tests.{eqb-true, eqb-false, eq-eqb, ne-eqb, ltb-true}
+use borrow.Author.Tests.{eqb-true, eqb-false, eq-eqb, ltb-true}
 use Rattle.mask.specs.Mask.{contains, only, joined, minus}
-use Rattle.octets.proofs.Laws.{Bytes}
 use Rattle.wire.specs.Message.{Message}
-use Rattle.wire.specs.Formed.{wordOf}
 use Rattle.wire.specs.Encode.{encode}
 use Rattle.wire.specs.Decode.{kindOf, toOf, longest, decode, checkOf}
 use Rattle.replica.specs.Steps.{Answer, silent, says, fetchImage, fetchAnswer, askImage, askAnswer, outcomeImage, outcomeAnswer}
 use Rattle.replica.specs.Receive.{refusal, gives, step, Delivered, deliver, wrongTurn}
-use Rattle.replica.proofs.Delivered.{Cleared, cleared, step-fine, entries-of}
+use Rattle.replica.proofs.Delivered.{cleared, step-fine, entries-of}
 use Rattle.replica.proofs.Spoken.{named-of}
 use Rattle.replica.proofs.Taken.{Taken, taken}
 use Rattle.coordinator.specs.Calls.{noNode}
 use Rattle.coordinator.specs.Receive.{forReplica}
 use Rattle.station.specs.Station.{Station, withImage, withOn, withPool, without}
-use Rattle.station.specs.Step.{Call, delivery, drop, switch, Outcome, refusedWith, full, takenOut, answered, atReplica, atCoordinator, arriving, deliveryOf}
+use Rattle.station.specs.Step.{delivery, drop, switch, refusedWith, full, takenOut, answered, atReplica, atCoordinator, arriving, deliveryOf}
 use Rattle.station.specs.Step.{dropOf, switchOf}
 use Rattle.protocol.specs.Table.{In}
-use Rattle.protocol.specs.State.{Tx, fresh, committed, aborted, State}
+use Rattle.protocol.specs.State.{Tx, fresh, committed, aborted}
 use Rattle.protocol.specs.Proof.Tables.{on, clash}
-use Rattle.history.specs.Ledger.{Ledger, txOf, withPut, withDelivered, noted, note}
-use Rattle.history.proofs.Sim.{Match, Tells, Sim}
-use Rattle.history.proofs.Carry.{by-pool}
+use Rattle.history.specs.Ledger.{Ledger, withPut, withDelivered, noted, note}
+use Rattle.history.proofs.Sim.{Match, Tells}
 use Rattle.history.proofs.Books.{Past, More, World}
 use Rattle.history.proofs.Host.{fewer}
 use Rattle.history.proofs.Words.{txIn, tx-decoded, word-decoded, header}

@@ -1,11 +1,12 @@
 -- What is kept between a station and an abstract state: the images read as its copies and owners, and what records and waiting messages say is true
 -- there. Timestamps, rivals, distances, lists and yields do not occur: they decide only who is voted down.
-use mathlib.Core.Path.{_≡_}
+use mathlib.Core.Path.{_≡_, ap}
 use mathlib.Core.Logic.{_≢_, _⊎_}
 use mathlib.Core.Bool.{true, cond}
 use mathlib.Core.List.{List}
 use mathlib.Core.Option.{Option, none, some}
 use Prim.Native.Nat.{ℕ, zero, suc, _<_}
+use native.Mathlib.Omega.{arith}
 use lib.Dec.{eqb, ltb}
 use lib.ListN.{getD}
 use Rattle.mask.specs.Mask.{contains}
@@ -21,7 +22,7 @@ use Rattle.coordinator.specs.State.{openPhase, votingPhase, finishingPhase, noO
 use Rattle.station.specs.Station.{Station}
 use Rattle.protocol.specs.Table.{In}
 use Rattle.protocol.specs.Rules.{Mode, unused, read, write}
-use Rattle.protocol.specs.State.{Tx, Phase, fresh, voting, committed, aborted, Contents, Copy, OwnerState, over, listed, held, refused}
+use Rattle.protocol.specs.State.{Tx, fresh, voting, committed, aborted, Contents, Copy, OwnerState, over, listed, held, refused}
 use Rattle.protocol.specs.State.{Votes, History, State}
 use Rattle.protocol.specs.Refine.Holders.{HolderTable}
 use Rattle.protocol.specs.Refine.Simulate.{Kept, Reads}
@@ -48,6 +49,12 @@ Read st σ =
 -- ---- a record
 abbrev pub tx : ℕ → ℕ → Tx
 tx n s = record { owner = n; serial = s }
+
+pub other-tx : (n i s r : ℕ) → (i ≡ n → ⊥) → tx i s ≡ tx n r → ⊥
+other-tx n i s r e f = e (ap (λ (x : Tx). x .owner) f)
+
+pub later-tx : (n s r : ℕ) → r < s → tx n s ≡ tx n r → ⊥
+later-tx n s r h f = let e = ap (λ (x : Tx). x .serial) f in omega (arith, e)
 
 abbrev pub modeOf : ℕ → Mode
 modeOf m = cond (eqb m 0) read write

@@ -1,49 +1,31 @@
 -- Demand 3. Whatever holds of a good history and state holds after one more step; a blank station is good; and what is good has the claims.
-use mathlib.Core.Path.{_≡_, refl, sym, _∙_, ap, subst}
-use mathlib.Core.Logic.{_≢_, _⊎_, inl, inr}
-use mathlib.Core.Bool.{Bool, true, false, cond, not, _||_}
-use mathlib.Core.List.{List, [], _∷_}
+use mathlib.Core.Path.{_≡_, refl, sym, ap}
+use mathlib.Core.List.{[]}
 use mathlib.Core.Option.{none}
-use Prim.Native.Nat.{ℕ, _<_, _≤_}
+use Prim.Native.Nat.{ℕ}
 use native.Mathlib.Omega.{arith}
-use lib.Dec.{eqb, ltb}
-use borrow.Author.Tests.{eqb-true, eqb-false, ltb-true, lt-ltb, le-ltb}
-use Rattle.mask.specs.Mask.{contains}
-use Rattle.quorum.specs.declared.Kind.the-variants.{Read}
-use Rattle.quorum.specs.Quorum.{isQuorum}
-use Rattle.image.specs.Layout.{shape, value, version, versionField, valueField, serialField, stateField}
+use borrow.Author.Tests.{lt-ltb, le-ltb}
+use Rattle.image.specs.Layout.{shape, versionField, valueField, serialField, stateField}
 use Rattle.image.specs.Blank.{blankAs}
 use Rattle.image.proofs.Blanks.{bytes-blank, blank-zero, blank-holder, blank-sound}
 use Rattle.image.proofs.Each.{lt-or-le}
-use Rattle.coordinator.specs.declared.Object.{Object}
-use Rattle.coordinator.specs.declared.Coordinator.{Coordinator}
 use Rattle.coordinator.specs.System.{tree}
-use Rattle.coordinator.specs.State.{eight, idlePhase, blankRecord, idleAfter, placeOf, objectAt, isOpen, ready}
-use Rattle.clauses.proofs.Facts.{Meets}
+use Rattle.coordinator.specs.State.{eight, blankRecord, idleAfter}
 use Rattle.clauses.proofs.Keep.{blank-meets}
-use Rattle.clauses.proofs.Places.{place-open}
 use Rattle.station.specs.Station.{Station, blankStation}
 use Rattle.station.specs.Step.{Call, begin, openRead, openWrite, setValue, found, reselect, requestCommit, abort, send, delivery, drop, switch, step}
 use Rattle.station.specs.Run.{eventOf}
-use Rattle.protocol.specs.Table.{In, Suffix, times, select}
-use Rattle.protocol.specs.Rules.{Mode, unused, read, write}
-use Rattle.protocol.specs.State.{Tx, Tx-discrete, Phase, fresh, committed, Contents, State, blankState}
-use Rattle.protocol.specs.Replay.{replay, given}
-use Rattle.protocol.specs.Claims.{AllApplied, Claims}
-use Rattle.protocol.specs.Log.{BaseClaims}
+use Rattle.protocol.specs.State.{Tx, State, blankState}
 use Rattle.protocol.specs.Proof.Tables.{on, clash}
-use Rattle.protocol.specs.Proof.Lists.{select-ext, given-ext, replay-ext, in-select, suffix-whole, suffix-tail}
-use Rattle.protocol.specs.Proof.Core.{claims, committed-good}
-use Rattle.protocol.specs.Proof.Log.{base-claims}
-use Rattle.protocol.specs.Refine.Messages.{done-applied}
+use Rattle.protocol.specs.Proof.Core.{claims}
 use Rattle.protocol.specs.Refine.Simulate.{blank-kept}
 use Rattle.protocol.specs.Refine.Holders.{holders-as-read}
-use Rattle.history.specs.Ledger.{Done, Ledger, nothingYet, note, in?, fed, turn, givenTo, lastValue}
-use Rattle.history.specs.Claims.{Typed, Shows, Finds, Settled, Newest}
-use Rattle.history.proofs.Quorums.{quorums, rules, top, of-mask}
-use Rattle.history.proofs.Sim.{tx, contentsOf, stateOf, holderOf, Owner, Sim}
+use Rattle.history.specs.Ledger.{Ledger, nothingYet, note}
+use Rattle.history.specs.Claims.{Typed}
+use Rattle.history.proofs.Quorums.{rules}
+use Rattle.history.proofs.Sim.{stateOf, holderOf, Owner, Sim}
 use Rattle.history.proofs.Quiet.{found-blank, no-bit}
-use Rattle.history.proofs.Books.{Decided, Present, Past, More, Found, Books, Valid, World}
+use Rattle.history.proofs.Books.{Present, Past, More, World}
 use Rattle.history.proofs.Calls.{begin-next, read-next, write-next, set-next, found-next', reselect-next, request-next, abort-next}
 use Rattle.history.proofs.Served.{delivery-next, drop-next, switch-next}
 use Rattle.history.proofs.Sends.{send-next}

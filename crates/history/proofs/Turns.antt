@@ -3,11 +3,11 @@ use mathlib.Core.Path.{_≡_, refl, sym, _∙_, ap, subst}
 use mathlib.Core.Logic.{_≢_, _⊎_, inl, inr, by-cases}
 use mathlib.Core.Bool.{Bool, true, false, cond, not, _||_}
 use mathlib.Core.List.{List, _∷_}
-use Prim.Native.Nat.{ℕ, _<_, _≤_}
+use Prim.Native.Nat.{ℕ, _<_}
 use native.Mathlib.Decide.{ℕ-discrete}
 use native.Mathlib.Omega.{arith}
-use lib.Dec.{T, eqb, ltb, T-not}
-use borrow.Author.Tests.{eqb-true, ltb-true, lt-ltb}
+use lib.Dec.{eqb, ltb, T-not}
+use borrow.Author.Tests.{ltb-true, lt-ltb}
 use Rattle.mask.specs.Mask.{contains, only, joined, within}
 use Rattle.mask.proofs.Tests.{T-true, and-left, or-cases}
 use Rattle.quorum.specs.declared.Kind.the-variants.{Write}
@@ -15,11 +15,11 @@ use Rattle.quorum.specs.Quorum.{isQuorum}
 use Rattle.coordinator.specs.declared.Object.{Object}
 use Rattle.coordinator.specs.declared.Coordinator.{Coordinator}
 use Rattle.coordinator.specs.System.{tree}
-use Rattle.coordinator.specs.State.{eight, idlePhase, openPhase, votingPhase, finishingPhase, placeIn, placeOf, objectAt, isOpen, ready, settled, allSettled}
+use Rattle.coordinator.specs.State.{eight, idlePhase, openPhase, votingPhase, finishingPhase, placeOf, objectAt, isOpen, ready, settled, allSettled}
 use Rattle.coordinator.specs.State.{awaited, idleAfter}
 use Rattle.coordinator.specs.Calls.{withPhase, requested, endedAborted}
 use Rattle.clauses.proofs.Facts.{Meets}
-use Rattle.clauses.proofs.Places.{at, place-open, across-at}
+use Rattle.clauses.proofs.Places.{place-open, across-at}
 use Rattle.station.specs.Station.{Station, putAt}
 use Rattle.protocol.specs.Table.{put, In}
 use Rattle.protocol.specs.Rules.{Mode, unused}
@@ -29,13 +29,14 @@ use Rattle.protocol.specs.Proof.Tables.{on, clash, put-cases, put-here}
 use Rattle.protocol.specs.Refine.Growth.{Late, step-grows}
 use Rattle.history.specs.Ledger.{Done, Ledger, current, withParticipants}
 use Rattle.history.specs.Claims.{Shows, Finds}
-use Rattle.history.proofs.Quorums.{rules, true-T}
-use Rattle.history.proofs.Sim.{tx, modeOf, contentsOf, Owner, Tells, Sim}
+use Rattle.clauses.proofs.Parts.{true-T}
+use Rattle.history.proofs.Quorums.{rules}
+use Rattle.history.proofs.Sim.{tx, other-tx, modeOf, contentsOf, Tells, Sim}
 use Rattle.history.proofs.Carry.{put-all, onward, tells-on}
-use Rattle.history.proofs.Quiet.{idle-owner, done-owner}
+use Rattle.history.proofs.Quiet.{idle-owner}
 use Rattle.history.proofs.Decide.{put-else, can-ask, can-abort, can-commit, sim-asked, sim-aborted, sim-committed}
-use Rattle.history.proofs.Books.{Decided, Present, Past, More, Asked, Found, Books, Valid, World, changed, found-next, shown-mode, quiet}
-use Rattle.history.proofs.Host.{no-both, other-tx, later-tx, SameTold, SameObjects, objects-still, present-on, same-decided}
+use Rattle.history.proofs.Books.{Decided, Present, Past, More, Asked, World, changed, found-next, shown-mode, quiet}
+use Rattle.history.proofs.Host.{SameTold, objects-still, present-on, same-decided}
 
 -- ---- a transition that moves the phase of the owner's present transaction only
 module _ (st : Station) (L : Ledger) (F : Past) (w : World st L F) (n : ℕ) where

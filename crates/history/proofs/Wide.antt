@@ -1,9 +1,7 @@
 -- What else every step keeps: records fit their widths, and what is no node stays blank.
-use mathlib.Core.Path.{_≡_, refl, sym, _∙_, ap, subst}
-use mathlib.Core.Logic.{_⊎_, inl, inr}
+use mathlib.Core.Path.{_≡_, refl, sym, subst}
 use mathlib.Core.Bool.{Bool, true, false, cond, not, _&&_}
 use mathlib.Core.List.{List, [], _∷_, _++_}
-use mathlib.Core.Option.{Option, none, some}
 use Prim.Native.Nat.{ℕ, _<_, _≤_}
 use native.Mathlib.Omega.{arith}
 use lib.Dec.{eqb, ltb}
@@ -26,14 +24,12 @@ use Rattle.coordinator.specs.Receive.{forReplica, receiveOf}
 use Rattle.coordinator.specs.Due.{dueKind}
 use Rattle.due.specs.Due.{messageDue}
 use Rattle.coordinator.proofs.Theorems.{found-leaves}
-use Rattle.clauses.proofs.Facts.{Meets}
 use Rattle.clauses.proofs.Quorums.{tree-quorums}
 use Rattle.clauses.proofs.Fits.{Fits, blank-fits, begin-fits, open-fits, set-fits, reselect-fits, request-fits, abort-fits, receive-fits}
 use Rattle.station.specs.Station.{Station, blankStation, putAt}
 use Rattle.station.specs.Step.{Call, begin, openRead, openWrite, setValue, found, reselect, requestCommit, abort, send, delivery, drop, switch}
 use Rattle.station.specs.Step.{Outcome, refusedWith, taken, putting, sendNumber, hosted, answered, atReplica, atCoordinator, arriving, deliveryOf, dropOf}
 use Rattle.station.specs.Step.{switchOf, sendOf}
-use Rattle.protocol.specs.Table.{In}
 use Rattle.history.specs.Claims.{Typed}
 use Rattle.history.proofs.Carry.{put-all}
 use Rattle.history.proofs.Books.{Valid}

@@ -1,15 +1,15 @@
 -- A message's bytes and its record: what the accessors read of the bytes is what the decoded message has; and of an encoded message, its own fields.
 use mathlib.Core.Path.{_≡_, refl, sym, _∙_, ap, subst}
 use mathlib.Core.Bool.{Bool, true, false, cond, _&&_}
-use mathlib.Core.List.{List, []}
-use Prim.Native.Nat.{ℕ, zero, suc, _+_, _*_, _<_}
-use lib.Dec.{eqb, ltb}
+use mathlib.Core.List.{List}
+use mathlib.Core.Logic.{_⊎_, inl, inr}
+use Prim.Native.Nat.{ℕ, zero, suc}
+use lib.Dec.{eqb, ltb, leb}
 use lib.ListN.{length, getD}
-use borrow.Author.Tests.{lt-ltb}
+use borrow.Author.Tests.{lt-ltb, eqb-true}
 use native.Mathlib.Omega.{arith}
-use Rattle.wire.specs.declared.Entry.{Entry}
 use Rattle.wire.specs.Message.{Message}
-use Rattle.wire.specs.Formed.{wellFormed}
+use Rattle.wire.specs.Formed.{between, countsOk, wellFormed}
 use Rattle.wire.specs.Encode.{encode, sizeOf, Fits}
 use Rattle.wire.specs.Decode.{kindOf, fromOf, toOf, ownerOf, serialOf, stampOf, entryCount, entriesPlace, entryAt, wordCount, wordsPlace, wordAt, itemsFrom}
 use Rattle.wire.specs.Decode.{decode, accepted, checkOf}
@@ -17,7 +17,9 @@ use Rattle.wire.specs.Items.{noEntry, entryOf, wordOf}
 use Rattle.wire.proofs.RoundTrip.{decode-encode}
 use Rattle.wire.proofs.Theorems.{encoded-checked, accepted-of-check}
 use Rattle.protocol.specs.State.{Tx}
+use Rattle.protocol.specs.Proof.Tables.{on}
 use Rattle.history.specs.Ledger.{txOf}
+use Rattle.history.proofs.Tests.{and-true}
 
 -- the first of n items
 first-item : {A : Type 0} (at : List ℕ → ℕ → A) (size n : ℕ) (l : List ℕ) (i : ℕ) (d : A)
@@ -84,8 +86,31 @@ module _ (m : Message) (f : Fits m) where
 -- an accepted message is well formed
 pub formed-of : (b : List ℕ) → checkOf b ≡ 0 → wellFormed (decode b) ≡ true
 unfolding accepted
-formed-of b e = right (eqb (length b) (sizeOf (decode b))) (wellFormed (decode b)) (accepted-of-check b e)
+formed-of b e = and-true (eqb (length b) (sizeOf (decode b))) (wellFormed (decode b)) (accepted-of-check b e) .1
+
+-- ---- the word of a vote or an outcome is 0 or 1: what the table of kinds says of either, with the counts x at 1 and y at 0
+word-by : (w : ℕ) (x y : Bool) → cond (eqb w 1) x (eqb w 0 && y) ≡ true → (w ≡ 0) ⊎ (w ≡ 1)
+word-by w x y = by (eqb w 1) refl
   where
-    right : (p q : Bool) → (p && q) ≡ true → q ≡ true
-    right true q e = e
-    right false q e = absurd (subst (λ (c : Bool). cond c ⊥ (Unit {0})) e tt)
+    by : (b : Bool) → eqb w 1 ≡ b → cond b x (eqb w 0 && y) ≡ true → (w ≡ 0) ⊎ (w ≡ 1)
+    by true q f = inr (eqb-true w 1 q)
+    by false q f = inl (eqb-true w 0 (and-true (eqb w 0) y f .0))
+
+counts-word : (kind entries rivals words w : ℕ) → (kind ≡ 4) ⊎ (kind ≡ 5) → countsOk kind entries rivals words w ≡ true → (w ≡ 0) ⊎ (w ≡ 1)
+unfolding countsOk
+counts-word kind entries rivals words w (inl e) f =
+    let g = subst (λ (k : ℕ). countsOk k entries rivals words w ≡ true) e f in
+    word-by w (leb rivals 12) (eqb rivals 0) (and-true (cond (eqb w 1) (leb rivals 12) (eqb w 0 && eqb rivals 0)) _ g .0)
+counts-word kind entries rivals words w (inr e) f =
+    let g = subst (λ (k : ℕ). countsOk k entries rivals words w ≡ true) e f in
+    word-by w (between 1 8 entries) (eqb entries 0) (and-true (cond (eqb w 1) (between 1 8 entries) (eqb w 0 && eqb entries 0)) _ g .0)
+
+pub formed-word : (m : Message) → wellFormed m ≡ true → (m .kind ≡ 4) ⊎ (m .kind ≡ 5)
+    → (Rattle.wire.specs.Formed.wordOf m ≡ 0) ⊎ (Rattle.wire.specs.Formed.wordOf m ≡ 1)
+unfolding wellFormed
+formed-word m f k = counts-word (m .kind) _ _ _ (Rattle.wire.specs.Formed.wordOf m) k
+    (and-true (countsOk (m .kind) _ _ _ (Rattle.wire.specs.Formed.wordOf m)) _ f .0)
+
+-- the same of a vote's bytes
+pub word-known : (b : List ℕ) → checkOf b ≡ 0 → kindOf b ≡ 4 → (wordOf b ≡ 0) ⊎ (wordOf b ≡ 1)
+word-known b e k = on (formed-word (decode b) (formed-of b e) (inl (header b .0 ∙ k))) (λ q. inl (word-decoded b ∙ q)) (λ q. inr (word-decoded b ∙ q))

@@ -24,19 +24,19 @@ use Rattle.station.specs.Run.{after, trace}
 use Rattle.protocol.specs.Table.{In, Suffix, times}
 use Rattle.protocol.specs.Rules.{unused, read, write}
 use Rattle.protocol.specs.State.{Tx, Tx-discrete}
-use Rattle.history.specs.Ledger.{Done, Ledger, ledger, txOf, current, fed, givenTo, lastValue}
+use Rattle.history.specs.Ledger.{Ledger, ledger, txOf, current, fed, givenTo, lastValue}
 
 -- A step's arguments are of their C types: thirteen distances of 16 bits, a timestamp of 32 bits, a value of 64 bits. All others may be any number.
-abbrev pub Sixteen : List ℕ → Type 0
-Sixteen d = (length d ≡ 13) × ((i : ℕ) → getD d i 0 < 2 ^ 16)
+abbrev pub Distances : List ℕ → Type 0
+Distances d = (length d ≡ 13) × ((i : ℕ) → getD d i 0 < 2 ^ 16)
 
 abbrev pub Typed : Call → Type 0
-Typed (begin n w) = (w .timestamp < 2 ^ 32) × Sixteen (w .distances)
+Typed (begin n w) = (w .timestamp < 2 ^ 32) × Distances (w .distances)
 Typed (openRead n t) = Unit {0}
 Typed (openWrite n t) = Unit {0}
 Typed (setValue n t v) = v < 2 ^ 64
 Typed (found n t) = Unit {0}
-Typed (reselect n live d) = Sixteen d
+Typed (reselect n live d) = Distances d
 Typed (requestCommit n) = Unit {0}
 Typed (abort n) = Unit {0}
 Typed (send n to t) = Unit {0}

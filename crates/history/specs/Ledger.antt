@@ -1,6 +1,6 @@
 -- What the events of a list of steps tell, "from the steps, their answers and the messages they put in the pool, and nothing else".
 use mathlib.Core.Path.{_≡_}
-use mathlib.Core.Bool.{Bool, true, false, cond, not, _&&_}
+use mathlib.Core.Bool.{Bool, cond, not, _&&_}
 use mathlib.Core.List.{List, [], _∷_, _++_}
 use mathlib.Core.Logic.{inl, inr}
 use mathlib.Core.Option.{Option, none, some}
@@ -15,7 +15,7 @@ use Rattle.coordinator.specs.State.{committed}
 use Rattle.station.specs.Station.{without}
 use Rattle.station.specs.Step.{Call, begin, openRead, openWrite, setValue, found, reselect, requestCommit, abort, send, delivery, drop, switch}
 use Rattle.station.specs.Run.{Event}
-use Rattle.protocol.specs.Table.{pick, put, put2, times, select, In}
+use Rattle.protocol.specs.Table.{put, put2, times, select, In}
 use Rattle.protocol.specs.Rules.{Mode, unused, read, write}
 use Rattle.protocol.specs.State.{Tx, Tx-discrete}
 use Rattle.protocol.specs.Replay.{after, replay, given}
