@@ -61,7 +61,7 @@ unfolding standing
 fresh-above l m h e = ltb-true (serial l (m .owner)) (m .serial)
     (fresh-by (ltb (serial l (m .owner)) (m .serial)) (eqb (serial l (m .owner)) (m .serial)) (state l (m .owner)) h e)
 
-active-cases : (l : List ℕ) (m : Message) → active l m ≡ true → (standing l m ≡ 1) ⊎ (standing l m ≡ 4)
+pub active-cases : (l : List ℕ) (m : Message) → active l m ≡ true → (standing l m ≡ 1) ⊎ (standing l m ≡ 4)
 unfolding active
 active-cases l m = or-split ((standing l m ≡ 1) ⊎ (standing l m ≡ 4)) (eqb (standing l m) 1) (eqb (standing l m) 4)
     (λ e. inl (eqb-true (standing l m) 1 e)) (λ e. inr (eqb-true (standing l m) 4 e))

@@ -29,7 +29,8 @@ use Rattle.clauses.proofs.Cases.{either-of}
 use Rattle.clauses.proofs.Quorums.{tree-quorums}
 use Rattle.clauses.proofs.Keep.{begin-keeps, open-keeps, set-keeps, reselect-keeps, request-keeps, abort-keeps}
 use Rattle.station.specs.Station.{Station, withRecord}
-use Rattle.station.specs.Step.{Call, begin, openRead, openWrite, setValue, found, reselect, requestCommit, abort, Outcome, refusedWith, whenOff, hosted}
+use Rattle.station.specs.Step.{Call, begin, openRead, openWrite, setValue, found, reselect, requestCommit, abort, Outcome, refusedWith, taken, whenOff}
+use Rattle.station.specs.Step.{hosted}
 use Rattle.station.specs.Run.{eventOf}
 use Rattle.protocol.specs.Proof.Tables.{on}
 use Rattle.history.specs.Ledger.{Ledger, withMode, noted, note}
@@ -42,7 +43,7 @@ use Rattle.history.proofs.Host.{again, begin-world, open-world, set-wor
 use Rattle.history.proofs.Turns.{request-world, abort-world}
 
 -- the record after a call whose refusals do not fit
-zero-first : (rs : List Refusal) → Clear rs → firstOf rs ≡ 0
+pub zero-first : (rs : List Refusal) → Clear rs → firstOf rs ≡ 0
 zero-first [] k = refl
 zero-first (r ∷ rs) k = ap (λ (b : Bool). cond b (r .number) (firstOf rs)) (k .0) ∙ zero-first rs (k .1)
 
@@ -60,6 +61,28 @@ off-number number = by (eqb number 4) (eqb number 10) refl refl
     by false true p q e = let z = eqb-true number 10 q in let y : ⊥ = omega arith in y
     by false false p q e = let y : ⊥ = omega arith in y
 
+-- a host call by its cases: refused, or none of its refusals fits and the record is the one after it
+module _ (P : Outcome → Type 0) (st : Station) (n : ℕ) (rs : List Refusal) (answer : ℕ) (c' : Coordinator) (all : T (numbered rs))
+    (refuses : (number : ℕ) → (number ≡ 0 → ⊥) → P (refusedWith number st)) (takes : Clear rs → P (taken answer (withRecord st n c'))) where
+  abbrev c : Coordinator
+  c = st .records n
+
+  abbrev s : Bool → Step
+  s b = cond b (record { number = 0; answer = answer; coordinator = c' }) (record { number = firstOf rs; answer = 0; coordinator = c })
+
+  by-number : (up b : Bool) → eqb (firstOf rs) 0 ≡ b
+      → P (cond up (cond (eqb (s b .number) 0) (taken (s b .answer) (withRecord st n (s b .coordinator))) (refusedWith (s b .number) st))
+      (refusedWith (whenOff (s b .number)) st))
+  by-number true true e = takes (clear rs all (eqb-true (firstOf rs) 0 e))
+  by-number true false e = subst (λ (b : Bool). P (cond b (taken 0 (withRecord st n c)) (refusedWith (firstOf rs) st))) (sym e)
+      (refuses (firstOf rs) (eqb-false (firstOf rs) 0 e))
+  by-number false true e = refuses (whenOff 0) (off-number 0)
+  by-number false false e = refuses (whenOff (firstOf rs)) (off-number (firstOf rs))
+
+  pub host-cases : P (hosted st n (stepOf (firstOf rs) answer c c'))
+  unfolding hosted stepOf
+  host-cases = by-number (contains (st .on) n) (eqb (firstOf rs) 0) refl
+
 pub told-still : {L : Ledger} → SameTold L L
 told-still = record { serials = refl; modes = refl; news = refl; parties = refl }
 
@@ -76,39 +99,12 @@ module _ (st : Station) (L : Ledger) (F : Past) (w : World st L F) where
 
   -- ---- a host call: its refusals, its answer, the record after it
   module _ (n : ℕ) (call : Call) (rs : List Refusal) (answer : ℕ) (c' : Coordinator) (all : T (numbered rs)) where
-    abbrev c : Coordinator
-    c = st .records n
-
     abbrev After : Type 0
     After = World (withRecord st n c') (noted L call answer none) (More F (withRecord st n c'))
 
-    by-number : (up b : Bool) → eqb (firstOf rs) 0 ≡ b → (Clear rs → After)
-        → Next call (cond up (cond (eqb (cond {A = Step} b (record { number = 0; answer = answer; coordinator = c' })
-        (record { number = firstOf rs; answer = 0; coordinator = c }) .number) 0)
-        (record {
-          number = 0;
-          answer = cond {A = Step} b (record { number = 0; answer = answer; coordinator = c' })
-              (record { number = firstOf rs; answer = 0; coordinator = c }) .answer;
-          put = none;
-          station = withRecord st n (cond {A = Step} b (record { number = 0; answer = answer; coordinator = c' })
-              (record { number = firstOf rs; answer = 0; coordinator = c }) .coordinator);
-        })
-        (refusedWith (cond {A = Step} b (record { number = 0; answer = answer; coordinator = c' })
-        (record { number = firstOf rs; answer = 0; coordinator = c }) .number) st))
-        (refusedWith (whenOff (cond {A = Step} b (record { number = 0; answer = answer; coordinator = c' })
-        (record { number = firstOf rs; answer = 0; coordinator = c }) .number)) st))
+    pub host-next : (Clear rs → After) → Next call (hosted st n (stepOf (firstOf rs) answer (st .records n) c'))
     unfolding note
-    by-number true true e f = f (clear rs all (eqb-true (firstOf rs) 0 e))
-    by-number true false e f =
-        subst (λ (b : Bool). Next call (cond b (record { number = 0; answer = 0; put = none; station = withRecord st n c }) (refusedWith (firstOf rs) st)))
-        (sym e)
-        (refused-next call (firstOf rs) (eqb-false (firstOf rs) 0 e))
-    by-number false true e f = refused-next call (whenOff 0) (off-number 0)
-    by-number false false e f = refused-next call (whenOff (firstOf rs)) (off-number (firstOf rs))
-
-    pub host-next : (Clear rs → After) → Next call (hosted st n (stepOf (firstOf rs) answer c c'))
-    unfolding hosted stepOf
-    host-next f = by-number (contains (st .on) n) (eqb (firstOf rs) 0) refl f
+    host-next f = host-cases (Next call) st n rs answer c' all (refused-next call) f
 
   -- ---- the calls
   module _ (n : ℕ) where

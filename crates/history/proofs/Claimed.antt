@@ -40,13 +40,17 @@ use Rattle.protocol.specs.Proof.Core.{claims, committed-good}
 use Rattle.protocol.specs.Proof.Log.{base-claims}
 use Rattle.protocol.specs.Refine.Messages.{done-applied}
 use Rattle.history.specs.Ledger.{Ledger, ledger, txOf, in?, fed, turn, givenTo, lastValue}
-use Rattle.history.specs.Claims.{Typed, Shows, Finds, Carries, Settled, Newest, reached, told, Demand3}
+use Rattle.history.specs.Ballots.{ballots}
+use Rattle.history.specs.Claims.{Typed, AllTyped, Shows, Finds, Carries, Settled, Newest, Ripe, SaysCommitted, reached, told, votes, event, Ripens}
+use Rattle.history.specs.Claims.{Demand3}
 use Rattle.history.proofs.Quorums.{quorums, rules, top, of-mask}
 use Rattle.history.proofs.Sim.{tx, Match}
 use Rattle.history.proofs.Books.{Decided, Past, More, World}
 use Rattle.history.proofs.Tests.{not-false}
 use Rattle.history.proofs.Calls.{off-number}
 use Rattle.history.proofs.Theorem.{Good, good-next, good-past, blank-good}
+use Rattle.history.proofs.Polls.{Counts, blank-counts, counts-next}
+use Rattle.history.proofs.Meaning.{note-told, ripe-told, says-ripens, ripens-says}
 
 module _ (st : Station) (L : Ledger) (F : Past) (g : Good st L F) where
   abbrev w : World st L F
@@ -211,10 +215,6 @@ shown-by st n t s e q =
     }
 
 -- ---- every list of steps
-abbrev pub AllTyped : List Call → Type 0
-AllTyped [] = Unit {0}
-AllTyped (c ∷ cs) = Typed c × AllTyped cs
-
 module _ (up : ℕ) where
   -- found after some earlier list
   abbrev Earlier : List Call → Past
@@ -243,9 +243,45 @@ module _ (up : ℕ) where
   typed-suffix ds (c ∷ cs) (inl e) a = subst AllTyped (sym e) a
   typed-suffix ds (c ∷ cs) (inr s) a = typed-suffix ds cs s (a .1)
 
+  -- what the events tell of the votes goes with it
+  pub always-counts : (cs : List Call) → AllTyped cs → Counts (reached up cs) (told up cs) (votes up cs)
+  unfolding ledger ballots
+  always-counts [] a = blank-counts up
+  always-counts (c ∷ cs) a =
+      counts-next (reached up cs) (told up cs) (Earlier cs) (votes up cs) (always-good cs (a .1)) (always-counts cs (a .1)) c
+
+  -- one more step, and the steps before it
+  module _ (cs : List Call) (a : AllTyped cs) (c : Call) (ds : List Call) (s : Suffix (c ∷ ds) cs) (x : Tx) where
+    now : AllTyped (c ∷ ds)
+    now = typed-suffix (c ∷ ds) cs s a
+
+    pub commits-ripen : SaysCommitted (told up ds) (event up ds c) x → Ripens up ds c x
+    unfolding ledger ballots
+    commits-ripen = says-ripens (reached up ds) (told up ds) (Earlier ds) (votes up ds) (always-good ds (now .1)) (always-counts ds (now .1)) c
+        (Earlier (c ∷ ds)) (always-good (c ∷ ds) now) (always-counts (c ∷ ds) now) x
+
+    pub ripe-commits : Ripens up ds c x → SaysCommitted (told up ds) (event up ds c) x
+    unfolding ledger ballots
+    ripe-commits = ripens-says (reached up ds) (told up ds) (Earlier ds) (votes up ds) (always-good ds (now .1)) (always-counts ds (now .1)) c
+        (Earlier (c ∷ ds)) (always-good (c ∷ ds) now) (always-counts (c ∷ ds) now) x
+
+  -- hence: what is ripe after a list was told committed, and what was told committed was ripe after some earlier list
+  pub means-committed : (cs : List Call) → AllTyped cs → (x : Tx) → Ripe (told up cs) (votes up cs) x → In x (told up cs .committed)
+  means-committed cs a = ripe-told (reached up cs) (told up cs) (Earlier cs) (votes up cs) (always-good cs a) (always-counts cs a)
+
+  pub committed-means : (cs : List Call) → AllTyped cs → (x : Tx) → In x (told up cs .committed)
+      → (ds : List Call) × Suffix ds cs × Ripe (told up ds) (votes up ds) x
+  unfolding ledger
+  committed-means [] a x i = absurd i
+  committed-means (c ∷ cs) a x i = on (note-told (told up cs) x (event up cs c) i)
+      (λ j. let z = committed-means cs (a .1) x j in (z .0, inr (z .1), z .2))
+      (λ s. (c ∷ cs, inl refl, commits-ripen (c ∷ cs) a c cs (inl refl) x s .1))
+
   -- THE THEOREM: for every list of steps, whichever nodes are on
   pub demand-3 : (cs : List Call) → AllTyped cs → Demand3 up cs
   demand-3 cs a = let g = always-good cs a in record {
+    committed-ripens = λ x c ds s. commits-ripen cs a c ds s x;
+    ripens-committed = λ x c ds s. ripe-commits cs a c ds s x;
     logged-once = is-logged-once _ _ _ g;
     fed-once = is-fed-once _ _ _ g;
     entries-as = entries-are _ _ _ g;

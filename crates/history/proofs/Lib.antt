@@ -17,8 +17,17 @@
 --   Arrive            a message at a replica with what is told
 -- The steps, one by one, and the theorem:
 --   Calls, Answered, Served, Sends   each step of the station
---   Wide              what else every step keeps
---   Theorem, Claimed  one more step keeps a history good; a blank station is good; demand 3
+--   Wide, Stamped     what else every step keeps: records fit their widths; serials and stamps of the waiting messages are their owner's
+--   Theorem           one more step keeps a history good; a blank station is good
+-- What 'committed' means, on top of a good history:
+--   Counted           what is told of an owner's votes against its record, and what each change leaves of that
+--   Polls, Meaning    every step keeps it; hence a step tells a transaction committed exactly when it makes it ripe
+--   Claimed           demand 3, of every list of steps
+-- The numbers of deliveries:
+--   Moves             what a delivery at a replica makes of last serials and states, and what its answer says of them
+--   InTurn            why nothing that waits is out of turn: what is kept, over one record, one image or another pool
+--   Going, Turned     coordinators keep it; every step does
+--   Room, Numbered    the pool has at most 128 messages; the number of every delivery
 pub mod Tests
 pub mod Quorums
 pub mod Sim
@@ -42,5 +51,15 @@ pub mod Answered
 pub mod Served
 pub mod Sends
 pub mod Wide
+pub mod Stamped
+pub mod Moves
+pub mod InTurn
+pub mod Going
+pub mod Turned
+pub mod Room
 pub mod Theorem
+pub mod Counted
+pub mod Polls
+pub mod Meaning
 pub mod Claimed
+pub mod Numbered

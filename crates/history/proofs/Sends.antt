@@ -122,10 +122,10 @@ module _ (c : Coordinator) (m : Meets tree c) (f : Rattle.clauses.proofs.Fits.F
   serial-fits : (c .serial < 256 ^ 4) × (c .timestamp < 256 ^ 4)
   serial-fits = (omega (arith, f .widths .serial-32), omega (arith, f .widths .timestamp-32))
 
-  ask-fits : (me node : ℕ) → Fits (askTo c me node)
+  pub ask-fits : (me node : ℕ) → Fits (askTo c me node)
   ask-fits me node = record { serial = serial-fits .0; stamp = serial-fits .1; entries = entries-fit; rivals = tt }
 
-  outcome-fits : (me node : ℕ) → Fits (outcomeTo c me node)
+  pub outcome-fits : (me node : ℕ) → Fits (outcomeTo c me node)
   outcome-fits me node = by (eqb (c .outcome) 1)
     where
       by : (b : Bool) → Fits (cond b (sent node me (c .serial) (c .timestamp) 5 (entriesOf c) [] (1 ∷ []))
@@ -133,7 +133,7 @@ module _ (c : Coordinator) (m : Meets tree c) (f : Rattle.clauses.proofs.Fits.F
       by true = record { serial = serial-fits .0; stamp = serial-fits .1; entries = entries-fit; rivals = tt }
       by false = record { serial = serial-fits .0; stamp = serial-fits .1; entries = tt; rivals = tt }
 
-  fetch-fits : (me node object : ℕ) → object < 256 → Fits (fetchTo c me node object)
+  pub fetch-fits : (me node object : ℕ) → object < 256 → Fits (fetchTo c me node object)
   fetch-fits me node object h = record {
     serial = serial-fits .0;
     stamp = serial-fits .1;
@@ -141,7 +141,7 @@ module _ (c : Coordinator) (m : Meets tree c) (f : Rattle.clauses.proofs.Fits.F
     rivals = tt;
   }
 
-  yield-fits : (me node : ℕ) → node < 256 → Fits (yieldTo c me node)
+  pub yield-fits : (me node : ℕ) → node < 256 → Fits (yieldTo c me node)
   yield-fits me node h = record {
     serial = serial-fits .0;
     stamp = serial-fits .1;
@@ -285,7 +285,8 @@ module _ (st : Station) (L : Ledger) (F : Past) (w : World st L F) (n to object 
   a = messageDue d n to object kind
 
   -- nothing refuses: the node is there, and what is due is well formed
-  allowed : (up : Bool) → cond up (firstOf (refuse number (not (eqb number 0)) ∷ refuse 3 (not (eqb kind 0) && not (wellFormed a)) ∷ refuse 12 (full st) ∷ []))
+  pub allowed : (up : Bool)
+      → cond up (firstOf (refuse number (not (eqb number 0)) ∷ refuse 3 (not (eqb kind 0) && not (wellFormed a)) ∷ refuse 12 (full st) ∷ []))
       (whenOff number) ≡ 0 → (number ≡ 0) × ((not (eqb kind 0) && not (wellFormed a)) ≡ false)
   allowed true e = first-of number (not (eqb kind 0) && not (wellFormed a)) (full st) e
   allowed false e = absurd (off-number number e)

@@ -42,7 +42,7 @@ unfolding wrongTurn
 out-of-turn l m p q r = simp (p, q, r)
 
 -- ---- the step of a message, by its kind
-kind-cases : (l : List ℕ) (n : ℕ) (m : Message) → Taken l m → (P : Delivered → Type 0) → (m .kind ≡ 1 → P (gives (fetchImage l m) (fetchAnswer n l m)))
+pub kind-cases : (l : List ℕ) (n : ℕ) (m : Message) → Taken l m → (P : Delivered → Type 0) → (m .kind ≡ 1 → P (gives (fetchImage l m) (fetchAnswer n l m)))
     → (m .kind ≡ 3 → P (gives (askImage l m) (askAnswer n l m))) → (m .kind ≡ 5 → P (gives (outcomeImage l m) (outcomeAnswer n m))) → P (step l n m)
 unfolding step
 kind-cases l n m k P f a o = by (eqb (m .kind) 1) (eqb (m .kind) 3) (eqb (m .kind) 5) refl refl refl

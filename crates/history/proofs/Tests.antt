@@ -18,3 +18,7 @@ or-true false b e = inr e
 pub not-false : (b : Bool) → not b ≡ false → b ≡ true
 not-false true e = refl
 not-false false e = absurd (no-both refl e)
+
+pub not-true : (b : Bool) → not b ≡ true → b ≡ false
+not-true true e = absurd (no-both e refl)
+not-true false e = refl

@@ -30,11 +30,13 @@ use Rattle.history.proofs.Calls.{begin-next, read-next, write-next, set
 use Rattle.history.proofs.Served.{delivery-next, drop-next, switch-next}
 use Rattle.history.proofs.Sends.{send-next}
 use Rattle.history.proofs.Wide.{Wide, blank-wide, wide-next}
+use Rattle.history.proofs.Stamped.{Stamped, blank-stamped, stamped-next}
 
 -- ---- a good history and state: st the station, L what the events told, F what was found so far
 pub record Good (st : Station) (L : Ledger) (F : Past) : Type 0 where
   pub world : World st L F
   pub wide : Wide st
+  pub stamped : Stamped st
 
 -- ---- one more step
 world-next : (st : Station) (L : Ledger) (F : Past) (w : World st L F) → Wide st → (c : Call) → Typed c
@@ -58,6 +60,7 @@ pub good-next : (st : Station) (L : Ledger) (F : Past) → Good st L F → (c : 
 good-next st L F g c t = record {
   world = world-next st L F (g .world) (g .wide) c t;
   wide = wide-next st (g .wide) (g .world .valid) c t;
+  stamped = stamped-next st (g .stamped) (g .world .valid) (g .wide) c t;
 }
 
 -- ---- what was found, told in other words
@@ -84,6 +87,7 @@ good-past st L F G to from g = let w = g .world in let b = w .books in record {
     };
   };
   wide = g .wide;
+  stamped = g .stamped;
 }
 
 -- ---- the blank station
@@ -158,4 +162,5 @@ blank-good up F none-yet = record {
     };
   };
   wide = blank-wide up;
+  stamped = blank-stamped up;
 }

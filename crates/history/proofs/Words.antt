@@ -1,20 +1,23 @@
 -- A message's bytes and its record: what the accessors read of the bytes is what the decoded message has; and of an encoded message, its own fields.
 use mathlib.Core.Path.{_≡_, refl, sym, _∙_, ap, subst}
-use mathlib.Core.Bool.{Bool, true, false, cond, _&&_}
-use mathlib.Core.List.{List}
+use mathlib.Core.Bool.{Bool, true, false, cond, not, _&&_, _||_}
+use mathlib.Core.List.{List, [], _∷_, _++_, append-assoc, map}
 use mathlib.Core.Logic.{_⊎_, inl, inr}
-use Prim.Native.Nat.{ℕ, zero, suc}
+use Prim.Native.Nat.{ℕ, zero, suc, _+_, _*_, _^_, _<_}
 use lib.Dec.{eqb, ltb, leb}
-use lib.ListN.{length, getD}
+use lib.ListN.{length, getD, drop}
 use borrow.Author.Tests.{lt-ltb, eqb-true}
 use native.Mathlib.Omega.{arith}
+use Rattle.octets.specs.Octets.{le}
+use Rattle.octets.proofs.Laws.{length-le}
+use Rattle.wire.specs.declared.Rival.{Rival}
 use Rattle.wire.specs.Message.{Message}
-use Rattle.wire.specs.Formed.{between, countsOk, wellFormed}
-use Rattle.wire.specs.Encode.{encode, sizeOf, Fits}
+use Rattle.wire.specs.Formed.{between, countsOk, namesOk, directionOk, ascend, every, rivalOk, entriesOk, rivalsOk, wellFormed}
+use Rattle.wire.specs.Encode.{encodeEntry, encodeRival, encodeWord, section, encode, sizeOf, Fits}
 use Rattle.wire.specs.Decode.{kindOf, fromOf, toOf, ownerOf, serialOf, stampOf, entryCount, entriesPlace, entryAt, wordCount, wordsPlace, wordAt, itemsFrom}
-use Rattle.wire.specs.Decode.{decode, accepted, checkOf}
-use Rattle.wire.specs.Items.{noEntry, entryOf, wordOf}
-use Rattle.wire.proofs.RoundTrip.{decode-encode}
+use Rattle.wire.specs.Decode.{rivalCount, rivalsPlace, rivalAt, decode, accepted, checkOf}
+use Rattle.wire.specs.Items.{noEntry, noRival, entryOf, rivalOf, wordOf}
+use Rattle.wire.proofs.RoundTrip.{next, number-at, decode-encode}
 use Rattle.wire.proofs.Theorems.{encoded-checked, accepted-of-check}
 use Rattle.protocol.specs.State.{Tx}
 use Rattle.protocol.specs.Proof.Tables.{on}
@@ -65,6 +68,9 @@ module _ (m : Message) (f : Fits m) where
   pub from-of : fromOf bytes ≡ m .from
   from-of = sym (header bytes .1) ∙ ap (λ (x : Message). x .from) back
 
+  pub to-of : toOf bytes ≡ m .to
+  to-of = sym (header bytes .2) ∙ ap (λ (x : Message). x .to) back
+
   pub tx-of : txOf bytes ≡ txIn m
   tx-of = tx-decoded bytes ∙ ap txIn back
 
@@ -82,6 +88,26 @@ module _ (m : Message) (f : Fits m) where
 
   pub check-of : wellFormed m ≡ true → checkOf bytes ≡ 0
   check-of w = encoded-checked m f w
+
+-- the header of an encoded message is the message's, where its numbers fit their bytes
+pub header-owner : (m : Message) → ownerOf (encode m) ≡ m .owner
+unfolding encode
+header-owner m = refl
+
+module _ (m : Message) (small : (m .serial < 256 ^ 4) × (m .stamp < 256 ^ 4)) where
+  abbrev sections : List ℕ
+  sections = section encodeEntry (m .entries) ++ (section encodeRival (m .rivals) ++ section encodeWord (m .words))
+
+  at-serial : drop 4 (encode m) ≡ le 4 (m .serial) ++ (le 4 (m .stamp) ++ sections)
+  unfolding encode
+  at-serial = append-assoc (le 4 (m .serial)) (le 4 (m .stamp)) sections
+
+  pub header-serial : serialOf (encode m) ≡ m .serial
+  header-serial = number-at (encode m) 4 4 (m .serial) (le 4 (m .stamp) ++ sections) (small .0) at-serial
+
+  pub header-stamp : stampOf (encode m) ≡ m .stamp
+  header-stamp = number-at (encode m) 4 8 (m .stamp) sections (small .1)
+      (next (encode m) 4 4 (le 4 (m .serial)) (le 4 (m .stamp) ++ sections) (length-le 4 (m .serial)) at-serial)
 
 -- an accepted message is well formed
 pub formed-of : (b : List ℕ) → checkOf b ≡ 0 → wellFormed (decode b) ≡ true
@@ -114,3 +140,34 @@ formed-word m f k = counts-word (m .kind) _ _ _ (Rattle.wire.specs.Formed.wordO
 -- the same of a vote's bytes
 pub word-known : (b : List ℕ) → checkOf b ≡ 0 → kindOf b ≡ 4 → (wordOf b ≡ 0) ⊎ (wordOf b ≡ 1)
 word-known b e k = on (formed-word (decode b) (formed-of b e) (inl (header b .0 ∙ k))) (λ q. inl (word-decoded b ∙ q)) (λ q. inr (word-decoded b ∙ q))
+
+-- ---- the one rival that a yield names is the owner that it goes to
+rival-decoded : (b : List ℕ) → rivalOf b 0 ≡ getD (decode b .rivals) 0 noRival
+unfolding decode
+rival-decoded b = let z : rivalsPlace b + 5 * 0 ≡ rivalsPlace b = omega arith in
+    ap (λ (i : ℕ). cond (ltb 0 (rivalCount b)) (rivalAt b i) noRival) z ∙ first-item rivalAt 5 (rivalCount b) b (rivalsPlace b) noRival
+
+one-rival : (ok : Rival → Bool) (rs : List Rival) → length rs ≡ 1 → every ok rs ≡ true → ok (getD rs 0 noRival) ≡ true
+one-rival ok [] e f = absurd (let z : ⊥ = omega arith in z)
+one-rival ok (r ∷ rs) e f = and-true (ok r) (every ok rs) f .0
+
+pub formed-yield : (m : Message) → wellFormed m ≡ true → m .kind ≡ 7 → getD (m .rivals) 0 noRival .owner ≡ m .to
+unfolding wellFormed countsOk rivalsOk rivalOk
+formed-yield m f k =
+    let counts : Bool = countsOk (m .kind) (length (m .entries)) (length (m .rivals)) (length (m .words)) (Rattle.wire.specs.Formed.wordOf m) in
+    let a = and-true counts (namesOk m && (directionOk m && (entriesOk m && rivalsOk m))) f in
+    let b = and-true (namesOk m) (directionOk m && (entriesOk m && rivalsOk m)) (a .1) in
+    let c = and-true (directionOk m) (entriesOk m && rivalsOk m) (b .1) in
+    let d = and-true (entriesOk m) (rivalsOk m) (c .1) in
+    let ok : Rival → Bool = rivalOk (m .kind) (m .owner) (m .to) in
+    let one : length (m .rivals) ≡ 1 = eqb-true (length (m .rivals)) 1 (and-true (eqb (length (m .rivals)) 1) _
+    (subst (λ (k : ℕ). countsOk k (length (m .entries)) (length (m .rivals)) (length (m .words)) (Rattle.wire.specs.Formed.wordOf m) ≡ true) k (a .0)) .0) in
+    let r = getD (m .rivals) 0 noRival in
+    let g : ok r ≡ true = one-rival ok (m .rivals) one (and-true (ascend 0 (map (λ (r : Rival). r .owner) (m .rivals))) (every ok (m .rivals)) (d .1) .1) in
+    let h = and-true (ltb (r .owner) 13) _ g in
+    let i = and-true (not (eqb (r .owner) (m .owner))) _ (h .1) in
+    let j = and-true (leb 1 (r .serial)) _ (i .1) in
+    eqb-true (r .owner) (m .to) (subst (λ (k : ℕ). (not (eqb k 7) || eqb (r .owner) (m .to)) ≡ true) k (j .1))
+
+pub yield-names : (b : List ℕ) → checkOf b ≡ 0 → kindOf b ≡ 7 → rivalOf b 0 .owner ≡ toOf b
+yield-names b e k = ap (λ (r : Rival). r .owner) (rival-decoded b) ∙ formed-yield (decode b) (formed-of b e) (header b .0 ∙ k) ∙ header b .2

@@ -1,13 +1,15 @@
--- What is claimed of every list of station steps from a blank station, whichever nodes are on (DESIGN: demand 3). A list is newest first, so the
--- lists that came before are its ends; what is claimed after every list is claimed after every one of those.
+-- What is claimed of every list of station steps from a blank station, whichever nodes are on: demand 3, and the numbers of deliveries. A list is
+-- newest first, so the lists that came before are its ends; what is claimed after every list is claimed after every one of those.
 use mathlib.Core.Path.{_≡_}
 use mathlib.Core.Logic.{_≢_, _⊎_}
-use mathlib.Core.Bool.{true, cond}
+use mathlib.Core.Bool.{Bool, true, false, cond}
 use lib.Dec.{eqb}
-use mathlib.Core.List.{List, _∷_}
+use mathlib.Core.List.{List, [], _∷_}
+use mathlib.Core.Option.{none}
 use Prim.Native.Nat.{ℕ, _^_, _≤_, _<_}
 use lib.ListN.{length, getD}
 use Rattle.mask.specs.Mask.{contains}
+use Rattle.numbers.specs.Numbers.{outOfTurn, poolFull}
 use Rattle.quorum.specs.declared.Kind.the-variants.{Read}
 use Rattle.quorum.specs.Quorum.{isQuorum}
 use Rattle.wire.specs.declared.Entry.{Entry}
@@ -16,15 +18,16 @@ use Rattle.wire.specs.Decode.{kindOf, decode}
 use Rattle.wire.specs.Items.{wordOf}
 use Rattle.image.specs.Layout.{value, version}
 use Rattle.coordinator.specs.declared.Coordinator.{Coordinator}
-use Rattle.coordinator.specs.State.{idlePhase, objectAt, isOpen, ready}
+use Rattle.coordinator.specs.State.{idlePhase, committed, objectAt, isOpen, ready}
 use Rattle.coordinator.specs.System.{tree}
-use Rattle.station.specs.Station.{Station, blankStation}
+use Rattle.station.specs.Station.{Station, poolSize, blankStation}
 use Rattle.station.specs.Step.{Call, begin, openRead, openWrite, setValue, found, reselect, requestCommit, abort, send, delivery, drop, switch, step}
-use Rattle.station.specs.Run.{after, trace}
+use Rattle.station.specs.Run.{after, Event, eventOf, trace}
 use Rattle.protocol.specs.Table.{In, Suffix, times}
 use Rattle.protocol.specs.Rules.{unused, read, write}
 use Rattle.protocol.specs.State.{Tx, Tx-discrete}
 use Rattle.history.specs.Ledger.{Ledger, ledger, txOf, current, fed, givenTo, lastValue}
+use Rattle.history.specs.Ballots.{Ballots, ballots}
 
 -- A step's arguments are of their C types: thirteen distances of 16 bits, a timestamp of 32 bits, a value of 64 bits. All others may be any number.
 abbrev pub Distances : List ℕ → Type 0
@@ -43,6 +46,11 @@ Typed (send n to t) = Unit {0}
 Typed (delivery k kept) = Unit {0}
 Typed (drop k) = Unit {0}
 Typed (switch n up) = Unit {0}
+
+-- every step of a list
+abbrev pub AllTyped : List Call → Type 0
+AllTyped [] = Unit {0}
+AllTyped (c ∷ cs) = Typed c × AllTyped cs
 
 -- A record's present transaction has this serial, has the object open and ready, and found the value.
 pub record Shows (c : Coordinator) (serial t v : ℕ) : Type 0 where
@@ -70,6 +78,28 @@ Settled L = (x : Tx) → In x (L .committed) → (n : ℕ) → contains (L .part
 abbrev pub Newest : Station → ℕ → ℕ → ℕ → Type 0
 Newest st q n t = (m : ℕ) → m < 13 → contains q m ≡ true → version (st .images m) t ≤ version (st .images n) t
 
+-- a transaction is ripe: votes were asked for it, a yes of it from every participant was delivered to its owner while on, and nothing spoilt it since
+pub record Ripe (L : Ledger) (B : Ballots) (x : Tx) : Type 0 where
+  pub asked : L .participants x ≢ 0
+  pub everyone : (n : ℕ) → contains (L .participants x) n ≡ true → B .agreed x n ≡ true
+  pub unspoilt : B .spoilt x ≡ false
+
+-- an event is a delivery that answered 'committed' for the transaction
+pub record SaysCommitted (L : Ledger) (e : Event) (x : Tx) : Type 0 where
+  pub place : ℕ
+  pub kept : Bool
+  pub a-delivery : e .call ≡ delivery place kept
+  pub accepted : e .number ≡ 0
+  pub says-so : e .answer ≡ committed
+  pub names : txOf (getD (L .pool) place []) ≡ x
+
+-- a kept delivery that has an answer (the same delivery, not kept, puts it into the pool) with 128 messages waiting: 12
+pub record Crowded (st : Station) (k : ℕ) (kept : Bool) : Type 0 where
+  pub number : step st (delivery k kept) .number ≡ poolFull
+  pub is-kept : kept ≡ true
+  pub waiting : length (st .pool) ≡ poolSize
+  pub an-answer : step st (delivery k false) .put ≢ none
+
 module _ (on : ℕ) where
   abbrev pub reached : List Call → Station
   reached cs = after (blankStation on) cs
@@ -77,7 +107,20 @@ module _ (on : ℕ) where
   abbrev pub told : List Call → Ledger
   told cs = ledger (trace (blankStation on) cs)
 
+  abbrev pub votes : List Call → Ballots
+  votes cs = ballots on (trace (blankStation on) cs)
+
+  -- the event of one more step; it makes a transaction ripe that was not
+  abbrev pub event : List Call → Call → Event
+  event ds c = eventOf c (step (reached ds) c)
+
+  abbrev pub Ripens : List Call → Call → Tx → Type 0
+  Ripens ds c x = (Ripe (told ds) (votes ds) x → ⊥) × Ripe (told (c ∷ ds)) (votes (c ∷ ds)) x
+
   pub record Demand3 (cs : List Call) : Type 0 where
+    -- what 'committed' means: a delivery answers it for a transaction exactly when it makes the transaction ripe
+    pub committed-ripens : (x : Tx) (c : Call) (ds : List Call) → Suffix (c ∷ ds) cs → SaysCommitted (told ds) (event ds c) x → Ripens ds c x
+    pub ripens-committed : (x : Tx) (c : Call) (ds : List Call) → Suffix (c ∷ ds) cs → Ripens ds c x → SaysCommitted (told ds) (event ds c) x
     -- (0) each committed transaction stands exactly once in the log, and so in what replay is fed
     pub logged-once : (x : Tx) → In x (told cs .committed) → times Tx-discrete x (told cs .log) ≡ 1
     pub fed-once : (x : Tx) → In x (told cs .committed) → times Tx-discrete x (fed (told cs)) ≡ 1
@@ -98,3 +141,10 @@ module _ (on : ℕ) where
     -- (c) if it is settled, then in every read quorum, larger sets too, whichever nodes are on, every newest copy has replay's last value
     pub newest : Settled (told cs) → (q : ℕ) → isQuorum Read q ≡ true → (n t : ℕ) → n < 13 → contains q n ≡ true → t < 64 → Newest (reached cs) q n t
         → value (reached cs .images n) t ≡ lastValue (told cs) t
+
+  -- The numbers of deliveries: 5 only where no such message waits, 12 as above, else 0. So whatever waits is accepted where it goes: it is never garbled,
+  -- for another node or out of turn, and no image is damaged.
+  pub record DeliveryNumbers (cs : List Call) : Type 0 where
+    pub none-waits : (k : ℕ) (kept : Bool) → length (reached cs .pool) ≤ k → step (reached cs) (delivery k kept) .number ≡ outOfTurn
+    pub one-waits : (k : ℕ) (kept : Bool) → k < length (reached cs .pool)
+        → (step (reached cs) (delivery k kept) .number ≡ 0) ⊎ Crowded (reached cs) k kept

@@ -1,4 +1,6 @@
--- Document 01's station machine: what a station is (Station), its steps (Step), runs of steps and what is seen of them (Run).
+-- Document 01's station machine: what a station is (Station), its steps (Step), runs of steps and what is seen of them (Run),
+-- and the same over lent buffers (Buffers).
 pub mod Station
 pub mod Step
 pub mod Run
+pub mod Buffers

@@ -1,0 +1,10 @@
+-- The steps over the buffers: thirteen parts of one width (Parted), and what host calls (Hosted), sends (Sending), drops (Dropping) and deliveries
+-- (Waiting, Delivering, Arriving) tell and leave.
+pub mod Parted
+pub mod Hosted
+pub mod Sending
+pub mod Dropping
+pub mod Waiting
+pub mod Delivering
+pub mod Arriving
+pub mod Blanking

@@ -1,0 +1,256 @@
+-- A send over the buffers, by what is due: a refusal, nothing, a message that is not well formed, or a message.
+use mathlib.Core.Path.{_≡_, refl, sym, ap, ap₂, _∙_, subst}
+use mathlib.Core.Bool.{Bool, true, false, cond, not, _&&_}
+use mathlib.Core.Logic.{_⊎_, inl, inr}
+use mathlib.Core.List.{List, _++_}
+use Prim.Native.Nat.{ℕ, zero, suc, _<_, _≤_}
+use native.Mathlib.Omega.{arith}
+use lib.Dec.{eqb, ltb}
+use lib.ListN.{length, take, drop}
+use lib.Seq.{take-append-seam}
+use borrow.Author.Tests.{eq-eqb, ne-eqb, eqb-true, eqb-false, lt-ltb, le-ltb, ltb-true}
+use Rattle.mask.specs.Mask.{contains}
+use Rattle.numbers.specs.Refusal.{firstOf}
+use Rattle.wire.specs.declared.Written.{Written}
+use Rattle.wire.specs.Message.{Message}
+use Rattle.wire.specs.Formed.{wellFormed}
+use Rattle.wire.specs.Encode.{encode}
+use Rattle.wire.specs.Write.{answer, writtenOf, bufferAfter}
+use Rattle.wire.proofs.Theorems.{length-bounds}
+use Rattle.coordinator.specs.declared.Coordinator.{Coordinator}
+use Rattle.coordinator.specs.System.{tree}
+use Rattle.coordinator.specs.Due.{dueKind, dueRefusals}
+use Rattle.due.specs.Due.{messageDue, writeRefusals, isDue, dueWritten, dueBuffer}
+use Rattle.pool.specs.Pool.{count, waiting, check}
+use Rattle.pool.specs.Change.{added, addNumber, addAfter}
+use Rattle.pool.proofs.Numbers.{Room, fine, room-number, add-after}
+use Rattle.pool.proofs.Laws.{length-waiting}
+use Rattle.station.specs.Station.{Station}
+use Rattle.station.specs.Step.{Outcome, whenOff, sendNumber, sendOf, step}
+use Rattle.station.specs.Buffers.{onOf, recordIn, stationOf, answerWith, told, ends, hostFirst, lower, poolAfter, putInto, sending, sendFirst}
+use Rattle.station.specs.Buffers.{sendTold, sendPool}
+use Rattle.station.proofs.Hosted.{off-number}
+
+above : (k : ℕ) → (k ≡ 0 → ⊥) → 0 < k
+above zero h = absurd (h refl)
+above (suc k) h = omega arith
+
+-- ---- what is due, into a buffer of 128 bytes
+module _ (c : Coordinator) (n to object : ℕ) where
+  abbrev pub refusal : ℕ
+  refusal = firstOf (dueRefusals c n to object)
+
+  abbrev pub kind : ℕ
+  kind = dueKind tree c to object
+
+  abbrev pub message : Message
+  message = messageDue c n to object (dueKind tree c to object)
+
+  abbrev written : Written
+  written = dueWritten tree 128 c n to object
+
+  -- each case with what the writer gives
+  pub Case : Written → Type 0
+  Case w =
+      ((refusal ≡ 0 → ⊥) × (w ≡ answer refusal 0))
+      ⊎ (((refusal ≡ 0) × (kind ≡ 0) × (w ≡ answer 0 0))
+      ⊎ (((refusal ≡ 0) × (kind ≡ 0 → ⊥) × (wellFormed message ≡ false) × (w ≡ answer 3 0))
+      ⊎ ((refusal ≡ 0) × (kind ≡ 0 → ⊥) × (wellFormed message ≡ true) × (w ≡ answer 0 (length (encode message))))))
+
+  pub cases : (w : Written) → w ≡ dueWritten tree 128 c n to object → Case w
+  unfolding Case dueWritten isDue writeRefusals writtenOf
+  cases w e = by (eqb refusal 0) (eqb kind 0) (wellFormed message) refl refl refl
+    where
+      by : (a b f : Bool) → eqb refusal 0 ≡ a → eqb kind 0 ≡ b → wellFormed message ≡ f → Case w
+      by false b f p q r = inl (eqb-false refusal 0 p, e ∙ simp p)
+      by true true f p q r =
+          let z : kind ≡ 0 = eqb-true kind 0 q in
+          inr (inl (eqb-true refusal 0 p, z, e ∙ simp (p, le-ltb 0 kind (omega arith)) (ap (λ (k : ℕ). answer k 0) (eqb-true refusal 0 p))))
+      by true false false p q r =
+          let z = eqb-false kind 0 q in
+          inr (inr (inl (eqb-true refusal 0 p, z, r, e ∙ simp (p, lt-ltb 0 kind (above kind z), r))))
+      by true false true p q r =
+          let z = eqb-false kind 0 q in
+          inr (inr (inr (eqb-true refusal 0 p, z, r, e ∙ simp (p, lt-ltb 0 kind (above kind z), r))))
+
+  -- a message's bytes at the front of the buffer
+  pub filled : (w : Written) → w ≡ dueWritten tree 128 c n to object → 0 < w .length → (out : List ℕ) → length out ≡ 128
+      → (wellFormed message ≡ true) × (take (w .length) (dueBuffer tree c n to object out) ≡ encode message)
+  unfolding Case dueBuffer isDue writeRefusals bufferAfter
+  filled w e h out d = by (cases w e)
+    where
+      none : (k : ℕ) → w ≡ answer k 0 → ⊥
+      none k p = let z : w .length ≡ 0 = ap (λ (x : Written). x .length) p in omega arith
+
+      by : Case w → (wellFormed message ≡ true) × (take (w .length) (dueBuffer tree c n to object out) ≡ encode message)
+      by (inl p) = absurd (none _ (p .1))
+      by (inr (inl p)) = absurd (none 0 (p .2))
+      by (inr (inr (inl p))) = absurd (none 3 (p .3))
+      by (inr (inr (inr p))) =
+          let f = p .2 in
+          let k : w .length ≡ length (encode message) = ap (λ (x : Written). x .length) (p .3) in (
+            f,
+            simp (d, eq-eqb refusal 0 (p .0), lt-ltb 0 kind (above kind (p .1)), f)
+                (ap (λ (j : ℕ). take j (encode message ++ drop (length (encode message)) out)) k
+                ∙ take-append-seam (encode message) (drop (length (encode message)) out)),
+          )
+
+  pub written-fits : (w : Written) → w ≡ dueWritten tree 128 c n to object → w .length ≤ 128
+  unfolding Case
+  written-fits w e = by (cases w e)
+    where
+      none : (k : ℕ) → w ≡ answer k 0 → w .length ≤ 128
+      none k p = let z : w .length ≡ 0 = ap (λ (x : Written). x .length) p in omega arith
+
+      by : Case w → w .length ≤ 128
+      by (inl p) = none _ (p .1)
+      by (inr (inl p)) = none 0 (p .2)
+      by (inr (inr (inl p))) = none 3 (p .3)
+      by (inr (inr (inr p))) =
+          let k : w .length ≡ length (encode message) = ap (λ (x : Written). x .length) (p .3) in
+          let b = length-bounds message (p .2) .1 in
+          omega arith
+
+-- ---- the buffers' number
+pub send-first : (R P O : List ℕ) (n : ℕ) → sendFirst (sending R P O) n ≡ lower (hostFirst (ends R O) n) (check P)
+unfolding sendFirst hostFirst
+send-first R P O n = refl
+
+pub pool-first : (n m : ℕ) (o : Outcome) (l : List ℕ) → n ≡ m → (n ≡ 0 → ⊥) → l ≡ poolAfter m o l
+unfolding poolAfter
+pool-first n m o l e h = simp (ne-eqb m 0 (λ z. h (e ∙ z)))
+
+-- ---- the send itself
+module _ (R P O : List ℕ) (n to object : ℕ) where
+  abbrev c : Coordinator
+  c = recordIn R n
+
+  abbrev o : Outcome
+  o = sendOf (stationOf (sending R P O)) n to object
+
+  -- the node is off
+  pub off-told : contains (onOf O) n ≡ false → (w : Written) → w ≡ dueWritten tree 128 c n to object → answerWith (whenOff (w .number)) 0 ≡ told 0 o
+  unfolding told sendOf sendNumber Case
+  off-told e w d =
+      ap (λ (k : ℕ). answerWith k 0) (by (cases c n to object w d))
+      ∙ simp (e, ne-eqb (whenOff (refusal c n to object)) 0 (off-number (refusal c n to object)))
+    where
+      by : Case c n to object w → whenOff (w .number) ≡ whenOff (refusal c n to object)
+      by (inl p) = ap (λ (x : Written). whenOff (x .number)) (p .1)
+      by (inr (inl p)) = ap (λ (x : Written). whenOff (x .number)) (p .2) ∙ ap whenOff (sym (p .0))
+      by (inr (inr (inl p))) = ap (λ (x : Written). whenOff (x .number)) (p .3) ∙ ap whenOff (sym (p .0))
+      by (inr (inr (inr p))) = ap (λ (x : Written). whenOff (x .number)) (p .3) ∙ ap whenOff (sym (p .0))
+
+  pub off-left : contains (onOf O) n ≡ false → P ≡ poolAfter 0 o P
+  unfolding poolAfter sendOf sendNumber
+  off-left e = let h = ne-eqb (whenOff (refusal c n to object)) 0 (off-number (refusal c n to object)) in simp (e, h)
+
+  module _ (e : contains (onOf O) n ≡ true) (w : Written) (d : w ≡ dueWritten tree 128 c n to object) where
+    -- the number where it is not the pool's
+    stop-both : (w .number ≡ 0 → ⊥) → (answerWith (w .number) 0 ≡ told 0 o) × (P ≡ poolAfter 0 o P)
+    unfolding told poolAfter sendOf sendNumber Case
+    stop-both h = by (cases c n to object w d)
+      where
+        by : Case c n to object w → (answerWith (w .number) 0 ≡ told 0 o) × (P ≡ poolAfter 0 o P)
+        by (inl p) =
+            let t = ne-eqb (refusal c n to object) 0 (p .0) in
+            (ap (λ (x : Written). answerWith (x .number) 0) (p .1) ∙ simp (e, t), simp (e, t))
+        by (inr (inl p)) = absurd (h (ap (λ (x : Written). x .number) (p .2)))
+        by (inr (inr (inl p))) =
+            let t = eq-eqb (refusal c n to object) 0 (p .0) in
+            let u = ne-eqb (kind c n to object) 0 (p .1) in
+            (ap (λ (x : Written). answerWith (x .number) 0) (p .3) ∙ simp (e, t, u, p .2), simp (e, t, u, p .2))
+        by (inr (inr (inr p))) = absurd (h (ap (λ (x : Written). x .number) (p .3)))
+
+    pub stop-told : (w .number ≡ 0 → ⊥) → answerWith (w .number) 0 ≡ told 0 o
+    stop-told h = stop-both h .0
+
+    pub stop-left : (w .number ≡ 0 → ⊥) → P ≡ poolAfter 0 o P
+    stop-left h = stop-both h .1
+
+    -- the pool is full
+    full-both : w .number ≡ 0 → 128 ≤ count P → (answerWith 12 0 ≡ told 0 o) × (P ≡ poolAfter 0 o P)
+    unfolding told poolAfter sendOf sendNumber Case
+    full-both h f = by (cases c n to object w d)
+      where
+        s : ltb (length (waiting P)) 128 ≡ false
+        s = ap (λ (k : ℕ). ltb k 128) (length-waiting P) ∙ le-ltb (count P) 128 f
+
+        by : Case c n to object w → (answerWith 12 0 ≡ told 0 o) × (P ≡ poolAfter 0 o P)
+        by (inl p) = absurd (p .0 (sym (ap (λ (x : Written). x .number) (p .1)) ∙ h))
+        by (inr (inl p)) =
+            let t = eq-eqb (refusal c n to object) 0 (p .0) in
+            let u = eq-eqb (kind c n to object) 0 (p .1) in
+            (simp (e, t, u, s), simp (e, t, u, s))
+        by (inr (inr (inl p))) =
+            let z : 3 ≡ w .number = sym (ap (λ (x : Written). x .number) (p .3)) in
+            absurd (let y : ⊥ = omega arith in y)
+        by (inr (inr (inr p))) =
+            let t = eq-eqb (refusal c n to object) 0 (p .0) in
+            let u = ne-eqb (kind c n to object) 0 (p .1) in
+            (simp (e, t, u, p .2, s), simp (e, t, u, p .2, s))
+
+    pub full-told : w .number ≡ 0 → 128 ≤ count P → answerWith 12 0 ≡ told 0 o
+    full-told h f = full-both h f .0
+
+    pub full-left : w .number ≡ 0 → 128 ≤ count P → P ≡ poolAfter 0 o P
+    full-left h f = full-both h f .1
+
+    -- a message goes, or nothing is due
+    gone-both : w .number ≡ 0 → count P < 128 → (answerWith 0 0 ≡ told 0 o)
+        × ((w .length ≤ 0 → P ≡ poolAfter 0 o P) × (0 < w .length → added P (encode (message c n to object)) ≡ poolAfter 0 o P))
+    unfolding told poolAfter putInto sendOf sendNumber Case
+    gone-both h f = by (cases c n to object w d)
+      where
+        s : ltb (length (waiting P)) 128 ≡ true
+        s = ap (λ (k : ℕ). ltb k 128) (length-waiting P) ∙ lt-ltb (count P) 128 f
+
+        by : Case c n to object w → (answerWith 0 0 ≡ told 0 o)
+            × ((w .length ≤ 0 → P ≡ poolAfter 0 o P) × (0 < w .length → added P (encode (message c n to object)) ≡ poolAfter 0 o P))
+        by (inl p) = absurd (p .0 (sym (ap (λ (x : Written). x .number) (p .1)) ∙ h))
+        by (inr (inl p)) =
+            let t = eq-eqb (refusal c n to object) 0 (p .0) in
+            let u = eq-eqb (kind c n to object) 0 (p .1) in
+            let z : w .length ≡ 0 = ap (λ (x : Written). x .length) (p .2) in
+            (simp (e, t, u, s), ((λ q. simp (e, t, u, s)), (λ q. absurd (let y : ⊥ = omega arith in y))))
+        by (inr (inr (inl p))) =
+            let z : 3 ≡ w .number = sym (ap (λ (x : Written). x .number) (p .3)) in
+            absurd (let y : ⊥ = omega arith in y)
+        by (inr (inr (inr p))) =
+            let t = eq-eqb (refusal c n to object) 0 (p .0) in
+            let u = ne-eqb (kind c n to object) 0 (p .1) in
+            let v = p .2 in
+            let z : w .length ≡ length (encode (message c n to object)) = ap (λ (x : Written). x .length) (p .3) in
+            let b = length-bounds (message c n to object) v .0 in
+            (simp (e, t, u, v, s), ((λ q. absurd (let y : ⊥ = omega arith in y)), (λ q. simp (e, t, u, v, s))))
+
+    pub gone-told : w .number ≡ 0 → count P < 128 → answerWith 0 0 ≡ told 0 o
+    gone-told h f = gone-both h f .0
+
+    pub idle-left : w .number ≡ 0 → count P < 128 → w .length ≤ 0 → P ≡ poolAfter 0 o P
+    idle-left h f = gone-both h f .1 .0
+
+    pub sent-put : w .number ≡ 0 → count P < 128 → 0 < w .length → added P (encode (message c n to object)) ≡ poolAfter 0 o P
+    sent-put h f = gone-both h f .1 .1
+
+  -- what the pool's own addition gives
+  pub sent-both : contains (onOf O) n ≡ true → (w : Written) → w ≡ dueWritten tree 128 c n to object → w .number ≡ 0 → count P < 128 → 0 < w .length
+      → check P ≡ 0 → (out l : List ℕ) → length out ≡ 128 → l ≡ dueBuffer tree c n to object out → (j : ℕ) → j ≡ w .length
+      → (answerWith (addNumber P (length (take j l))) 0 ≡ told 0 o) × (addAfter P (take j l) ≡ poolAfter 0 o P)
+  sent-both e w d h f g p out l u q j i =
+      let m = encode (message c n to object) in
+      let a = filled c n to object w d g out u in
+      let t : take j l ≡ m = ap₂ (λ (k : ℕ) (x : List ℕ). take k x) i q ∙ a .1 in
+      let r : Room P (length m) = record { pool = fine P p; size = length-bounds (message c n to object) (a .0) .1; slot = f } in (
+        ap (λ (x : List ℕ). answerWith (addNumber P (length x)) 0) t ∙ ap (λ (k : ℕ). answerWith k 0) (room-number P (length m) r) ∙ gone-told e w d h f,
+        ap (addAfter P) t ∙ add-after P m r ∙ sent-put e w d h f g,
+      )
+
+  -- where the buffers are sound the step is the send
+  pub started-told : sendFirst (sending R P O) n ≡ 0 → told 0 o ≡ sendTold (sending R P O) n to object
+  unfolding step
+  started-told e = ap (λ (k : ℕ). told k o) (sym e)
+
+  pub started-pool : sendFirst (sending R P O) n ≡ 0 → poolAfter 0 o P ≡ sendPool (sending R P O) n to object
+  unfolding step
+  started-pool e = ap (λ (k : ℕ). poolAfter k o P) (sym e)

@@ -1,0 +1,63 @@
+// What the pool takes part in: a send of what is due, and a drop.
+ghost use mathlib.Core.Path.{_≡_};
+ghost use mathlib.Core.List.{List};
+ghost use lib.ListN.{length, take};
+ghost use Rattle.coordinator.specs.System.{tree};
+ghost use Rattle.due.specs.Due.{dueWritten, dueBuffer};
+ghost use Rattle.pool.specs.Pool.{check};
+ghost use Rattle.station.specs.Buffers.{lower, sending, sendTold, sendPool, dropping, dropTold, dropPool};
+use crate::Answer;
+use crate::calls::host_number;
+use crate::common::on;
+use crate::common::record_of;
+use crate::common::refused;
+use crate::common::when_off;
+use crate::common::wide;
+
+// Of two numbers the lower that is not 0.
+pub(crate) fn lower(m: u8, n: u8) -> u8
+    ensures { λ r. ⌜ r ≡ lower m n ⌝ }
+{
+    if m == 0 {
+        return n;
+    }
+    if n == 0 {
+        return m;
+    }
+    if m < n { m } else { n }
+}
+
+// Sends what is due to a node. Ruled out: a message put at the pool's front; a message sent where nothing is due.
+pub fn send(records: &[u8], pool: &mut [u8], own: &[u8], node: u8, to: u8, object: u8) -> Answer
+    ensures { λ r. ⌜ r ≡ sendTold (sending (now (records .entry)) (now (pool .entry)) (now (own .entry))) node to object ⌝ }
+    ensures { λ r. ⌜ now (pool .exit) ≡ sendPool (sending (now (records .entry)) (now (pool .entry)) (now (own .entry))) node to object ⌝ }
+{
+    let number = lower(host_number(records, own, node), pool::check(pool));
+    if number != 0 {
+        return refused(number);
+    }
+    let mut b = [0u8; 128];
+    let w = due::write(record_of(records, node), node, to, object, &mut b);
+    if !mask::has(on(own), node) {
+        return refused(when_off(w.number));
+    }
+    if w.number != 0 {
+        return refused(w.number);
+    }
+    if pool::SLOTS <= pool::count(pool) {
+        return refused(numbers::POOL_FULL);
+    }
+    let n = wide(w.length);
+    if 0 < n {
+        return refused(pool::add(pool, &b[..n]));
+    }
+    refused(0)
+}
+
+// Drops the k-th message. Ruled out: another message dropped; 0 where none waits.
+pub fn drop(pool: &mut [u8], k: u8) -> Answer
+    ensures { λ r. ⌜ r ≡ dropTold (dropping (now (pool .entry))) k ⌝ }
+    ensures { λ r. ⌜ now (pool .exit) ≡ dropPool (dropping (now (pool .entry))) k ⌝ }
+{
+    refused(pool::remove(pool, k))
+}
