@@ -60,7 +60,7 @@ unfolding withImageAt imageAt
 image-same I n = splice-same 1207 (1207 * n) I
 
 -- ---- what a replica brings about: a refusal that changes nothing, or a step whose answer is well formed
-pub Brought : List ℕ → Delivered → Type 0
+unfoldable pub Brought : List ℕ → Delivered → Type 0
 Brought l d = ((d .number ≡ 0 → ⊥) × (d .image ≡ l) × (d .answer ≡ silent)) ⊎ ((d .number ≡ 0) × Fine (d .answer))
 
 pub brought : (l : List ℕ) (n : ℕ) (b : List ℕ) → Brought l (deliver 128 l n b)
@@ -78,7 +78,7 @@ brought l n b = by (eqb (refusal 128 l n b) 0) refl
         subst (Brought l) (sym (refused-is 128 l n b z)) (inl (z, refl, refl))
 
 -- the bytes of an answer, as they stand at the front of the buffer
-pub said : Answer → List ℕ
+unfoldable pub said : Answer → List ℕ
 said silent = []
 said (says m) = encode m
 
@@ -106,7 +106,7 @@ module _ (I R P O : List ℕ) (n k : ℕ) (kept : Bool) where
   full = not (ltb (count P) 128)
 
   -- the outcome of what the replica brings about
-  pub by : Delivered → Outcome
+  unfoldable pub by : Delivered → Outcome
   by d = cond (eqb (d .number) 0) (answered st k kept n (d .image) (d .answer)) (refusedWith (d .number) st)
 
   pub at-is : n < 13 → atReplica st k kept n (messageAt P k) ≡ by (deliver 128 (imageAt I n) n (messageAt P k))

@@ -1,0 +1,43 @@
+-- One more step: the buffers hold what the longer list leaves, and demand 3 holds of it.
+use mathlib.Core.Path.{_≡_, refl, sym, ap, subst, _∙_}
+use mathlib.Core.List.{List, [], _∷_}
+use Prim.Native.Nat.{ℕ}
+use Rattle.station.specs.declared.Answer.{Answer}
+use Rattle.station.specs.Station.{Station, blankStation}
+use Rattle.station.specs.Step.{Call, step}
+use Rattle.station.specs.Buffers.{Buffers, stationOf, all, answerWith, onOf, blankNumber, blankAfter}
+use Rattle.station.proofs.Blanking.{blank-is-blank}
+use Rattle.history.specs.Claims.{AllTyped, reached}
+use Rattle.history.proofs.Theorem.{Good}
+use Rattle.history.proofs.Claimed.{always-good, demand-3}
+use Rattle.history.proofs.Numbered.{delivery-number}
+use Rattle.runs.specs.Order.{toldOf, leftOf}
+use Rattle.runs.specs.Held.{Holds, Next, Claimed}
+use Rattle.runs.proofs.After.{Sane, goes}
+
+-- a station that steps reached is sane
+sane : (up : ℕ) (cs : List Call) → AllTyped cs → Sane (reached up cs)
+sane up cs a = let g = always-good up cs a in record {
+  fits = g .wide .fits;
+  meets = g .world .valid .records;
+  sized = λ n. g .world .valid .images n .0 .size;
+}
+
+-- what a step tells and leaves has the claims
+pub claimed : (I R P O : List ℕ) (c : Call) → Claimed (all I R P O) c (toldOf (all I R P O) c) (leftOf (all I R P O) c)
+claimed I R P O c up cs a h =
+    let b = all I R P O in
+    let e = h .station in
+    let s : Sane (step (stationOf b) c .station) = subst (λ (x : Station). Sane (step x c .station)) (sym e) (sane up (c ∷ cs) a) in
+    let g = goes I R P O (h .whole) c s in
+    record {
+      holds = record { whole = g .0 .0; station = g .0 .1 ∙ ap (λ (x : Station). step x c .station) e };
+      number = ap (λ (x : Answer). x .number) (g .1) ∙ ap (λ (x : Station). step x c .number) e;
+      answer = ap (λ (x : Answer). x .answer) (g .1) ∙ ap (λ (x : Station). step x c .answer) e;
+      demand-3 = demand-3 up (c ∷ cs) a;
+      numbers = delivery-number up (c ∷ cs) a;
+    }
+
+-- the maker of a blank station leaves what the empty list left
+pub begun : (b : Buffers) (on : ℕ) → blankNumber b on ≡ 0 → Holds on [] (blankAfter b on)
+begun b on e = let z = blank-is-blank b on e in record { whole = z .0 .0; station = z .0 .1 ∙ ap blankStation (z .1) }

@@ -1,0 +1,40 @@
+-- `runs::start`: the station's own maker, whose buffers hold what the empty list left.
+use mathlib.Core.Path.{_≡_, sym, subst, _∙_}
+use mathlib.Core.List.{[]}
+use denote.Ref.{now}
+use Rattle.station.specs.Buffers.{Buffers, all, blankAfter}
+use Rattle.runs.specs.Held.{Holds}
+use Rattle.runs.proofs.Demand.{begun}
+use borrow.Author.Needs.{needs}
+use Rattle.runs.proofs.start.Statement.{statement}
+use Rattle.runs.proofs.start.Tie as tie
+
+blank-requires : tie.Need-blank-requires
+blank-requires c κs = search needs
+
+same-length : tie.Need-same-length
+same-length c = search needs
+
+same-length-2 : tie.Need-same-length-2
+same-length-2 c = search needs
+
+same-length-3 : tie.Need-same-length-3
+same-length-3 c = search needs
+
+same-length-4 : tie.Need-same-length-4
+same-length-4 c = search needs
+
+returns : tie.Need-returns
+returns c =
+    let c6 = c .before .before .before .before .before .before in
+    let c12 = c6 .before .before .before .before .before .before in
+    let x = c12 .before .before .before .before .before .args in
+    let b = all (now (x .images)) (now (x .records)) (now (x .pool)) (now (x .own)) in
+    let e = c6 .before .before .blank .ensures in
+    let l : all _ _ _ _ ≡ blankAfter b (x .on) = λ j. all (e .1 .0 j) (e .1 .1 .0 j) (e .1 .1 .1 .0 j) (e .1 .1 .1 .1 j) in
+    (e .0, (l, (λ z. subst (Holds (x .on) []) (sym l) (begun b (x .on) (sym (e .0) ∙ z)))))
+
+pub start-spec : {M : Type 1} → statement M
+start-spec =
+    tie.close
+    (tie.spec blank-requires same-length same-length-2 same-length-3 same-length-4 returns)

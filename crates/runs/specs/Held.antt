@@ -1,0 +1,25 @@
+-- Buffers that hold what a list of steps left, and what one more step brings about: demand 3 of the longer list.
+use mathlib.Core.Path.{_≡_}
+use mathlib.Core.List.{List, _∷_}
+use Prim.Native.Nat.{ℕ}
+use Rattle.station.specs.declared.Answer.{Answer}
+use Rattle.station.specs.Step.{Call, step}
+use Rattle.station.specs.Buffers.{Buffers, stationOf, Whole}
+use Rattle.history.specs.Claims.{AllTyped, reached, Demand3, DeliveryNumbers}
+
+-- the four buffers are whole, and the station that they are is the one that the steps of the list reached from a blank one with the nodes `up` on
+pub record Holds (up : ℕ) (cs : List Call) (b : Buffers) : Type 0 where
+  pub whole : Whole b
+  pub station : stationOf b ≡ reached up cs
+
+-- after one more step, told r: the buffers hold what the longer list left, the event is the step's own, and the claims hold of the longer list
+pub record Next (up : ℕ) (cs : List Call) (c : Call) (r : Answer) (b : Buffers) : Type 0 where
+  pub holds : Holds up (c ∷ cs) b
+  pub number : r .number ≡ step (reached up cs) c .number
+  pub answer : r .answer ≡ step (reached up cs) c .answer
+  pub demand-3 : Demand3 up (c ∷ cs)
+  pub numbers : DeliveryNumbers up (c ∷ cs)
+
+-- whatever list of steps the buffers before hold. (That the numbers of a step fit their C types is true of every order: `AllTyped` says it.)
+abbrev pub Claimed : Buffers → Call → Answer → Buffers → Type 0
+Claimed before c r after = (up : ℕ) (cs : List Call) → AllTyped (c ∷ cs) → Holds up cs before → Next up cs c r after
