@@ -28,6 +28,9 @@
 --   InTurn            why nothing that waits is out of turn: what is kept, over one record, one image or another pool
 --   Going, Turned     coordinators keep it; every step does
 --   Room, Numbered    the pool has at most 128 messages; the number of every delivery
+-- Replay's last values in bounded memory:
+--   Ranks             places in a list; what one more commit makes of the values held
+--   Tracked, Running  what a digest keeps of a ledger; every list of steps, as a digest and as a sheet
 pub mod Tests
 pub mod Quorums
 pub mod Sim
@@ -63,3 +66,6 @@ pub mod Polls
 pub mod Meaning
 pub mod Claimed
 pub mod Numbered
+pub mod Ranks
+pub mod Tracked
+pub mod Running

@@ -1,0 +1,4 @@
+pub mod Steps
+pub mod Cells
+pub mod Laws
+pub mod Example

@@ -1,0 +1,76 @@
+-- A sheet: a digest in one slice of 64-bit numbers. First the count of places, then by owner its serial and its place, then by object the place and
+-- the value of its last writer, then for each owner a row: its 64 marks of what it writes, and its 64 new values.
+use mathlib.Core.List.{List}
+use Prim.Native.Nat.{ℕ, _+_, _*_}
+use lib.ListN.{getD}
+use Rattle.replay.specs.Digest.{Digest}
+
+abbrev pub owners : ℕ
+owners = 13
+
+abbrev pub objects : ℕ
+objects = 64
+
+-- ---- where each table starts
+abbrev pub serials : ℕ
+serials = 1
+
+abbrev pub places : ℕ
+places = serials + owners
+
+abbrev pub lastPlaces : ℕ
+lastPlaces = places + owners
+
+abbrev pub lastValues : ℕ
+lastValues = lastPlaces + objects
+
+abbrev pub rows : ℕ
+rows = lastValues + objects
+
+abbrev pub rowSize : ℕ
+rowSize = objects + objects
+
+abbrev pub size : ℕ
+size = rows + rowSize * owners
+
+-- ---- where a number stands
+abbrev pub countCell : ℕ
+countCell = 0
+
+abbrev pub serialCell : ℕ → ℕ
+serialCell o = serials + o
+
+abbrev pub placeCell : ℕ → ℕ
+placeCell o = places + o
+
+abbrev pub lastPlaceCell : ℕ → ℕ
+lastPlaceCell t = lastPlaces + t
+
+abbrev pub lastValueCell : ℕ → ℕ
+lastValueCell t = lastValues + t
+
+abbrev pub rowCell : ℕ → ℕ
+rowCell o = rows + rowSize * o
+
+abbrev pub writesCell : ℕ → ℕ → ℕ
+writesCell o t = rowCell o + t
+
+abbrev pub newCell : ℕ → ℕ → ℕ
+newCell o t = rowCell o + objects + t
+
+-- what stands in a cell; 0 where there is none
+abbrev pub cell : List ℕ → ℕ → ℕ
+cell l i = getD l i 0
+
+-- the digest that a sheet has, for owners below 13 and objects below 64
+abbrev pub digestOf : List ℕ → Digest
+digestOf l =
+    record {
+      places = cell l countCell;
+      serial = λ o. cell l (serialCell o);
+      place = λ o. cell l (placeCell o);
+      writes = λ o t. cell l (writesCell o t);
+      new = λ o t. cell l (newCell o t);
+      lastPlace = λ t. cell l (lastPlaceCell t);
+      lastValue = λ t. cell l (lastValueCell t);
+    }
