@@ -1,6 +1,6 @@
 /*
  * senna.h: replicated objects on a tree of thirteen nodes: the quorums, the messages between nodes, a node's stored image, the
- * replica that answers messages from it, and the record of the node's own transaction.
+ * replica that answers messages from it, the record of the node's own transaction, and a whole station of thirteen nodes.
  *
  * Link with libhost.a, which `rt staticlib host` writes to target/staticlib/. Nothing else is needed.
  *
@@ -37,6 +37,11 @@ extern "C" {
 #define SENNA_MESSAGE_MAX 128 /* bytes of the longest message, and of the smallest buffer for one */
 #define SENNA_IMAGE 1207      /* bytes of a stored image */
 #define SENNA_RECORD 301      /* bytes of a coordinator's record */
+#define SENNA_WAITING 128     /* messages that wait in a station's pool, at most */
+#define SENNA_IMAGES 15691    /* bytes of a station's images: thirteen of SENNA_IMAGE, node 0 first */
+#define SENNA_RECORDS 3913    /* bytes of a station's records: thirteen of SENNA_RECORD, node 0 first */
+#define SENNA_POOL 16513      /* bytes of a station's pool */
+#define SENNA_OWN 2           /* bytes of the mask of a station's nodes that are on */
 
 /* Numbers. A call answers 0, or why it refuses; where several fit, the lowest unless its comment says otherwise. */
 #define SENNA_OK 0
@@ -317,13 +322,13 @@ uint8_t senna_replica_answers(const uint8_t *image, size_t image_length, uint8_t
 #define SENNA_READY 3    /* copies of an object have come from a read quorum */
 #define SENNA_FINISHED 4 /* the last done came: the record is idle */
 
-/* The answer of a call on a record. On a refusal answer is 0. */
+/* The answer of a call on a record, and of a station's step. On a refusal answer is 0. */
 typedef struct senna_called {
     uint8_t number;  /* SENNA_OK, or why the call refuses */
     uint64_t answer; /* what its comment says, else 0 */
 } senna_called;
 
-/* The answer of senna_coordinator_found. On a refusal value is 0. */
+/* The answer of senna_coordinator_found and senna_station_found. On a refusal value is 0. */
 typedef struct senna_value {
     uint8_t number; /* SENNA_OK, or why the call refuses */
     int64_t value;
@@ -424,6 +429,98 @@ size_t senna_coordinator_count(const uint8_t *record, size_t length);
 uint8_t senna_coordinator_object(const uint8_t *record, size_t length, uint8_t i);
 uint8_t senna_coordinator_mode(const uint8_t *record, size_t length, uint8_t i);
 uint8_t senna_coordinator_is_ready(const uint8_t *record, size_t length, uint8_t i);
+
+/*
+ * The station: thirteen replicas and thirteen coordinators, the messages that wait, and which nodes are on. It is kept in four lent buffers:
+ *   images   SENNA_IMAGES bytes: each node's image
+ *   records  SENNA_RECORDS bytes: each node's record
+ *   pool     SENNA_POOL bytes: how many messages wait 1, then SENNA_WAITING places of a length 1 and SENNA_MESSAGE_MAX bytes; the messages
+ *            that wait are in the first places, in sending order. What stands behind a message in its place, and in the places past the
+ *            count, does not matter
+ *   own      SENNA_OWN bytes: the mask of the nodes that are on, low byte first, at most SENNA_ALL
+ *
+ * A station begins as senna_station_blank makes it, and each step below changes it in place. The buffers of one call must not overlap. A
+ * step reads and writes only the buffers that it is lent, and of images and records only its node's part.
+ *
+ * Numbers of every step: SENNA_LENGTH (a lent buffer has another length than it must) and SENNA_DAMAGED (a pool with a count above
+ * SENNA_WAITING, a mask above SENNA_ALL, or a record of the node that breaks a rule) come first, then SENNA_STRANGER for a node above 12,
+ * then what its comment says, in the order that it says. On a refusal answer is 0 and every lent byte is as it was. Otherwise every byte that
+ * the comment does not name is as it was. No heap; re-entrant.
+ */
+
+/*
+ * Makes a blank station: blank images and records, a pool of zeros, and the nodes of a mask on. Whatever stood there before is lost.
+ * Numbers, the lowest that fits: SENNA_LENGTH (of any of the four), SENNA_STRANGER (on is above SENNA_ALL).
+ */
+uint8_t senna_station_blank(uint8_t *images, size_t images_length, uint8_t *records, size_t records_length, uint8_t *pool,
+                            size_t pool_length, uint8_t *own, size_t own_length, uint16_t on);
+
+/*
+ * The host's calls at a node: each is the call of the same name on that node's record (senna_coordinator_begin and so on), with its answer
+ * and its numbers. Only the node's record changes.
+ *
+ * SENNA_OUT_OF_TURN also where the node is off, before every later number; SENNA_STRANGER, and at begin SENNA_BUSY, still precede it.
+ */
+senna_called senna_station_begin(uint8_t *records, size_t records_length, const uint8_t *own, size_t own_length, uint8_t node,
+                                 uint16_t live, const uint8_t *distances, size_t size, uint32_t timestamp);
+senna_called senna_station_reselect(uint8_t *records, size_t records_length, const uint8_t *own, size_t own_length, uint8_t node,
+                                    uint16_t live, const uint8_t *distances, size_t size);
+senna_called senna_station_open_read(uint8_t *records, size_t records_length, const uint8_t *own, size_t own_length, uint8_t node,
+                                     uint8_t object);
+senna_called senna_station_open_write(uint8_t *records, size_t records_length, const uint8_t *own, size_t own_length, uint8_t node,
+                                      uint8_t object);
+senna_called senna_station_set_value(uint8_t *records, size_t records_length, const uint8_t *own, size_t own_length, uint8_t node,
+                                     uint8_t object, int64_t value);
+senna_value senna_station_found(uint8_t *records, size_t records_length, const uint8_t *own, size_t own_length, uint8_t node,
+                                uint8_t object);
+senna_called senna_station_request_commit(uint8_t *records, size_t records_length, const uint8_t *own, size_t own_length, uint8_t node);
+senna_called senna_station_abort(uint8_t *records, size_t records_length, const uint8_t *own, size_t own_length, uint8_t node);
+
+/*
+ * Sends what is due from a node to another, and while SENNA_OPEN for an object: what senna_coordinator_due would write goes to the pool's end.
+ * Nothing due: SENNA_OK, and nothing is sent. Only the pool changes. Answers 0.
+ *
+ * Numbers: SENNA_STRANGER (node or to above 12), SENNA_OUT_OF_TURN (the node is off), SENNA_NO_SUCH_OBJECT (while SENNA_OPEN: above 63, or not
+ * opened), SENNA_GARBLED (a record that no step leaves, whose message would not be well formed), SENNA_POOL_FULL (SENNA_WAITING messages wait
+ * already, also where nothing is due).
+ */
+senna_called senna_station_send(const uint8_t *records, size_t records_length, uint8_t *pool, size_t pool_length, const uint8_t *own,
+                                size_t own_length, uint8_t node, uint8_t to, uint8_t object);
+
+/*
+ * Delivers the k-th waiting message, counted from 0 in sending order, to the node that it names. kept: 0 takes it out of the pool, any other
+ * number leaves it waiting. A fetch, an ask or an outcome goes to the node's replica: its image changes, and its answer goes to the pool's end.
+ * The others go to the node's coordinator: its record changes. Answers what a coordinator's message brought about, SENNA_NOTHING to
+ * SENNA_FINISHED, and 0 for a replica's. At a node that is off nothing happens but that the message is taken out.
+ *
+ * Numbers, in this order: SENNA_LENGTH and SENNA_DAMAGED of the buffers; SENNA_OUT_OF_TURN (no such message waits); SENNA_LENGTH or
+ * SENNA_GARBLED (what waits is no message); then, where the node is on, those of senna_replica_receive or of senna_coordinator_receive on its
+ * image or record, among them SENNA_DAMAGED, and last SENNA_POOL_FULL (a kept message that has an answer, with SENNA_WAITING waiting).
+ */
+senna_called senna_station_deliver(uint8_t *images, size_t images_length, uint8_t *records, size_t records_length, uint8_t *pool,
+                                   size_t pool_length, const uint8_t *own, size_t own_length, uint8_t k, uint8_t kept);
+
+/* Takes the k-th waiting message out of the pool, undelivered. Answers 0. Number: SENNA_OUT_OF_TURN (no such message waits). */
+senna_called senna_station_drop(uint8_t *pool, size_t pool_length, uint8_t k);
+
+/* Switches a node: up 0 off, any other number on. A repeated switch changes nothing. Answers 0. Number: SENNA_STRANGER. */
+senna_called senna_station_switch(uint8_t *own, size_t own_length, uint8_t node, uint8_t up);
+
+/* How many messages wait; 0 where the bytes are no pool. Never refuses. Only reads the bytes at pool. */
+size_t senna_station_waiting(const uint8_t *pool, size_t pool_length);
+
+/* A waiting message: its bytes are the length bytes at pool + place. On a refusal both are 0. */
+typedef struct senna_waiting {
+    uint8_t number; /* SENNA_OK, or why the call refuses */
+    size_t place;   /* of the message's first byte in the pool */
+    size_t length;  /* of the message */
+} senna_waiting;
+
+/*
+ * Where the k-th waiting message stands, and how long it is. Numbers, the lowest that fits: SENNA_LENGTH, SENNA_DAMAGED, SENNA_OUT_OF_TURN (no
+ * such message waits). Only reads the bytes at pool.
+ */
+senna_waiting senna_station_message(const uint8_t *pool, size_t pool_length, uint8_t k);
 
 #ifdef __cplusplus
 }

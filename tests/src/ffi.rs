@@ -1,6 +1,7 @@
 //! The library's C functions as `include/senna.h` declares them, and safe wrappers over them.
 
 pub mod coordinator;
+pub mod station;
 
 use crate::model::message::{Entry, Rival, Transaction, ENTRIES};
 use crate::model::quorum::{Choice, Kind, NODES};
@@ -41,6 +42,13 @@ struct SennaSerials {
 struct SennaWritten {
     number: u8,
     length: u8,
+}
+
+/// `senna_called` of the header, and `senna_value`: their layout is one.
+#[repr(C)]
+struct SennaCalled {
+    number: u8,
+    answer: i64,
 }
 
 /// `senna_received` of the header.

@@ -1,6 +1,6 @@
 //! The checks of the library and its programs against the second model.
 //!
-//! Usage, in the repository's root folder: checks [--seed S] [--rounds K] [--program PATH]
+//! Usage, in the repository's root folder: checks [--seed S] [--rounds K] [--only WORDS] [--program PATH]
 
 #![deny(unsafe_code)]
 
@@ -15,17 +15,18 @@ use runner::{Options, Runner};
 use std::path::PathBuf;
 use std::process::ExitCode;
 
-const USAGE: &str = "usage: checks [--seed S] [--rounds K] [--program PATH]";
+const USAGE: &str = "usage: checks [--seed S] [--rounds K] [--only WORDS] [--program PATH]";
 
 /// The options, and where the quorum program is; none where the words are no options.
 fn options() -> Option<(Options, PathBuf)> {
-    let mut options = Options { seed: 13, rounds: 1 };
+    let mut options = Options { seed: 13, rounds: 1, only: String::new() };
     let mut program = PathBuf::from("target/bin/quorum_program");
     let mut words = std::env::args().skip(1);
     while let Some(word) = words.next() {
         let value = words.next()?;
         match word.as_str() {
             "--program" => program = PathBuf::from(value),
+            "--only" => options.only = value,
             "--seed" => options.seed = value.parse().ok()?,
             "--rounds" => options.rounds = value.parse().ok().filter(|&rounds| rounds > 0)?,
             _ => return None,

@@ -2,6 +2,7 @@
 //!
 //! A module for each part of the rules. Speed does not matter here; a reader compares each function with a sentence.
 
+pub mod buffers;
 mod bytes;
 pub mod coordinator;
 pub mod history;

@@ -26,13 +26,14 @@ pub fn in_four_threads(random: &mut Random, work: impl Fn(&mut Random) -> Result
     })
 }
 
-/// The two figures that a run may be given.
-#[derive(Clone, Copy)]
+/// What a run may be given.
 pub struct Options {
     /// Where the random numbers start.
     pub seed: u64,
     /// How many times as many random inputs as in the usual run.
     pub rounds: usize,
+    /// Only the checks whose names have these words are run.
+    pub only: String,
 }
 
 pub struct Runner {
@@ -48,6 +49,9 @@ impl Runner {
 
     /// Runs one check. A panic in it is a failure like any other.
     pub fn check(&mut self, name: &str, body: impl FnOnce(&mut Random, usize) -> Verdict) {
+        if !name.contains(&self.options.only) {
+            return;
+        }
         let mut random = Random::new(self.options.seed, name);
         let rounds = self.options.rounds;
         let verdict = catch_unwind(AssertUnwindSafe(|| body(&mut random, rounds)));

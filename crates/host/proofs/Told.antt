@@ -1,14 +1,23 @@
--- A call that takes distances as bytes: with 26 of them it is the call by itself. And two answers with equal fields are equal.
+-- A call that takes distances as bytes, on a record and at a station: with 26 of them it is the call by itself. Two answers with equal
+-- fields are equal. And a look at a waiting message, refusal by refusal.
 use mathlib.Core.Path.{_≡_, ap}
 use mathlib.Core.List.{List}
-use Prim.Native.Nat.{ℕ}
-use borrow.Author.Tests.{eq-eqb}
+use Prim.Native.Nat.{ℕ, _<_, _≤_}
+use borrow.Author.Tests.{eq-eqb, ne-eqb, le-leb, lt-leb}
 use lib.ListN.{length}
 use Rattle.coordinator.specs.declared.Coordinator.{Coordinator}
 use Rattle.coordinator.specs.declared.Step.{Step}
 use Rattle.record.specs.Call.{calledOf, recordAfter}
 use Rattle.host.specs.declared.records.Value.{Value}
+use Rattle.parts.specs.Parts.{part}
+use Rattle.pool.specs.Pool.{messagePlace, count, lengthAt, messageAt, check}
+use Rattle.pool.specs.Change.{removeNumber, removeRefusals}
+use Rattle.station.specs.Step.{Call}
+use Rattle.station.specs.Buffers.{Buffers, hostTold, hostRecords}
 use Rattle.host.specs.Records.{answerWith, bytesWith}
+use Rattle.host.specs.declared.stations.Waiting.{Waiting}
+use Rattle.host.specs.Distances.{distancesOf}
+use Rattle.host.specs.Stations.{toldWith, recordsWith, waitingAt}
 
 module _ (d l : List ℕ) (f g : Coordinator → Step) (e : length d ≡ 26) (p : f ≡ g) where
   pub taken-answer : calledOf f l ≡ answerWith d g l
@@ -19,5 +28,36 @@ module _ (d l : List ℕ) (f g : Coordinator → Step) (e : length d ≡ 26) (p 
   unfolding bytesWith
   taken-bytes = simp (eq-eqb (length d) 26 e) (ap (λ (x : Coordinator → Step). recordAfter x l) p)
 
+module _ (d x : List ℕ) (b : Buffers) (n : ℕ) (f : List ℕ → Call) (e : length d ≡ 26) (p : x ≡ distancesOf d) where
+  pub taken-told : hostTold b n (f x) ≡ toldWith d b n f
+  unfolding toldWith
+  taken-told = simp (eq-eqb (length d) 26 e) (ap (λ (y : List ℕ). hostTold b n (f y)) p)
+
+  pub taken-records : hostRecords b n (f x) ≡ recordsWith d b n f
+  unfolding recordsWith
+  taken-records = simp (eq-eqb (length d) 26 e) (ap (λ (y : List ℕ). hostRecords b n (f y)) p)
+
 pub made-value : {x y : Value} → x .number ≡ y .number → x .value ≡ y .value → x ≡ y
 made-value p q i = record { number = p i; value = q i }
+
+-- ---- a look at the k-th waiting message: the pool's own number, 5 where it has no such message, else its place and length
+abbrev pub missing : ℕ → Waiting
+missing n = record { number = n; place = 0; length = 0 }
+
+module _ (l : List ℕ) (k : ℕ) where
+  pub look-damaged : (check l ≡ 0 → ⊥) → waitingAt l k ≡ missing (check l)
+  unfolding waitingAt removeNumber removeRefusals
+  look-damaged f = simp (ne-eqb (check l) 0 f)
+
+  pub look-none : check l ≡ 0 → count l ≤ k → waitingAt l k ≡ missing 5
+  unfolding waitingAt removeNumber removeRefusals
+  look-none e h = simp (eq-eqb (check l) 0 e, le-leb (count l) k h)
+
+  pub look-there : check l ≡ 0 → k < count l → waitingAt l k ≡ record { number = 0; place = messagePlace k; length = lengthAt l k }
+  unfolding waitingAt removeNumber removeRefusals
+  look-there e h = simp (eq-eqb (check l) 0 e, lt-leb (count l) k h)
+
+  -- the bytes that it points to are the message
+  pub look-message : check l ≡ 0 → k < count l → part (waitingAt l k .length) (waitingAt l k .place) l ≡ messageAt l k
+  unfolding messageAt
+  look-message e h = ap (λ (w : Waiting). part (w .length) (w .place) l) (look-there e h)

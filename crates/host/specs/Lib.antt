@@ -1,5 +1,6 @@
 -- What the functions for C answer: distances as bytes (Distances), the nearest quorum with its numbers (Nearest), and
--- the coordinator's calls (Records).
+-- the calls on a coordinator's record (Records) and at a station (Stations).
 pub mod Distances
 pub mod Nearest
 pub mod Records
+pub mod Stations

@@ -4,6 +4,7 @@ mod images;
 mod messages;
 mod records;
 mod replicas;
+mod stations;
 
 ghost use mathlib.Core.Path.{_≡_};
 ghost use mathlib.Core.Bool.{cond};

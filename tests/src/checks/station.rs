@@ -1,5 +1,7 @@
-//! The model's own station: random scenarios, with demand 3 checked on each, and faults that this check must notice.
+//! Random scenarios at a station: the model's own, with faults that the check of demand 3 must notice, and the library's beside the model's.
 
+mod bad;
+mod compiled;
 pub mod ends;
 mod scenario;
 mod seen;
@@ -7,12 +9,14 @@ mod stories;
 mod tampering;
 
 use crate::model::history::{History, Order};
+use crate::model::message::LAST;
 use crate::model::quorum::ALL;
 use crate::model::record::RECORD;
 use crate::model::station::{blank, Station, Step};
 use crate::model::{image, number, record, Fault};
 use crate::random::Random;
 use crate::runner::{ensure, Runner, Verdict};
+use compiled::Compiled;
 use ends::{Ends, MODEL};
 use scenario::{closing_step, next_step, some_style, Style};
 use seen::{Case, Seen};
@@ -24,6 +28,10 @@ pub fn run(runner: &mut Runner) {
     runner.check("station model: last numbers", |_, _| stories::last_numbers());
     runner.check("station model: off and on", |_, _| stories::off_and_on());
     runner.check("station model: each part of demand 3 can fail", |random, _| tampering::tampering(random));
+    runner.check("station library: scenarios", library_scenarios);
+    runner.check("station library: bad buffers", bad::bad_buffers);
+    runner.check("station library: blank", |random, _| compiled::blanks(random));
+    runner.check("station library: every bit is compared", |random, _| compiled::noticed(random));
     for slip in SLIPS {
         runner.check(&format!("station model: demand 3 notices {}", slip.name), |random, _| noticed(random, slip));
     }
@@ -61,15 +69,19 @@ struct Setup {
     meaning: bool,
     ends: Ends,
     every: usize,
+    /// Whether the library's station takes each step too.
+    library: bool,
 }
 
 /// The rules as they are.
-const SETUP: Setup = Setup { fault: Fault::None, order: Order::Log, meaning: true, ends: MODEL, every: 16 };
+const SETUP: Setup = Setup { fault: Fault::None, order: Order::Log, meaning: true, ends: MODEL, every: 16, library: false };
 
 /// One scenario under way.
 struct Run<'a> {
     station: Station,
-    history: History,
+    /// What the events tell; none where the scenario does not begin with a blank station.
+    history: Option<History>,
+    compiled: Option<Compiled>,
     setup: Setup,
     seen: &'a mut Seen,
 }
@@ -77,7 +89,24 @@ struct Run<'a> {
 impl Run<'_> {
     fn new(on: u16, setup: Setup, seen: &mut Seen) -> Run<'_> {
         seen.start();
-        Run { station: blank(on), history: History::new(on, setup.meaning), setup, seen }
+        let station = blank(on);
+        let compiled = setup.library.then(|| Compiled::new(&station));
+        Run { station, history: Some(History::new(on, setup.meaning)), compiled, setup, seen }
+    }
+
+    /// A scenario that begins with last serials and versions near their last number.
+    fn worn<'a>(random: &mut Random, on: u16, setup: Setup, seen: &'a mut Seen) -> Run<'a> {
+        let mut run = Run::new(on, setup, seen);
+        for object in 0..4 {
+            let version = LAST - random.below(4) as u32;
+            run.station.images.iter_mut().for_each(|image| image.copies[object].version = version);
+        }
+        for record in &mut run.station.records {
+            (record.serial, record.timestamp) = (LAST - random.below(8) as u32, 1 + random.below(9) as u32);
+        }
+        run.history = None;
+        run.compiled = setup.library.then(|| Compiled::new(&run.station));
+        run
     }
 
     /// One step, counted and fed to the history.
@@ -95,7 +124,19 @@ impl Run<'_> {
         if self.setup.fault == Fault::None && self.seen.steps() % self.setup.every == 0 {
             ends::same(self.setup.ends, &before, &event, &self.station)?;
         }
-        self.history.feed(&event, &self.station)
+        // The events and the station that demand 3 is checked on are the library's, where it takes the steps too.
+        let (event, after) = match &mut self.compiled {
+            None => (event, &self.station),
+            Some(compiled) => (compiled.follow(event, &self.station)?, compiled.shown()),
+        };
+        self.history.as_mut().map_or(Ok(()), |history| history.feed(&event, after))
+    }
+
+    /// Demand 3 of the run so far; of the library's station it is checked on what its bytes say.
+    fn check(&self) -> Result<(), String> {
+        let shown = self.compiled.as_ref().map(|compiled| compiled.whole(&self.station)).transpose()?;
+        let station = shown.as_ref().unwrap_or(&self.station);
+        self.history.as_ref().map_or(Ok(()), |history| history.check(station, self.setup.order))
     }
 
     /// All that is stored is valid, as bytes too.
@@ -123,27 +164,38 @@ impl Run<'_> {
 }
 
 /// One scenario, then on to rest, with demand 3 checked now and then and at the end.
-fn one_scenario(random: &mut Random, style: &Style, setup: Setup, seen: &mut Seen) -> Result<(), String> {
-    let Setup { fault, order, .. } = setup;
-    let on = if random.once_in(4) { random.word() & ALL } else { ALL };
-    let mut run = Run::new(on, setup, seen);
-    let blank_bytes = record::blank_call(RECORD);
-    ensure!(run.station.records.iter().all(|it| Ok(record::encode(it)) == blank_bytes), "a blank station's record is not blank");
+fn one_scenario(random: &mut Random, style: &Style, mut run: Run) -> Result<(), String> {
+    let fault = run.setup.fault;
     for at in 0..2000 {
         let step = next_step(random, &run.station, style);
         run.take(step)?;
         if at % 100 == 0 {
-            run.history.check(&run.station, order)?;
+            run.check()?;
         }
         if at % 100 == 50 && fault == Fault::None {
             run.stored()?;
         }
     }
     run.close(random)?;
-    run.history.check(&run.station, order)?;
+    run.check()?;
     ensure!(fault != Fault::None || run.station.at_rest(), "the station does not come to rest");
-    ensure!(fault != Fault::None || run.history.settled(), "the station is at rest, but not settled");
+    ensure!(fault != Fault::None || run.history.is_none_or(|history| history.settled()), "the station is at rest, but not settled");
     Ok(())
+}
+
+/// The nodes that are on at a scenario's begin: all, or any.
+fn some_on(random: &mut Random) -> u16 {
+    if random.once_in(4) {
+        random.word() & ALL
+    } else {
+        ALL
+    }
+}
+
+/// How a scenario goes: any style, or one that dwells on what is rare.
+fn pointed_style(random: &mut Random) -> Style {
+    let point = *random.pick(&[|style| style, |style| style, Style::lingering, Style::slow_votes]);
+    point(some_style(random))
 }
 
 /// Heavy conflict, repeats, losses, switches, aborts and fresh looks: demand 3 holds after all of them. Every so many steps the calls on
@@ -151,14 +203,37 @@ fn one_scenario(random: &mut Random, style: &Style, setup: Setup, seen: &mut See
 pub fn scenarios(random: &mut Random, rounds: usize, ends: Ends, every: usize) -> Verdict {
     let setup = Setup { ends, every, ..SETUP };
     let mut seen = Seen::default();
+    let blank_bytes = record::blank_call(RECORD);
+    ensure!(blank(0).records.iter().all(|it| Ok(record::encode(it)) == blank_bytes), "a blank station's record is not blank");
     for _ in 0..200 * rounds {
-        let point = *random.pick(&[|style| style, |style| style, Style::lingering, Style::slow_votes]);
-        let style = point(some_style(random));
-        one_scenario(random, &style, setup, &mut seen)?;
+        let style = pointed_style(random);
+        let on = some_on(random);
+        one_scenario(random, &style, Run::new(on, setup, &mut seen))?;
     }
     let (case, least) = seen.rarest();
     let counted = format!("{}; the rarest ({case}) {least} times", seen.words());
     ensure!(least > 2 * rounds && seen.of(Case::Committed) > 600 * rounds, "too poor: {counted}");
+    Ok(counted)
+}
+
+/// The library's station beside the model's, compared after every step; one scenario in ten begins near the last numbers. Floors on what
+/// was met keep the scenarios rich.
+fn library_scenarios(random: &mut Random, rounds: usize) -> Verdict {
+    let setup = Setup { library: true, ..SETUP };
+    let mut seen = Seen::default();
+    for scenario in 0..500 * rounds {
+        let (style, on) = (pointed_style(random), some_on(random));
+        let run = if scenario % 10 == 9 { Run::worn(random, on, setup, &mut seen) } else { Run::new(on, setup, &mut seen) };
+        one_scenario(random, &style, run)?;
+    }
+    let (case, least) = seen.rarest();
+    let (committed, [called, voted, yielded], used_up) = (seen.of(Case::Committed), seen.aborts(), seen.numbers[0][9]);
+    let counted = format!(
+        "{}; {committed} committed; aborted: {called} by a call, {voted} by a no, {yielded} by a yield; the rarest ({case}) {least} times",
+        seen.words()
+    );
+    let rich = [(seen.steps(), 1_000_000), (committed, 2000), (called, 2000), (voted, 2000), (yielded, 200), (used_up, 200), (least, 10)];
+    ensure!(rich.iter().all(|&(count, floor)| count >= floor * rounds), "too poor: {counted}");
     Ok(counted)
 }
 
@@ -168,7 +243,8 @@ fn noticed(random: &mut Random, slip: &Slip) -> Verdict {
     let setup = Setup { fault: slip.fault, order: slip.order, meaning: slip.meaning, ..SETUP };
     for scenario in 1..=400 {
         let style = (slip.point)(some_style(random));
-        if let Err(wrong) = one_scenario(random, &style, setup, &mut seen) {
+        let on = some_on(random);
+        if let Err(wrong) = one_scenario(random, &style, Run::new(on, setup, &mut seen)) {
             ensure!(wrong.starts_with('('), "another thing than demand 3 ended it: {wrong}");
             return Ok(format!("in scenario {scenario}, after {} commits: {wrong}", seen.of(Case::Committed)));
         }

@@ -1,15 +1,8 @@
 //! The coordinator's C functions on the bytes of a record.
 
-use super::SennaWritten;
+use super::{SennaCalled, SennaWritten};
 use crate::model::coordinator::Call;
 use crate::model::message::READ;
-
-/// `senna_called` of the header.
-#[repr(C)]
-struct SennaCalled {
-    number: u8,
-    answer: i64,
-}
 
 extern "C" {
     fn senna_check_record(record: *const u8, length: usize) -> u8;

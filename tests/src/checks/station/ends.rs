@@ -39,7 +39,7 @@ fn leave(record: &mut [u8], left: Result<Left, u8>) -> (u8, i64) {
 }
 
 /// The number and answer of a step.
-fn answered(told: &Result<Told, u8>) -> (u8, i64) {
+pub fn answered(told: &Result<Told, u8>) -> (u8, i64) {
     match told {
         Ok(told) => (number::OK, told.answer),
         Err(number) => (*number, 0),

@@ -165,26 +165,36 @@ fn owner_step(random: &mut Random, station: &Station, style: &Style) -> Step {
     }
 }
 
+/// Thirteen distances, or bytes of any length.
+fn wild_distances(random: &mut Random) -> Vec<u8> {
+    let length = *random.pick(&[0, 25, 27, 52]);
+    if random.once_in(4) {
+        random.bytes(length)
+    } else {
+        some_distances(random)
+    }
+}
+
 /// A host call with any arguments, fitting or not.
 fn wild_call(random: &mut Random, object: u8) -> Call {
     match random.below(8) {
-        0 => Call::Begin { live: random.word(), distances: some_distances(random), timestamp: random.below(40) as u32 },
-        1 => Call::Begin { live: random.word() & ALL, distances: some_distances(random), timestamp: random.below(900) as u32 },
+        0 => Call::Begin { live: random.word(), distances: wild_distances(random), timestamp: random.below(40) as u32 },
+        1 => Call::Begin { live: random.word() & ALL, distances: wild_distances(random), timestamp: random.below(900) as u32 },
         2 => Call::Open { object, mode: random.below(2) as u8 },
         3 => Call::SetValue { object, value: random.next() as i64 },
         4 => Call::Found { object },
-        5 => Call::Reselect { live: random.word(), distances: some_distances(random) },
-        6 => Call::Reselect { live: random.word() & random.word() & ALL, distances: some_distances(random) },
+        5 => Call::Reselect { live: random.word(), distances: wild_distances(random) },
+        6 => Call::Reselect { live: random.word() & random.word() & ALL, distances: wild_distances(random) },
         _ => Call::RequestCommit,
     }
 }
 
 /// A step with any arguments.
-fn wild_step(random: &mut Random, station: &Station, style: &Style) -> Step {
+pub fn wild_step(random: &mut Random, station: &Station, style: &Style) -> Step {
     let stranger = if random.once_in(8) { some_byte(random) } else { random.below(NODES) as u8 };
     let node = *random.pick(&[stranger, style.owners[0]]);
     let object = if random.once_in(6) { some_byte(random) } else { random.below(style.objects.min(OBJECTS)) as u8 };
-    let at = random.below(station.pool.len() + 2);
+    let at = if random.once_in(10) { usize::from(random.byte()) } else { random.below(station.pool.len() + 2) };
     match random.below(12) {
         0..=4 => Step::Host { node, call: wild_call(random, object) },
         5..=8 => Step::Send { node, to: if random.once_in(8) { some_byte(random) } else { random.below(NODES) as u8 }, object },

@@ -73,12 +73,13 @@ impl Case {
 }
 
 /// The steps' names, in the order of their counts.
-const STEPS: [&str; 5] = ["host", "send", "deliver", "drop", "switch"];
+pub const STEPS: [&str; 5] = ["host", "send", "deliver", "drop", "switch"];
 
 /// The numbers that each step can have in a run from blank.
-const REACHED: [&[usize]; 5] = [&[0, 4, 5, 6, 7, 8, 10, 11], &[0, 4, 5, 6, 12], &[0, 5, 12], &[0, 5], &[0, 4]];
+const REACHED: [&[usize]; 5] = [&[0, 1, 4, 5, 6, 7, 8, 10, 11], &[0, 4, 5, 6, 12], &[0, 5, 12], &[0, 5], &[0, 4]];
 
-fn place(step: &Step) -> usize {
+/// Which of the steps it is.
+pub fn place(step: &Step) -> usize {
     match step {
         Step::Host { .. } => 0,
         Step::Send { .. } => 1,
@@ -206,15 +207,28 @@ impl Seen {
     }
 
     pub fn words(&self) -> String {
-        let numbers: Vec<String> = (0..5)
-            .map(|step| {
-                let met = (0..13).filter(|&number| self.numbers[step][number] > 0);
-                let met: Vec<String> = met.map(|number| format!("{number}: {}", self.numbers[step][number])).collect();
-                format!("{} {{{}}}", STEPS[step], met.join(", "))
-            })
-            .collect();
-        format!("{} steps, {}; {:?}", self.steps(), numbers.join(", "), self.cases)
+        format!("{} steps, {}; {:?}", self.steps(), numbers_in_words(&self.numbers), self.cases)
     }
+
+    /// How many transactions were aborted: by a call, by a no, by a yield.
+    pub fn aborts(&self) -> [usize; 3] {
+        let sum = |cases: &[Case]| cases.iter().map(|&case| self.of(case)).sum();
+        [
+            sum(&[Case::GivenUpOpen, Case::GivenUpVoting, Case::GivenUpAtOnce]),
+            sum(&[Case::AbortedByHolder, Case::AbortedByVersion, Case::AbortedByOlderRival]),
+            sum(&[Case::YieldedOpen, Case::YieldedVoting]),
+        ]
+    }
+}
+
+/// For each step how often it had each number.
+pub fn numbers_in_words(numbers: &[[usize; 13]; 5]) -> String {
+    let words = |step: usize| {
+        let met = (0..13).filter(|&number| numbers[step][number] > 0);
+        let met: Vec<String> = met.map(|number| format!("{number}: {}", numbers[step][number])).collect();
+        format!("{} {{{}}}", STEPS[step], met.join(", "))
+    };
+    (0..5).map(words).collect::<Vec<String>>().join(", ")
 }
 
 /// Why an ask is voted down, if it is: the first reason that holds.

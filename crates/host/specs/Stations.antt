@@ -1,0 +1,45 @@
+-- A station's steps for C: distances as bytes, 1 for another length than 26; values as signed numbers; yes and no as 1 and 0. And what waits.
+use mathlib.Core.Bool.{Bool, cond, not}
+use mathlib.Core.List.{List}
+use Prim.Native.Nat.{ℕ}
+use lib.Dec.{eqb}
+use lib.ListN.{length}
+use Rattle.numbers.specs.Numbers.{wrongLength}
+use Rattle.octets.specs.Signed.{signedOf}
+use Rattle.pool.specs.Pool.{messagePlace, count, lengthAt, check}
+use Rattle.pool.specs.Change.{removeNumber}
+use Rattle.station.specs.declared.Answer.{Answer}
+use Rattle.station.specs.Step.{Call, begin}
+use Rattle.station.specs.Buffers.{Buffers, answerWith, hostTold, hostRecords}
+use Rattle.host.specs.declared.records.Value.{Value}
+use Rattle.host.specs.declared.stations.Waiting.{Waiting}
+use Rattle.host.specs.Distances.{distancesOf}
+
+-- a step at node n that takes distances: what it answers, and the records after it, which are left as they were where the distances have
+-- another length
+unfoldable pub toldWith : List ℕ → Buffers → ℕ → (List ℕ → Call) → Answer
+toldWith distances b n f = cond (eqb (length distances) 26) (hostTold b n (f (distancesOf distances))) (answerWith wrongLength 0)
+
+unfoldable pub recordsWith : List ℕ → Buffers → ℕ → (List ℕ → Call) → List ℕ
+recordsWith distances b n f = cond (eqb (length distances) 26) (hostRecords b n (f (distancesOf distances))) (b .records)
+
+abbrev pub begins : ℕ → ℕ → ℕ → List ℕ → Call
+begins n live timestamp distances = begin n (record { live = live; distances = distances; timestamp = timestamp })
+
+-- an answer that is a value
+abbrev pub valueOf : Answer → Value
+valueOf a = record { number = a .number; value = signedOf (a .answer) }
+
+-- a byte that says yes or no: 0 is no
+abbrev pub yes : ℕ → Bool
+yes x = not (eqb x 0)
+
+-- how many messages wait; none in bytes that are no pool
+unfoldable pub waitingIn : List ℕ → ℕ
+waitingIn pool = cond (eqb (check pool) 0) (count pool) 0
+
+-- where the k-th of them stands and how long it is, or the number for which it could not be removed: 1, 2, and 5 where no such message waits
+unfoldable pub waitingAt : List ℕ → ℕ → Waiting
+waitingAt pool k =
+    cond (eqb (removeNumber pool k) 0) (record { number = 0; place = messagePlace k; length = lengthAt pool k })
+    (record { number = removeNumber pool k; place = 0; length = 0 })

@@ -1,0 +1,265 @@
+// A station for C: made blank, every step, and what waits. Each function states the same equation as what it wraps.
+ghost use mathlib.Core.Path.{_≡_};
+ghost use Rattle.octets.specs.Signed.{bitsOf};
+ghost use Rattle.station.specs.Step.{openRead, openWrite, setValue, found, reselect, requestCommit, abort};
+ghost use Rattle.station.specs.Buffers.{all, blankNumber, blankAfter, ends, hostTold, hostRecords, sending, sendTold, sendPool};
+ghost use Rattle.station.specs.Buffers.{deliveryTold, deliveryImages, deliveryRecords, deliveryPool};
+ghost use Rattle.station.specs.Buffers.{answerWith, dropping, dropTold, dropPool, switching, switchTold, switchOwn};
+ghost use Rattle.host.specs.Stations.{toldWith, recordsWith, begins, valueOf, yes, waitingIn, waitingAt};
+use crate::DISTANCES;
+use crate::distances_of;
+use crate::records::Value;
+use coordinator::BeginWith;
+use station::Answer;
+
+// Where a waiting message stands in the pool and how long it is; on a refusal both are 0.
+#[repr(C)]
+pub struct Waiting {
+    pub number: u8,
+    pub place: usize,
+    pub length: usize,
+}
+
+// Makes a blank station whose nodes of a mask are on. Ruled out: a message that still waits; a byte altered where one buffer is too short.
+#[no_mangle]
+pub extern "C" fn senna_station_blank(
+    images: &mut [u8],
+    records: &mut [u8],
+    pool: &mut [u8],
+    own: &mut [u8],
+    on: u16,
+) -> u8
+    ensures { λ r. ⌜ r ≡ blankNumber (all (now (images .entry)) (now (records .entry)) (now (pool .entry)) (now (own .entry))) on ⌝ }
+    ensures { λ r. ⌜ now (images .exit) ≡ blankAfter (all (now (images .entry)) (now (records .entry)) (now (pool .entry)) (now (own .entry))) on .images ⌝ }
+    ensures { λ r. ⌜ now (records .exit) ≡ blankAfter (all (now (images .entry)) (now (records .entry)) (now (pool .entry)) (now (own .entry))) on .records ⌝ }
+    ensures { λ r. ⌜ now (pool .exit) ≡ blankAfter (all (now (images .entry)) (now (records .entry)) (now (pool .entry)) (now (own .entry))) on .pool ⌝ }
+    ensures { λ r. ⌜ now (own .exit) ≡ blankAfter (all (now (images .entry)) (now (records .entry)) (now (pool .entry)) (now (own .entry))) on .own ⌝ }
+{
+    station::blank(images, records, pool, own, on)
+}
+
+// The distances have another length.
+fn wrong_length() -> Answer
+    ensures { λ r. ⌜ r ≡ answerWith 1 0 ⌝ }
+{
+    Answer {
+        number: numbers::LENGTH,
+        answer: 0,
+    }
+}
+
+// Begins a transaction at a node; answers the chosen read quorum. Ruled out: 10 for distances of 25 bytes; another node's record begun.
+#[no_mangle]
+pub extern "C" fn senna_station_begin(
+    records: &mut [u8],
+    own: &[u8],
+    node: u8,
+    live: u16,
+    distances: &[u8],
+    timestamp: u32,
+) -> Answer
+    ensures { λ r. ⌜ r ≡ toldWith (now (distances .entry)) (ends (now (records .entry)) (now (own .entry))) node (begins node live timestamp) ⌝ }
+    ensures { λ r. ⌜ now (records .exit)
+        ≡ recordsWith (now (distances .entry)) (ends (now (records .entry)) (now (own .entry))) node (begins node live timestamp) ⌝ }
+{
+    if distances.len() != DISTANCES {
+        return wrong_length();
+    }
+    let d = distances_of(distances);
+    let w = BeginWith {
+        live,
+        distances: d,
+        timestamp,
+    };
+    station::begin(records, own, node, w)
+}
+
+// Opens an object to read it. Ruled out: an open to write; a byte of another node's record altered.
+#[no_mangle]
+pub extern "C" fn senna_station_open_read(
+    records: &mut [u8],
+    own: &[u8],
+    node: u8,
+    object: u8,
+) -> Answer
+    ensures { λ r. ⌜ r ≡ hostTold (ends (now (records .entry)) (now (own .entry))) node (openRead node object) ⌝ }
+    ensures { λ r. ⌜ now (records .exit) ≡ hostRecords (ends (now (records .entry)) (now (own .entry))) node (openRead node object) ⌝ }
+{
+    station::open_read(records, own, node, object)
+}
+
+// Opens an object to write it. Ruled out: an open to read; 5 for a node above 12.
+#[no_mangle]
+pub extern "C" fn senna_station_open_write(
+    records: &mut [u8],
+    own: &[u8],
+    node: u8,
+    object: u8,
+) -> Answer
+    ensures { λ r. ⌜ r ≡ hostTold (ends (now (records .entry)) (now (own .entry))) node (openWrite node object) ⌝ }
+    ensures { λ r. ⌜ now (records .exit) ≡ hostRecords (ends (now (records .entry)) (now (own .entry))) node (openWrite node object) ⌝ }
+{
+    station::open_write(records, own, node, object)
+}
+
+// Gives a written object its new value. Ruled out: the value with its sign lost; a value set at a node that is off.
+#[no_mangle]
+pub extern "C" fn senna_station_set_value(
+    records: &mut [u8],
+    own: &[u8],
+    node: u8,
+    object: u8,
+    value: i64,
+) -> Answer
+    ensures { λ r. ⌜ r ≡ hostTold (ends (now (records .entry)) (now (own .entry))) node (setValue node object (bitsOf value)) ⌝ }
+    ensures { λ r. ⌜ now (records .exit) ≡ hostRecords (ends (now (records .entry)) (now (own .entry))) node (setValue node object (bitsOf value)) ⌝ }
+{
+    station::set_value(records, own, node, object, octets::bits(value))
+}
+
+// Answers the value found for a ready object. Ruled out: the new value; a value with its sign lost.
+#[no_mangle]
+pub extern "C" fn senna_station_found(records: &mut [u8], own: &[u8], node: u8, object: u8) -> Value
+    ensures { λ r. ⌜ r ≡ valueOf (hostTold (ends (now (records .entry)) (now (own .entry))) node (found node object)) ⌝ }
+    ensures { λ r. ⌜ now (records .exit) ≡ hostRecords (ends (now (records .entry)) (now (own .entry))) node (found node object) ⌝ }
+{
+    let x = station::found(records, own, node, object);
+    Value {
+        number: x.number,
+        value: octets::signed(x.answer),
+    }
+}
+
+// Takes a fresh live mask and distances; answers the chosen read quorum. Ruled out: 8 for distances of 25 bytes; the old quorum answered.
+#[no_mangle]
+pub extern "C" fn senna_station_reselect(
+    records: &mut [u8],
+    own: &[u8],
+    node: u8,
+    live: u16,
+    distances: &[u8],
+) -> Answer
+    ensures { λ r. ⌜ r ≡ toldWith (now (distances .entry)) (ends (now (records .entry)) (now (own .entry))) node (reselect node live) ⌝ }
+    ensures { λ r. ⌜ now (records .exit) ≡ recordsWith (now (distances .entry)) (ends (now (records .entry)) (now (own .entry))) node (reselect node live) ⌝ }
+{
+    if distances.len() != DISTANCES {
+        return wrong_length();
+    }
+    let d = distances_of(distances);
+    station::reselect(records, own, node, live, d)
+}
+
+// Asks for votes; answers the participants. Ruled out: 8 before 11; a set without the contacted nodes.
+#[no_mangle]
+pub extern "C" fn senna_station_request_commit(records: &mut [u8], own: &[u8], node: u8) -> Answer
+    ensures { λ r. ⌜ r ≡ hostTold (ends (now (records .entry)) (now (own .entry))) node (requestCommit node) ⌝ }
+    ensures { λ r. ⌜ now (records .exit) ≡ hostRecords (ends (now (records .entry)) (now (own .entry))) node (requestCommit node) ⌝ }
+{
+    station::request_commit(records, own, node)
+}
+
+// Gives the transaction up. Ruled out: a finishing one aborted; 0 at a node that is off.
+#[no_mangle]
+pub extern "C" fn senna_station_abort(records: &mut [u8], own: &[u8], node: u8) -> Answer
+    ensures { λ r. ⌜ r ≡ hostTold (ends (now (records .entry)) (now (own .entry))) node (abort node) ⌝ }
+    ensures { λ r. ⌜ now (records .exit) ≡ hostRecords (ends (now (records .entry)) (now (own .entry))) node (abort node) ⌝ }
+{
+    station::abort(records, own, node)
+}
+
+// Sends what is due to a node. Ruled out: a message put at the pool's front; a message where nothing is due.
+#[no_mangle]
+pub extern "C" fn senna_station_send(
+    records: &[u8],
+    pool: &mut [u8],
+    own: &[u8],
+    node: u8,
+    to: u8,
+    object: u8,
+) -> Answer
+    ensures { λ r. ⌜ r ≡ sendTold (sending (now (records .entry)) (now (pool .entry)) (now (own .entry))) node to object ⌝ }
+    ensures { λ r. ⌜ now (pool .exit) ≡ sendPool (sending (now (records .entry)) (now (pool .entry)) (now (own .entry))) node to object ⌝ }
+{
+    station::send(records, pool, own, node, to, object)
+}
+
+// Delivers the k-th message; 0 for `kept` removes it, any other number keeps it waiting. Answers what it brought about at a coordinator.
+// Ruled out: the neighbour's image changed; an answer from a node that is off.
+#[no_mangle]
+pub extern "C" fn senna_station_deliver(
+    images: &mut [u8],
+    records: &mut [u8],
+    pool: &mut [u8],
+    own: &[u8],
+    k: u8,
+    kept: u8,
+) -> Answer
+    ensures { λ r. ⌜ r ≡ deliveryTold (all (now (images .entry)) (now (records .entry)) (now (pool .entry)) (now (own .entry))) k (yes kept) ⌝ }
+    ensures { λ r. ⌜ now (images .exit)
+        ≡ deliveryImages (all (now (images .entry)) (now (records .entry)) (now (pool .entry)) (now (own .entry))) k (yes kept) ⌝ }
+    ensures { λ r. ⌜ now (records .exit)
+        ≡ deliveryRecords (all (now (images .entry)) (now (records .entry)) (now (pool .entry)) (now (own .entry))) k (yes kept) ⌝ }
+    ensures { λ r. ⌜ now (pool .exit) ≡ deliveryPool (all (now (images .entry)) (now (records .entry)) (now (pool .entry)) (now (own .entry))) k (yes kept) ⌝ }
+{
+    station::deliver(images, records, pool, own, k, kept != 0)
+}
+
+// Drops the k-th message. Ruled out: another message dropped; 0 where none waits.
+#[no_mangle]
+pub extern "C" fn senna_station_drop(pool: &mut [u8], k: u8) -> Answer
+    ensures { λ r. ⌜ r ≡ dropTold (dropping (now (pool .entry))) k ⌝ }
+    ensures { λ r. ⌜ now (pool .exit) ≡ dropPool (dropping (now (pool .entry))) k ⌝ }
+{
+    station::drop(pool, k)
+}
+
+// Switches a node: 0 off, any other number on. Ruled out: a repeated switch turns it back; another node is switched.
+#[no_mangle]
+pub extern "C" fn senna_station_switch(own: &mut [u8], node: u8, up: u8) -> Answer
+    ensures { λ r. ⌜ r ≡ switchTold (switching (now (own .entry))) node (yes up) ⌝ }
+    ensures { λ r. ⌜ now (own .exit) ≡ switchOwn (switching (now (own .entry))) node (yes up) ⌝ }
+{
+    station::switch(own, node, up != 0)
+}
+
+// How many messages wait; 0 for bytes that are no pool. Ruled out: one more than wait; the count byte of a damaged pool.
+#[no_mangle]
+pub extern "C" fn senna_station_waiting(pool: &[u8]) -> usize
+    ensures { λ r. ⌜ r ≡ waitingIn (now (pool .entry)) ⌝ }
+{
+    if pool::check(pool) == 0 {
+        pool::count(pool)
+    } else {
+        0
+    }
+}
+
+// A refused look at a message.
+fn not_there(number: u8) -> Waiting
+    ensures { λ r. ⌜ r ≡ record { number = number; place = 0; length = 0 } ⌝ }
+{
+    Waiting {
+        number,
+        place: 0,
+        length: 0,
+    }
+}
+
+// Where the k-th message stands, and its length. Ruled out: the place of its length; the length of the message behind it.
+#[no_mangle]
+pub extern "C" fn senna_station_message(pool: &[u8], k: u8) -> Waiting
+    ensures { λ r. ⌜ r ≡ waitingAt (now (pool .entry)) k ⌝ }
+{
+    let number = pool::check(pool);
+    if number != 0 {
+        return not_there(number);
+    }
+    if pool::count(pool) <= k as usize {
+        return not_there(numbers::OUT_OF_TURN);
+    }
+    Waiting {
+        number: 0,
+        place: pool::place(k),
+        length: pool::length(pool, k),
+    }
+}

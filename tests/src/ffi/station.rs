@@ -1,0 +1,163 @@
+//! The station's C functions on its four buffers.
+
+use super::SennaCalled;
+use crate::model::buffers::Buffers;
+use crate::model::coordinator::Call;
+use crate::model::message::READ;
+use crate::model::station::Step;
+
+/// `senna_waiting` of the header.
+#[repr(C)]
+struct SennaWaiting {
+    number: u8,
+    place: usize,
+    length: usize,
+}
+
+extern "C" {
+    fn senna_station_blank(
+        images: *mut u8,
+        images_length: usize,
+        records: *mut u8,
+        length: usize,
+        pool: *mut u8,
+        pool_length: usize,
+        own: *mut u8,
+        own_length: usize,
+        on: u16,
+    ) -> u8;
+    fn senna_station_begin(
+        records: *mut u8,
+        length: usize,
+        own: *const u8,
+        own_length: usize,
+        node: u8,
+        live: u16,
+        distances: *const u8,
+        size: usize,
+        timestamp: u32,
+    ) -> SennaCalled;
+    fn senna_station_reselect(
+        records: *mut u8,
+        length: usize,
+        own: *const u8,
+        own_length: usize,
+        node: u8,
+        live: u16,
+        distances: *const u8,
+        size: usize,
+    ) -> SennaCalled;
+    fn senna_station_open_read(records: *mut u8, length: usize, own: *const u8, own_length: usize, node: u8, object: u8) -> SennaCalled;
+    fn senna_station_open_write(records: *mut u8, length: usize, own: *const u8, own_length: usize, node: u8, object: u8) -> SennaCalled;
+    fn senna_station_set_value(
+        records: *mut u8,
+        length: usize,
+        own: *const u8,
+        own_length: usize,
+        node: u8,
+        object: u8,
+        value: i64,
+    ) -> SennaCalled;
+    fn senna_station_found(records: *mut u8, length: usize, own: *const u8, own_length: usize, node: u8, object: u8) -> SennaCalled;
+    fn senna_station_request_commit(records: *mut u8, length: usize, own: *const u8, own_length: usize, node: u8) -> SennaCalled;
+    fn senna_station_abort(records: *mut u8, length: usize, own: *const u8, own_length: usize, node: u8) -> SennaCalled;
+    fn senna_station_send(
+        records: *const u8,
+        length: usize,
+        pool: *mut u8,
+        pool_length: usize,
+        own: *const u8,
+        own_length: usize,
+        node: u8,
+        to: u8,
+        object: u8,
+    ) -> SennaCalled;
+    fn senna_station_deliver(
+        images: *mut u8,
+        images_length: usize,
+        records: *mut u8,
+        length: usize,
+        pool: *mut u8,
+        pool_length: usize,
+        own: *const u8,
+        own_length: usize,
+        k: u8,
+        kept: u8,
+    ) -> SennaCalled;
+    fn senna_station_drop(pool: *mut u8, pool_length: usize, k: u8) -> SennaCalled;
+    fn senna_station_switch(own: *mut u8, own_length: usize, node: u8, up: u8) -> SennaCalled;
+    fn senna_station_waiting(pool: *const u8, pool_length: usize) -> usize;
+    fn senna_station_message(pool: *const u8, pool_length: usize, k: u8) -> SennaWaiting;
+}
+
+// SAFETY, of each function below: the library reads and writes at most the given lengths at the buffers, and reads the distances; all are
+// lent for the call and apart from each other.
+
+/// The library's blank station, written to buffers; its number.
+pub fn blank(it: &mut Buffers, on: u16) -> u8 {
+    let Buffers { images, records, pool, own } = it;
+    let (a, b, c, d) = (images.len(), records.len(), pool.len(), own.len());
+    unsafe { senna_station_blank(images.as_mut_ptr(), a, records.as_mut_ptr(), b, pool.as_mut_ptr(), c, own.as_mut_ptr(), d, on) }
+}
+
+fn host(it: &mut Buffers, node: u8, call: &Call) -> SennaCalled {
+    let (at, length) = (it.records.as_mut_ptr(), it.records.len());
+    let (own, size) = (it.own.as_ptr(), it.own.len());
+    unsafe {
+        match *call {
+            Call::Begin { live, distances: ref d, timestamp } => {
+                senna_station_begin(at, length, own, size, node, live, d.as_ptr(), d.len(), timestamp)
+            }
+            Call::Open { object, mode: READ } => senna_station_open_read(at, length, own, size, node, object),
+            Call::Open { object, .. } => senna_station_open_write(at, length, own, size, node, object),
+            Call::SetValue { object, value } => senna_station_set_value(at, length, own, size, node, object, value),
+            Call::Found { object } => senna_station_found(at, length, own, size, node, object),
+            Call::Reselect { live, distances: ref d } => senna_station_reselect(at, length, own, size, node, live, d.as_ptr(), d.len()),
+            Call::RequestCommit => senna_station_request_commit(at, length, own, size, node),
+            Call::Abort => senna_station_abort(at, length, own, size, node),
+        }
+    }
+}
+
+fn deliver(it: &mut Buffers, at: u8, kept: u8) -> SennaCalled {
+    let Buffers { images, records, pool, own } = it;
+    let (a, b, c, d) = (images.len(), records.len(), pool.len(), own.len());
+    unsafe { senna_station_deliver(images.as_mut_ptr(), a, records.as_mut_ptr(), b, pool.as_mut_ptr(), c, own.as_ptr(), d, at, kept) }
+}
+
+/// The byte that says yes or no: 0 is no, any other is yes.
+fn byte(yes: bool, some: u8) -> u8 {
+    if yes {
+        some.max(1)
+    } else {
+        0
+    }
+}
+
+/// The library's step at a station: its number and answer. A place in the pool is one byte.
+pub fn step(it: &mut Buffers, step: &Step) -> (u8, i64) {
+    let place = |at: usize| u8::try_from(at).expect("a place of one byte");
+    let called = match *step {
+        Step::Host { node, ref call } => host(it, node, call),
+        Step::Send { node, to, object } => unsafe {
+            let (records, pool, own) = (&it.records, &mut it.pool, &it.own);
+            let (a, b, c) = (records.len(), pool.len(), own.len());
+            senna_station_send(records.as_ptr(), a, pool.as_mut_ptr(), b, own.as_ptr(), c, node, to, object)
+        },
+        Step::Deliver { at, kept } => deliver(it, place(at), byte(kept, place(at))),
+        Step::Drop { at } => unsafe { senna_station_drop(it.pool.as_mut_ptr(), it.pool.len(), place(at)) },
+        Step::Switch { node, on } => unsafe { senna_station_switch(it.own.as_mut_ptr(), it.own.len(), node, byte(on, node)) },
+    };
+    (called.number, called.answer)
+}
+
+/// How many messages wait, by the library.
+pub fn waiting(pool: &[u8]) -> usize {
+    unsafe { senna_station_waiting(pool.as_ptr(), pool.len()) }
+}
+
+/// The k-th waiting message by the library: its number, and its place and length in the pool.
+pub fn message(pool: &[u8], k: u8) -> (u8, usize, usize) {
+    let it = unsafe { senna_station_message(pool.as_ptr(), pool.len(), k) };
+    (it.number, it.place, it.length)
+}
