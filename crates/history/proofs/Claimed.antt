@@ -155,11 +155,12 @@ module _ (st : Station) (L : Ledger) (F : Past) (g : Good st L F) where
       done-applied rules σ (w .sim .kept .inv) n x p q
       (w .books .dones (record { node = n; tx = x }) (s x (d .is-told x p) n (d .its-party x p n ∙ q)))
 
-  pub is-newest : Settled L → (q : ℕ) → isQuorum Read q ≡ true → (n t : ℕ) → n < 13 → contains q n ≡ true → t < 64 → Newest st q n t
+  -- where every participant has applied what was committed, every newest copy has the last value
+  pub applied-newest : AllApplied (σ .votes) (σ .history) → (q : ℕ) → isQuorum Read q ≡ true → (n t : ℕ) → Newest st q n t
       → value (st .images n) t ≡ lastValue L t
-  is-newest s q r n t small i known new =
+  applied-newest applied q r n t new =
       sym (w .sim .reads .r-value n t)
-      ∙ core .newest (all-applied s) (contains q)
+      ∙ core .newest applied (contains q)
       (λ x p. quorums .meet (contains q) (σ .history .contents x .participants) (of-mask Read q r) (committed-good rules σ (w .sim .kept .inv) x p)) n t
       (λ m j. subst (λ (k : ℕ). k ≤ σ .store .version n t) (sym (w .sim .reads .r-version m t))
       (subst (λ (k : ℕ). version (st .images m) t ≤ k) (sym (w .sim .reads .r-version n t)) (below m j)))
@@ -169,6 +170,10 @@ module _ (st : Station) (L : Ledger) (F : Past) (g : Good st L F) where
       below m j = on (lt-or-le m 13) (λ h. new m h j)
           (λ h. subst (λ (k : ℕ). k ≤ version (st .images n) t)
           (sym (ap (λ (l : List ℕ). version l t) (g .wide .beyond m h) ∙ blank-zero (versionField shape) t tt tt tt)) (omega arith))
+
+  pub is-newest : Settled L → (q : ℕ) → isQuorum Read q ≡ true → (n t : ℕ) → n < 13 → contains q n ≡ true → t < 64 → Newest st q n t
+      → value (st .images n) t ≡ lastValue L t
+  is-newest s q r n t small i known new = applied-newest (all-applied s) q r n t new
 
 -- ---- an accepted found call shows what is found
 found-taken : (st : Station) (n t : ℕ) → step st (found n t) .number ≡ 0

@@ -28,6 +28,7 @@
 --   InTurn            why nothing that waits is out of turn: what is kept, over one record, one image or another pool
 --   Going, Turned     coordinators keep it; every step does
 --   Room, Numbered    the pool has at most 128 messages; the number of every delivery
+--   Resting           at rest every newest copy has replay's last value
 -- Replay's last values in bounded memory:
 --   Ranks             places in a list; what one more commit makes of the values held
 --   Tracked, Running  what a digest keeps of a ledger; every list of steps, as a digest and as a sheet
@@ -66,6 +67,7 @@ pub mod Polls
 pub mod Meaning
 pub mod Claimed
 pub mod Numbered
+pub mod Resting
 pub mod Ranks
 pub mod Tracked
 pub mod Running

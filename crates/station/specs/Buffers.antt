@@ -17,7 +17,7 @@ use Rattle.image.specs.Blank.{blankAs}
 use Rattle.replica.specs.Receive.{Delivered, deliver, spoken}
 use Rattle.coordinator.specs.declared.Coordinator.{Coordinator}
 use Rattle.coordinator.specs.declared.Step.{Step}
-use Rattle.coordinator.specs.State.{thirteen, everyNode, idlePhase, blankRecord}
+use Rattle.coordinator.specs.State.{thirteen, everyNode, blankRecord}
 use Rattle.coordinator.specs.Receive.{forReplica}
 use Rattle.record.specs.Layout.{recordSize}
 use Rattle.record.specs.Record.{recordOf, bytesOf, check}
@@ -283,7 +283,3 @@ pub record Whole (b : Buffers) : Type 0 where
 -- "A station is blank when its 13 images are, no message waits, and every booking end is idle with last serial and stamp 0"; any nodes may be on
 abbrev pub Blank : Buffers → Type 0
 Blank b = Whole b × (stationOf b ≡ blankStation (onOf (b .own)))
-
--- "At rest, every booking end is idle."
-abbrev pub AtRest : Buffers → Type 0
-AtRest b = (n : ℕ) → n < thirteen → recordIn (b .records) n .phase ≡ idlePhase

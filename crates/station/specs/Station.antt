@@ -1,13 +1,14 @@
 -- A station: thirteen replicas and coordinators, the messages that wait, and which nodes are on.
+use mathlib.Core.Path.{_≡_}
 use mathlib.Core.Bool.{cond}
 use mathlib.Core.List.{List, [], _++_, _∷_}
-use Prim.Native.Nat.{ℕ, _+_}
+use Prim.Native.Nat.{ℕ, _+_, _<_}
 use lib.Dec.{eqb}
 use lib.ListN.{take, drop}
 use Rattle.image.specs.Layout.{shape}
 use Rattle.image.specs.Blank.{blankAs}
 use Rattle.coordinator.specs.declared.Coordinator.{Coordinator}
-use Rattle.coordinator.specs.State.{blankRecord}
+use Rattle.coordinator.specs.State.{thirteen, idlePhase, blankRecord}
 
 -- By node its image (the bytes) and its record; the pool, the waiting messages (the bytes) in sending order; the mask of the nodes that are on.
 -- A number above 12 is no node: what stands there is blank and stays so.
@@ -24,6 +25,10 @@ poolSize = 128
 -- "A station is blank when its 13 images are, no message waits, and every booking end is idle with last serial and stamp 0." Any nodes may be on.
 abbrev pub blankStation : ℕ → Station
 blankStation on = record { images = λ n. blankAs shape; records = λ n. blankRecord; pool = []; on = on }
+
+-- "At rest, every booking end is idle."
+abbrev pub Quiescent : Station → Type 0
+Quiescent st = (n : ℕ) → n < thirteen → st .records n .phase ≡ idlePhase
 
 -- ---- changes
 -- the table f with v for n
