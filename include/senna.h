@@ -2,7 +2,11 @@
  * senna.h: replicated objects on a tree of thirteen nodes: the quorums, the messages between nodes, a node's stored image, the
  * replica that answers messages from it, the record of the node's own transaction, and a whole station of thirteen nodes.
  *
- * Link with libhost.a, which `rt staticlib host` writes to target/staticlib/. Nothing else is needed.
+ * `rt staticlib host` writes the library, target/staticlib/libhost.a. Nothing else is needed, and this line builds a program with it:
+ *
+ *   gcc -std=c11 -Iinclude main.c target/staticlib/libhost.a -o main
+ *
+ * C11 and C++11 or later. Every name begins with senna_ or SENNA_. examples/grader.c is a whole host program.
  *
  * Nodes are 0 to 12. The children of node i are 3i+1, 3i+2 and 3i+3; 4 to 12 are leaves. A set of nodes is a 16-bit mask with bit i
  * for node i. A read quorum of a subtree is its root, or read quorums of two of its three child subtrees. A write quorum is its root
@@ -13,9 +17,13 @@
  * its stamp. Nodes exchange messages, each of which belongs to one transaction. What a node keeps as a replica is its image: a copy of
  * each object, and what it knows of each owner's last transaction. Messages and images are bytes; both formats are written below.
  *
- * No function here keeps a state of its own or uses the heap. A function reads its arguments and the bytes lent to it, and writes only
- * to a buffer lent to it as non-const. All are re-entrant and may be called from any thread, as long as no other thread uses a buffer
- * that is being written. A pointer is never null, also where its length is 0, and may have any alignment.
+ * No function here keeps a state of its own, has a global or uses the heap. A function reads its arguments and the bytes lent to it, and
+ * writes only to a buffer lent to it as non-const; a pointer is not kept after the call. All are re-entrant and may be called from any thread,
+ * as long as no other thread uses a buffer that is being written. A pointer is never null, also where its length is 0, and may have any
+ * alignment. A buffer that a call may write overlaps no other buffer of the call.
+ *
+ * A call that can refuse answers a number, SENNA_OK or one of the twelve below. On a refusal every lent byte is as it was, and what is
+ * answered beside the number is 0.
  */
 #ifndef SENNA_H
 #define SENNA_H
@@ -57,6 +65,30 @@ extern "C" {
 #define SENNA_BUSY 10          /* begin while a transaction is under way */
 #define SENNA_NOT_READY 11     /* a value or the votes wanted too soon */
 #define SENNA_POOL_FULL 12     /* 128 messages wait already */
+
+/*
+ * A number's word, for a log or a screen: "ok", "length" .. "pool full", and "unknown" for what is no number of this table. The words are
+ * constants: they are never freed or changed. Reads only its argument; no heap; re-entrant.
+ */
+static inline const char *senna_word(uint8_t number)
+{
+    switch (number) {
+    case SENNA_OK: return "ok";
+    case SENNA_LENGTH: return "length";
+    case SENNA_DAMAGED: return "damaged";
+    case SENNA_GARBLED: return "garbled";
+    case SENNA_STRANGER: return "stranger";
+    case SENNA_OUT_OF_TURN: return "out of turn";
+    case SENNA_NO_SUCH_OBJECT: return "no such object";
+    case SENNA_EIGHT_OPEN: return "eight open";
+    case SENNA_NO_QUORUM: return "no quorum";
+    case SENNA_USED_UP: return "number used up";
+    case SENNA_BUSY: return "busy";
+    case SENNA_NOT_READY: return "not ready";
+    case SENNA_POOL_FULL: return "pool full";
+    default: return "unknown";
+    }
+}
 
 /* The answer of a nearest call. On a refusal mask and sum are 0. */
 typedef struct senna_choice {
@@ -118,10 +150,29 @@ senna_choice senna_nearest_write(uint16_t live, const uint8_t *distances, size_t
  * below 4294967295. A message that keeps all of this, with no byte missing or left over, is well formed.
  */
 
+/* Kinds of messages. */
+#define SENNA_FETCH 1
+#define SENNA_COPY 2
+#define SENNA_ASK 3
+#define SENNA_VOTE 4
+#define SENNA_OUTCOME 5
+#define SENNA_DONE 6
+#define SENNA_YIELD 7
+
+/* Modes of an object in a message or a record. */
+#define SENNA_READ 0
+#define SENNA_WRITE 1
+
+/* Words of a vote and of an outcome. */
+#define SENNA_NO 0
+#define SENNA_YES 1
+#define SENNA_ABORT 0
+#define SENNA_COMMIT 1
+
 /* An object in a message. */
 typedef struct senna_entry {
     uint8_t object;
-    uint8_t mode; /* 0 read, 1 write */
+    uint8_t mode; /* SENNA_READ or SENNA_WRITE */
     uint32_t version;
     int64_t value;
 } senna_entry;
@@ -301,12 +352,17 @@ uint8_t senna_replica_answers(const uint8_t *image, size_t image_length, uint8_t
  *   found 4, value found 8, whether a new value was given 1, new value 8
  *   the participants 2, who voted yes 2, who said done 2, thirteen serials of rivals of 4, by owner
  *
- * A record begins as senna_blank_record makes it, and the calls below change it in place. Every call takes the record first, then me, the
- * node's own number. A record that no call could have left so is damaged.
+ * A record begins as senna_blank_record makes it, and the calls below change it in place. A record that no call could have left so is
+ * damaged. A host keeps the bytes, by writing them to its disk after each call, and goes on from them after a power cut. Every call takes:
+ *
+ * record  the node's record; only senna_coordinator_found and _due, the check and the accessors leave it as it is
+ * length  the bytes at record
+ * me      the node's own number
  *
  * Numbers of every call: SENNA_LENGTH (length is not SENNA_RECORD, or another lent length is wrong) and SENNA_DAMAGED come first, then
  * SENNA_STRANGER for me above 12, then what its comment says, the lowest that fits unless it says otherwise. On a refusal every lent
- * byte is as it was.
+ * byte is as it was. Otherwise senna_check_record answers 0 for the record after, and no other lent byte has changed but those that the
+ * comment names. No heap; re-entrant.
  */
 
 /* Phases. */
@@ -315,7 +371,7 @@ uint8_t senna_replica_answers(const uint8_t *image, size_t image_length, uint8_t
 #define SENNA_VOTING 2    /* votes are asked for */
 #define SENNA_FINISHING 3 /* the outcome is told until every participant says done */
 
-/* What a delivery brought about. Committed and aborted are a transaction's outcomes too; 0 is none yet. */
+/* What a delivery brought about. Committed and aborted are a transaction's outcomes too; an outcome of 0 is none. */
 #define SENNA_NOTHING 0
 #define SENNA_COMMITTED 1
 #define SENNA_ABORTED 2
@@ -325,24 +381,25 @@ uint8_t senna_replica_answers(const uint8_t *image, size_t image_length, uint8_t
 /* The answer of a call on a record, and of a station's step. On a refusal answer is 0. */
 typedef struct senna_called {
     uint8_t number;  /* SENNA_OK, or why the call refuses */
-    uint64_t answer; /* what its comment says, else 0 */
+    uint64_t answer; /* what the call's comment says, and 0 where it says nothing */
 } senna_called;
 
 /* The answer of senna_coordinator_found and senna_station_found. On a refusal value is 0. */
 typedef struct senna_value {
     uint8_t number; /* SENNA_OK, or why the call refuses */
-    int64_t value;
+    int64_t value;  /* the value found */
 } senna_value;
 
 /*
- * Whether bytes are a record: SENNA_LENGTH (length is not SENNA_RECORD), SENNA_DAMAGED (a rule is broken), SENNA_OK.
+ * Whether bytes are a record, as kept bytes must be before a host goes on from them.
+ * Numbers, the lowest that fits: SENNA_LENGTH (length is not SENNA_RECORD), SENNA_DAMAGED (a rule is broken).
  * Only reads the bytes at record; no heap; re-entrant.
  */
 uint8_t senna_check_record(const uint8_t *record, size_t length);
 
 /*
- * Writes the record of a node that never began a transaction: all zeros. Number: SENNA_LENGTH (length is not SENNA_RECORD), and then
- * nothing is written. Only writes to record; no heap; re-entrant.
+ * Writes the record of a node that never began a transaction: all zeros. Whatever stood there before is lost. Number: SENNA_LENGTH (length
+ * is not SENNA_RECORD), and then nothing is written. Only writes to record; no heap; re-entrant.
  */
 uint8_t senna_blank_record(uint8_t *record, size_t length);
 
@@ -350,8 +407,9 @@ uint8_t senna_blank_record(uint8_t *record, size_t length);
  * Begins a transaction with the next serial; answers the chosen read quorum.
  *
  * live       the nodes that may be chosen, at most SENNA_ALL
- * distances  SENNA_DISTANCES bytes, as for senna_nearest_read; another size is SENNA_LENGTH
- * timestamp  above the last one
+ * distances  SENNA_DISTANCES bytes, as for senna_nearest_read; only read
+ * size       the bytes at distances; another number than SENNA_DISTANCES is SENNA_LENGTH
+ * timestamp  above the last one, also after an abort
  *
  * Numbers: SENNA_STRANGER (also live above SENNA_ALL), SENNA_BUSY (the phase is not SENNA_IDLE; before the next), SENNA_OUT_OF_TURN
  * (timestamp not above the last), SENNA_NO_QUORUM, SENNA_USED_UP (the last serial is 4294967295).
@@ -361,25 +419,26 @@ senna_called senna_coordinator_begin(uint8_t *record, size_t length, uint8_t me,
 
 /*
  * Takes a fresh live mask and distances while open; answers the newly chosen read quorum, which is contacted if an object is open.
+ * live, distances and size are as for senna_coordinator_begin.
  * Numbers: SENNA_STRANGER (also live above SENNA_ALL), SENNA_OUT_OF_TURN (not SENNA_OPEN), SENNA_NO_QUORUM.
  */
 senna_called senna_coordinator_reselect(uint8_t *record, size_t length, uint8_t me, uint16_t live, const uint8_t *distances, size_t size);
 
 /*
- * Opens an object, to read it or to write it; the present read quorum is contacted.
+ * Opens an object, to read it or to write it; the present read quorum is contacted. Answers 0.
  * Numbers: SENNA_OUT_OF_TURN (not SENNA_OPEN), SENNA_NO_SUCH_OBJECT (above 63, or opened already), SENNA_EIGHT_OPEN.
  */
 senna_called senna_coordinator_open_read(uint8_t *record, size_t length, uint8_t me, uint8_t object);
 senna_called senna_coordinator_open_write(uint8_t *record, size_t length, uint8_t me, uint8_t object);
 
 /*
- * Gives an object that was opened to write its new value; the last one given counts.
+ * Gives an object that was opened to write its new value; the last one given counts. Answers 0.
  * Numbers: SENNA_OUT_OF_TURN (not SENNA_OPEN), SENNA_NO_SUCH_OBJECT (not opened, or opened to read).
  */
 senna_called senna_coordinator_set_value(uint8_t *record, size_t length, uint8_t me, uint8_t object, int64_t value);
 
 /*
- * The value found for an opened object, in every phase but SENNA_IDLE. The record stays as it is.
+ * The value found for an opened object, in every phase but SENNA_IDLE. The record is lent as non-const and comes back as it was.
  * Numbers: SENNA_OUT_OF_TURN (SENNA_IDLE), SENNA_NO_SUCH_OBJECT (not opened), SENNA_NOT_READY.
  */
 senna_value senna_coordinator_found(uint8_t *record, size_t length, uint8_t me, uint8_t object);
@@ -391,12 +450,19 @@ senna_value senna_coordinator_found(uint8_t *record, size_t length, uint8_t me, 
  */
 senna_called senna_coordinator_request_commit(uint8_t *record, size_t length, uint8_t me);
 
-/* Gives the transaction up. Number: SENNA_OUT_OF_TURN (neither SENNA_OPEN nor SENNA_VOTING). */
+/*
+ * Gives the transaction up: the phase is SENNA_FINISHING with the outcome SENNA_ABORTED, or SENNA_IDLE where nobody was contacted. Answers 0.
+ * Number: SENNA_OUT_OF_TURN (neither SENNA_OPEN nor SENNA_VOTING).
+ */
 senna_called senna_coordinator_abort(uint8_t *record, size_t length, uint8_t me);
 
 /*
- * Delivers a message; answers what it brought about, SENNA_NOTHING to SENNA_FINISHED. One that does not fit the transaction changes
- * nothing and has no number. message and record are apart.
+ * Delivers a copy, a vote, a done or a yield; answers what it brought about, SENNA_NOTHING to SENNA_FINISHED. The transaction is committed
+ * from the delivery on that answers SENNA_COMMITTED, and never before. A message that does not fit the transaction, such as one that comes
+ * late or again, changes nothing and is no refusal.
+ *
+ * message  the message; only read
+ * size     the bytes at message
  *
  * Numbers, the lowest that fits: SENNA_LENGTH (of the record, or size is not SENNA_MESSAGE_MIN to SENNA_MESSAGE_MAX), SENNA_DAMAGED,
  * SENNA_GARBLED, SENNA_STRANGER (me above 12, or for another node), SENNA_OUT_OF_TURN (a fetch, an ask or an outcome).
@@ -404,11 +470,13 @@ senna_called senna_coordinator_abort(uint8_t *record, size_t length, uint8_t me)
 senna_called senna_coordinator_receive(uint8_t *record, size_t length, uint8_t me, const uint8_t *message, size_t size);
 
 /*
- * Writes the message that is due to a node, and while SENNA_OPEN for an object; in other phases object does not matter. The record is
- * only read. Nothing due: SENNA_OK with length 0, and nothing is written.
+ * Writes the message that is due to a node, and while SENNA_OPEN for an object; in other phases object does not matter. It stays due, and
+ * may be sent again, until its answer is delivered. The record is only read. Nothing due: SENNA_OK with length 0, and nothing is written.
  *
- * out   where the message goes; the bytes behind it are left alone
- * size  the bytes at out, at least SENNA_MESSAGE_MAX
+ * node    the node that the message is for
+ * object  an opened object, while SENNA_OPEN
+ * out     where the message goes; the bytes behind it are left alone
+ * size    the bytes at out, at least SENNA_MESSAGE_MAX
  *
  * Numbers: SENNA_LENGTH (of either), SENNA_DAMAGED, SENNA_STRANGER (me or node above 12), SENNA_NO_SUCH_OBJECT (while SENNA_OPEN: above
  * 63, or not opened).
@@ -417,8 +485,18 @@ senna_written senna_coordinator_due(const uint8_t *record, size_t length, uint8_
                                     size_t size);
 
 /*
- * What a record says, for a host that resumes from kept bytes; 0 where the bytes are no record. The i-th object is counted from 0 in
- * the order of opening, and is 0 past the count. They only read the bytes at record; no heap; re-entrant.
+ * What a record says, for a host that resumes from kept bytes; 0 where the bytes are no record, so check them first. None of these refuses.
+ * They only read the bytes at record; no heap; re-entrant.
+ *
+ *   phase         SENNA_IDLE to SENNA_FINISHING
+ *   serial        of the present or last transaction; 0 before the first
+ *   timestamp     of the present or last transaction; 0 before the first
+ *   outcome       SENNA_COMMITTED or SENNA_ABORTED, of the last transaction that was decided; 0 before the first. While SENNA_OPEN or
+ *                 SENNA_VOTING this is still the one before, so look at the phase too
+ *   participants  the mask of the nodes whose votes are asked for; 0 before they are, and when idle
+ *   count         how many objects are open, 0 to SENNA_ENTRIES; 0 when idle
+ *   object, mode  of the i-th object, counted from 0 in the order of opening; 0 past the count. A mode is SENNA_READ or SENNA_WRITE
+ *   is_ready      1 where the i-th object's value is found, else 0
  */
 uint8_t senna_coordinator_phase(const uint8_t *record, size_t length);
 uint32_t senna_coordinator_serial(const uint8_t *record, size_t length);
@@ -500,13 +578,19 @@ senna_called senna_station_send(const uint8_t *records, size_t records_length, u
 senna_called senna_station_deliver(uint8_t *images, size_t images_length, uint8_t *records, size_t records_length, uint8_t *pool,
                                    size_t pool_length, const uint8_t *own, size_t own_length, uint8_t k, uint8_t kept);
 
-/* Takes the k-th waiting message out of the pool, undelivered. Answers 0. Number: SENNA_OUT_OF_TURN (no such message waits). */
+/*
+ * Takes the k-th waiting message out of the pool, undelivered. Only the pool changes. Answers 0.
+ * Number: SENNA_OUT_OF_TURN (no such message waits).
+ */
 senna_called senna_station_drop(uint8_t *pool, size_t pool_length, uint8_t k);
 
-/* Switches a node: up 0 off, any other number on. A repeated switch changes nothing. Answers 0. Number: SENNA_STRANGER. */
+/*
+ * Switches a node: up 0 off, any other number on. A repeated switch changes nothing. Only own changes. Answers 0.
+ * Number: SENNA_STRANGER (node above 12).
+ */
 senna_called senna_station_switch(uint8_t *own, size_t own_length, uint8_t node, uint8_t up);
 
-/* How many messages wait; 0 where the bytes are no pool. Never refuses. Only reads the bytes at pool. */
+/* How many messages wait; 0 where the bytes are no pool. Never refuses. Only reads the bytes at pool; no heap; re-entrant. */
 size_t senna_station_waiting(const uint8_t *pool, size_t pool_length);
 
 /* A waiting message: its bytes are the length bytes at pool + place. On a refusal both are 0. */
@@ -518,7 +602,7 @@ typedef struct senna_waiting {
 
 /*
  * Where the k-th waiting message stands, and how long it is. Numbers, the lowest that fits: SENNA_LENGTH, SENNA_DAMAGED, SENNA_OUT_OF_TURN (no
- * such message waits). Only reads the bytes at pool.
+ * such message waits). Only reads the bytes at pool; no heap; re-entrant.
  */
 senna_waiting senna_station_message(const uint8_t *pool, size_t pool_length, uint8_t k);
 

@@ -1,0 +1,351 @@
+/*
+ * A grader's host program. Each of thirteen nodes has a scale; a batch on the scale is booked by adding its grams to the supplier's tally, which
+ * is one object that all nodes keep copies of. Here the thirteen nodes and the cable between them are simulated in this one program, so that it
+ * can cut a node's power and switch nodes off. What a real node's program does is in the first half, down to take_turn; read that first.
+ *
+ * The whole of it: a node keeps two things of the library on its disk, its image (its copies of the tallies) and its record (its own booking).
+ * take_turn looks at the record and does what comes next. So a power cut needs no code of its own: the bytes are read from the disk, checked,
+ * and take_turn goes on from where they are.
+ *
+ * README.md beside this file has the line that compiles it.
+ */
+#include "senna.h"
+
+#include <inttypes.h>
+#include <stdbool.h>
+#include <stdio.h>
+#include <stdlib.h>
+#include <string.h>
+
+enum { SUPPLIER = 7, CABLE = 64, ROUNDS = 20 };
+
+/* What a node keeps on its disk. */
+typedef struct kept {
+    uint8_t image[SENNA_IMAGE];   /* the library's: copies of all tallies, and who is booking on them */
+    uint8_t record[SENNA_RECORD]; /* the library's: this node's own booking */
+    int64_t batch;                /* ours: grams on the scale that are not booked yet; 0 for none */
+    int64_t booked;               /* ours: grams that this node has booked */
+} kept;
+
+/* A node: its number, what it works on, and its disk. A power cut loses all but the disk. */
+typedef struct node {
+    uint8_t number;
+    bool on;
+    kept memory;
+    kept disk;
+} node;
+
+/* A message on the cable. */
+typedef struct letter {
+    uint8_t bytes[SENNA_MESSAGE_MAX];
+    size_t length;
+} letter;
+
+/* The simulated station: the nodes, a cable that carries messages in order, and a clock that never goes back. */
+typedef struct station {
+    node nodes[SENNA_NODES];
+    letter cable[CABLE];
+    size_t waiting;
+    uint32_t clock;
+} station;
+
+/* ---- A node's program ---- */
+
+/* For calls that cannot be refused unless this program is wrong. */
+static void must(uint8_t number, const char *what)
+{
+    if (number != SENNA_OK) {
+        printf("%s refused: %s\n", what, senna_word(number));
+        exit(EXIT_FAILURE);
+    }
+}
+
+/*
+ * Writes memory to the disk: after every change, and before anything is sent or shown that follows from it. A real program writes a new file and
+ * renames it over the old one, so that a cut leaves either the old bytes or the new ones.
+ */
+static void keep(node *n)
+{
+    n->disk = n->memory;
+}
+
+/* Puts a message on the cable. A full cable loses it, which does no harm: what is due stays due and is sent again. */
+static void put(station *s, const uint8_t *bytes, size_t length)
+{
+    if (s->waiting < CABLE) {
+        memcpy(s->cable[s->waiting].bytes, bytes, length);
+        s->cable[s->waiting].length = length;
+        s->waiting++;
+    }
+}
+
+/* The nodes that answer, as far as this one knows. A real program sets a bit for each node that it has heard of lately. */
+static uint16_t live_nodes(const station *s)
+{
+    unsigned live = 0;
+    for (unsigned i = 0; i < SENNA_NODES; i++) {
+        live |= s->nodes[i].on ? 1u << i : 0u;
+    }
+    return (uint16_t)live;
+}
+
+/* Begins a booking of the batch on the scale, with a later timestamp than ever before, and opens the supplier's tally to write it. */
+static void begin_booking(station *s, node *n)
+{
+    uint8_t distances[SENNA_DISTANCES] = {0}; /* thirteen 16-bit numbers, low byte first */
+    for (size_t i = 0; i < SENNA_NODES; i++) {
+        distances[2 * i] = 1;
+    }
+    senna_called begun = senna_coordinator_begin(n->memory.record, SENNA_RECORD, n->number, live_nodes(s), distances, sizeof distances, ++s->clock);
+    if (begun.number != SENNA_OK) {
+        printf("node %u: cannot begin: %s\n", n->number, senna_word(begun.number));
+        return;
+    }
+    must(senna_coordinator_open_write(n->memory.record, SENNA_RECORD, n->number, SUPPLIER).number, "open to write");
+    keep(n);
+    printf("node %u: begins booking %" PRIu32 ", %" PRId64 " g for supplier %d\n", n->number,
+           senna_coordinator_serial(n->memory.record, SENNA_RECORD), n->memory.batch, SUPPLIER);
+}
+
+/* The tally's value has been found: sets the new one and asks for votes. Where no write quorum is live the booking is given up for now. */
+static void ask_for_votes(node *n)
+{
+    senna_value found = senna_coordinator_found(n->memory.record, SENNA_RECORD, n->number, SUPPLIER);
+    must(found.number, "found");
+    int64_t sum = found.value + n->memory.batch;
+    must(senna_coordinator_set_value(n->memory.record, SENNA_RECORD, n->number, SUPPLIER, sum).number, "set value");
+    senna_called asked = senna_coordinator_request_commit(n->memory.record, SENNA_RECORD, n->number);
+    if (asked.number == SENNA_OK) {
+        printf("node %u: found %" PRId64 " g, asks for votes on %" PRId64 " g\n", n->number, found.value, sum);
+    } else {
+        printf("node %u: found %" PRId64 " g, cannot ask for votes: %s; gives up\n", n->number, found.value, senna_word(asked.number));
+        must(senna_coordinator_abort(n->memory.record, SENNA_RECORD, n->number).number, "abort");
+    }
+    keep(n);
+}
+
+/*
+ * Sends every message that is due, to each node. Safe to do as often as one likes. While a booking is open, due is asked for each of its objects;
+ * here it has one.
+ */
+static void send_due(station *s, const node *n)
+{
+    uint8_t message[SENNA_MESSAGE_MAX];
+    uint8_t object = senna_coordinator_object(n->memory.record, SENNA_RECORD, 0);
+    if (senna_coordinator_phase(n->memory.record, SENNA_RECORD) == SENNA_IDLE) {
+        return;
+    }
+    for (uint8_t to = 0; to < SENNA_NODES; to++) {
+        senna_written due = senna_coordinator_due(n->memory.record, SENNA_RECORD, n->number, to, object, message, sizeof message);
+        must(due.number, "due");
+        if (due.length > 0) {
+            put(s, message, due.length);
+        }
+    }
+}
+
+/* A fetch, an ask or an outcome is for this node's copies. The changed image is kept before the answer is sent. */
+static void receive_at_replica(station *s, node *n, const letter *l)
+{
+    uint8_t answer[SENNA_MESSAGE_MAX];
+    senna_received got =
+        senna_replica_receive(n->memory.image, SENNA_IMAGE, n->number, l->bytes, l->length, answer, sizeof answer);
+    keep(n);
+    if (got.number != SENNA_OK) {
+        printf("node %u: a message is refused: %s\n", n->number, senna_word(got.number));
+    } else if (got.length > 0) {
+        put(s, answer, got.length);
+    }
+}
+
+/* Any other kind is for this node's own booking. Only 'committed' means booked, and it is shown after it is kept. */
+static void receive_at_coordinator(node *n, const letter *l)
+{
+    senna_called got = senna_coordinator_receive(n->memory.record, SENNA_RECORD, n->number, l->bytes, l->length);
+    int64_t grams = n->memory.batch;
+    if (got.number == SENNA_OK && got.answer == SENNA_COMMITTED) {
+        n->memory.booked += grams;
+        n->memory.batch = 0; /* kept together with the record: a batch is never booked twice */
+    }
+    keep(n);
+    if (got.number != SENNA_OK) {
+        printf("node %u: a message is refused: %s\n", n->number, senna_word(got.number));
+    } else if (got.answer == SENNA_COMMITTED) {
+        printf("node %u: %" PRId64 " g booked\n", n->number, grams);
+    } else if (got.answer == SENNA_ABORTED) {
+        printf("node %u: not booked, another booking goes first\n", n->number);
+    } else if (got.answer == SENNA_FINISHED) {
+        printf("node %u: booking %" PRIu32 " is over\n", n->number, senna_coordinator_serial(n->memory.record, SENNA_RECORD));
+    }
+}
+
+/* A message came from the cable. Its first byte is its kind; a cable may bring anything, so it is checked before it is looked at. */
+static void receive(station *s, node *n, const letter *l)
+{
+    if (senna_check_message(l->bytes, l->length) != SENNA_OK) {
+        return;
+    }
+    switch (l->bytes[0]) {
+    case SENNA_FETCH:
+    case SENNA_ASK:
+    case SENNA_OUTCOME:
+        receive_at_replica(s, n, l);
+        break;
+    default:
+        receive_at_coordinator(n, l);
+        break;
+    }
+}
+
+/* Starts a node from its disk, and says where its booking was. */
+static void start(node *n)
+{
+    static const char *const phases[] = {"idle", "open", "voting", "finishing"};
+    n->memory = n->disk;
+    must(senna_check_image(n->memory.image, SENNA_IMAGE), "the kept image");
+    must(senna_check_record(n->memory.record, SENNA_RECORD), "the kept record");
+    n->on = true;
+    const uint8_t *record = n->memory.record;
+    uint8_t phase = senna_coordinator_phase(record, SENNA_RECORD);
+    if (phase == SENNA_IDLE) {
+        printf("node %u: power is back; no booking was under way\n", n->number);
+        return;
+    }
+    printf("node %u: power is back; booking %" PRIu32 " was %s", n->number, senna_coordinator_serial(record, SENNA_RECORD), phases[phase]);
+    for (uint8_t i = 0; i < senna_coordinator_count(record, SENNA_RECORD); i++) {
+        printf(", supplier %u to %s%s", senna_coordinator_object(record, SENNA_RECORD, i),
+               senna_coordinator_mode(record, SENNA_RECORD, i) == SENNA_WRITE ? "write" : "read",
+               senna_coordinator_is_ready(record, SENNA_RECORD, i) ? ", found" : "");
+    }
+    if (phase == SENNA_VOTING || phase == SENNA_FINISHING) {
+        printf(", participants"); /* a mask: bit i for node i */
+        for (unsigned i = 0; i < SENNA_NODES; i++) {
+            if (senna_coordinator_participants(record, SENNA_RECORD) >> i & 1) {
+                printf(" %u", i);
+            }
+        }
+    }
+    if (phase == SENNA_FINISHING) { /* in earlier phases the outcome is that of the booking before */
+        printf(", %s", senna_coordinator_outcome(record, SENNA_RECORD) == SENNA_COMMITTED ? "booked" : "given up");
+    }
+    printf("\n");
+}
+
+/* Whether a node has anything left to do for its own scale. */
+static bool at_work(const node *n)
+{
+    return n->on && (n->memory.batch != 0 || senna_coordinator_phase(n->memory.record, SENNA_RECORD) != SENNA_IDLE);
+}
+
+/* Does what comes next, whatever the phase, then sends what is due. A real program does this every so often, and after a message came. */
+static void take_turn(station *s, node *n)
+{
+    uint8_t phase = senna_coordinator_phase(n->memory.record, SENNA_RECORD);
+    if (phase == SENNA_IDLE) {
+        begin_booking(s, n);
+    } else if (phase == SENNA_OPEN && senna_coordinator_is_ready(n->memory.record, SENNA_RECORD, 0)) {
+        ask_for_votes(n);
+    }
+    send_due(s, n);
+}
+
+/* ---- The simulation around it ---- */
+
+/* Delivers up to so many messages. What comes to a node without power is lost. Byte 2 of a message is the node that it is for. */
+static void deliver(station *s, size_t most)
+{
+    for (; most > 0 && s->waiting > 0; most--) {
+        letter first = s->cable[0];
+        s->waiting--;
+        memmove(&s->cable[0], &s->cable[1], s->waiting * sizeof s->cable[0]);
+        node *n = &s->nodes[first.bytes[2]];
+        if (n->on) {
+            receive(s, n, &first);
+        }
+    }
+}
+
+/* Turns and messages until no node has anything left to do, or too long. */
+static void carry_on(station *s, unsigned rounds)
+{
+    for (unsigned round = 0; round < rounds; round++) {
+        for (size_t i = 0; i < SENNA_NODES; i++) {
+            if (at_work(&s->nodes[i])) {
+                take_turn(s, &s->nodes[i]);
+                deliver(s, SIZE_MAX);
+            }
+        }
+    }
+}
+
+static void weigh(node *n, int64_t grams)
+{
+    n->memory.batch = grams;
+    keep(n);
+    printf("node %u: %" PRId64 " g on the scale\n", n->number, grams);
+}
+
+/* The power of a node fails: everything in memory is gone, and what was on its way to it finds nobody. */
+static void cut_power(node *n)
+{
+    memset(&n->memory, 0, sizeof n->memory);
+    n->on = false;
+    printf("node %u: power cut\n", n->number);
+}
+
+static void blank_station(station *s)
+{
+    memset(s, 0, sizeof *s);
+    for (uint8_t i = 0; i < SENNA_NODES; i++) {
+        node *n = &s->nodes[i];
+        n->number = i;
+        n->on = true;
+        must(senna_blank_image(n->memory.image, SENNA_IMAGE), "blank image");
+        must(senna_blank_record(n->memory.record, SENNA_RECORD), "blank record");
+        keep(n);
+    }
+}
+
+int main(void)
+{
+    static station s;
+    node *five = &s.nodes[5], *eight = &s.nodes[8];
+    blank_station(&s);
+
+    printf("-- a plain booking\n");
+    weigh(five, 12500);
+    carry_on(&s, ROUNDS);
+
+    printf("\n-- power cut while votes are coming\n");
+    weigh(five, 8300);
+    carry_on(&s, 1);       /* begins, and the tally's value is found */
+    take_turn(&s, five);   /* asks seven nodes for their votes */
+    deliver(&s, 10);       /* seven asks and three votes */
+    cut_power(five);       /* not booked: four votes are missing */
+    deliver(&s, SIZE_MAX); /* and find nobody */
+    start(five);
+    carry_on(&s, ROUNDS);
+
+    printf("\n-- power cut after it was booked, before the others know\n");
+    weigh(five, 9100);
+    carry_on(&s, 2); /* begins, then asks and is booked */
+    cut_power(five);
+    start(five);
+    carry_on(&s, ROUNDS);
+
+    printf("\n-- two nodes at once\n");
+    weigh(eight, 700);
+    carry_on(&s, 1); /* node 8 begins; being older it goes first */
+    weigh(five, 60);
+    carry_on(&s, ROUNDS);
+
+    printf("\n-- no write quorum without node 0\n");
+    cut_power(&s.nodes[0]);
+    weigh(five, 4000);
+    carry_on(&s, 3);
+    start(&s.nodes[0]);
+    carry_on(&s, ROUNDS);
+
+    printf("\nbooked at node 5: %" PRId64 " g, at node 8: %" PRId64 " g\n", five->memory.booked, eight->memory.booked);
+    return EXIT_SUCCESS;
+}

@@ -1,0 +1,704 @@
+/*
+ * Random bytes at every function of include/senna.h. Half of the calls are clean: right lengths, and bytes of a station that such calls keep
+ * going. In the others lengths go from 0 to beyond the right one, and bytes are right, nearly right (one byte changed, or four of them 255), one
+ * byte repeated, or random. After each call: no number outside the table, nothing lent altered on a refusal or where it is lent as const, nothing
+ * written outside what is lent, and a refusal answers 0 beside its number.
+ *
+ * What is lent lies against a page that may not be touched, at its end or at its start, or in a heap block of exactly its length, so that the
+ * address sanitizer and valgrind see its ends too. --calls N and --seed S: 200,000 calls and seed 1 where nothing is said. So many calls must
+ * also have come to every number, to every function's acceptance, and to all that a delivery brings about.
+ */
+#include "check.h"
+
+#include <stdlib.h>
+
+/* Every function of the header that the library has. */
+#define FUNCTIONS(F)                                                                                                                               \
+    F(is_read_quorum) F(is_write_quorum) F(nearest_read) F(nearest_write)                                                                          \
+    F(check_message) F(check_image) F(check_record) F(blank_image) F(blank_record)                                                                 \
+    F(write_fetch) F(write_copy) F(write_ask) F(write_vote) F(write_outcome) F(write_done) F(write_yield)                                          \
+    F(replica_receive) F(replica_answers)                                                                                                          \
+    F(coordinator_begin) F(coordinator_reselect) F(coordinator_open_read) F(coordinator_open_write) F(coordinator_set_value)                       \
+    F(coordinator_found) F(coordinator_request_commit) F(coordinator_abort) F(coordinator_receive) F(coordinator_due)                              \
+    F(coordinator_phase) F(coordinator_serial) F(coordinator_timestamp) F(coordinator_outcome) F(coordinator_participants)                         \
+    F(coordinator_count) F(coordinator_object) F(coordinator_mode) F(coordinator_is_ready)                                                         \
+    F(station_blank) F(station_begin) F(station_reselect) F(station_open_read) F(station_open_write) F(station_set_value)                          \
+    F(station_found) F(station_request_commit) F(station_abort) F(station_send) F(station_deliver) F(station_drop)                                 \
+    F(station_switch) F(station_waiting) F(station_message)
+
+#define NUMBERED(name) AT_##name,
+#define NAMED(name) "senna_" #name,
+enum { FUNCTIONS(NUMBERED) COUNT };
+static const char *const names[] = {FUNCTIONS(NAMED)};
+
+#define USUAL 200000ul /* calls */
+
+enum { LENDERS = 4, ROOM = 20480, PAGE = 4096, GUARD = 64, RECENT = 16 };
+
+/* A lent buffer: where it stands, what stood there before the call, and where its bytes came from, if the call is clean. */
+typedef struct lent {
+    uint8_t *pages; /* ROOM bytes between two pages that may not be touched */
+    uint8_t *at;
+    size_t length;
+    uint8_t *heap;  /* the block, where it is one */
+    uint8_t *guard; /* GUARD bytes beside it, where it is none */
+    uint8_t *home;
+    int writable;
+    uint8_t before[ROOM];
+} lent;
+
+static lent lents[LENDERS];
+static unsigned lending;
+
+/* The station that clean calls keep going, and the last messages that were written. */
+static uint8_t images[SENNA_IMAGES], records[SENNA_RECORDS], pool[SENNA_POOL], own[SENNA_OWN];
+static uint8_t eight_open[SENNA_RECORD], used_up[SENNA_RECORD]; /* records that the station seldom has */
+static uint8_t recent[RECENT][SENNA_MESSAGE_MAX];
+static size_t recent_length[RECENT];
+static uint32_t timestamps;
+
+static unsigned current;
+static int clean;
+static unsigned long accepted_of[COUNT], faults_of[COUNT], numbers_seen[SENNA_POOL_FULL + 1], brought[SENNA_FINISHED + 1];
+
+/* ---- Random numbers (xorshift) ---- */
+
+#define SPREAD 0x9e3779b97f4a7c15u /* times the seed: where the random numbers start */
+static uint64_t state = SPREAD;
+
+static uint64_t draw(void)
+{
+    state ^= state << 13;
+    state ^= state >> 7;
+    state ^= state << 17;
+    return state;
+}
+
+static unsigned below(unsigned bound)
+{
+    return (unsigned)((draw() >> 20) % bound);
+}
+
+static uint8_t byte(void)
+{
+    return (uint8_t)below(256);
+}
+
+static void scatter(uint8_t *at, size_t length)
+{
+    size_t i;
+    for (i = 0; i < length; i++) {
+        at[i] = byte();
+    }
+}
+
+/* A node, mostly one of three; an object, mostly one of four; a mask, mostly of all nodes. */
+static uint8_t node(void)
+{
+    static const uint8_t busy[] = {0, 5, 8};
+    unsigned kind = below(16);
+    return kind == 0 ? byte() : kind < 10 ? busy[below(3)] : (uint8_t)below(SENNA_NODES);
+}
+
+static uint8_t object(void)
+{
+    return below(12) == 0 ? byte() : (uint8_t)below(4);
+}
+
+static uint16_t mask(void)
+{
+    unsigned kind = below(8);
+    return (uint16_t)(kind == 0 ? below(65536) : kind == 1 ? below(SENNA_ALL + 1) : SENNA_ALL);
+}
+
+static uint32_t serial(void)
+{
+    unsigned kind = below(16);
+    return kind == 0 ? 0 : kind == 1 ? UINT32_MAX : kind == 2 ? (uint32_t)draw() : 1 + below(9);
+}
+
+static uint32_t timestamp(void)
+{
+    return below(16) == 0 ? serial() : ++timestamps;
+}
+
+/* ---- Faults, and what is lent ---- */
+
+static void fault(const char *what)
+{
+    if (faults_of[current]++ == 0) {
+        printf("FAILED c: %s: %s\n", names[current], what);
+    }
+}
+
+static void must(int holds, const char *what)
+{
+    if (!holds) {
+        fault(what);
+    }
+}
+
+/* A length that may be wrong, where the call is not clean. */
+static size_t some_length(size_t right)
+{
+    switch (clean ? 9 : below(10)) {
+    case 0: return below((unsigned)right + 40);
+    case 1: return right - (right > 0);
+    case 2: return right + 1;
+    case 3: return below(4) == 0 ? 0 : right;
+    default: return right;
+    }
+}
+
+/* Bytes that may be nearly right or all wrong, where the call is not clean. */
+static void disturb(lent *l)
+{
+    size_t i, place;
+    if (clean || l->length == 0) {
+        return;
+    }
+    place = below(4) == 0 ? 0 : below((unsigned)l->length);
+    switch (below(8)) {
+    case 0: scatter(l->at, l->length); break;
+    case 1: memset(l->at, byte(), l->length); break;
+    case 2: l->at[place] = byte(); break;
+    case 3: l->at[place] = (uint8_t)(l->at[place] ^ (1u << below(8))); break;
+    case 4:
+        for (i = place; i < place + 4 && i < l->length; i++) {
+            l->at[i] = 255;
+        }
+        break;
+    default: break;
+    }
+}
+
+/* Gives a buffer its place: at the end of its pages, at their start, or in a heap block. */
+static void put_in_place(lent *l)
+{
+    l->heap = NULL;
+    l->guard = NULL;
+    switch (below(3)) {
+    case 0:
+        l->at = l->pages + ROOM - l->length;
+        l->guard = l->at - GUARD;
+        break;
+    case 1:
+        l->at = l->pages;
+        l->guard = l->at + l->length;
+        break;
+    default:
+        l->at = l->heap = (uint8_t *)malloc(l->length);
+        if (l->heap == NULL) {
+            printf("FAILED c: no memory\n");
+            exit(1);
+        }
+        break;
+    }
+    if (l->guard != NULL) {
+        memset(l->guard, 0x5a, GUARD);
+    }
+}
+
+/* Lends these bytes, or something like them. A written buffer of a clean call goes home if the call is accepted. */
+static lent *lend(const uint8_t *right, size_t right_length, uint8_t *home, int writable)
+{
+    lent *l = &lents[lending++];
+    size_t common;
+    l->length = some_length(right_length);
+    l->home = clean ? home : NULL;
+    l->writable = writable;
+    put_in_place(l);
+    common = l->length < right_length ? l->length : right_length;
+    memcpy(l->at, right, common);
+    scatter(l->at + common, l->length - common);
+    disturb(l);
+    memcpy(l->before, l->at, l->length);
+    return l;
+}
+
+static lent *lend_read(const uint8_t *right, size_t length)
+{
+    return lend(right, length, NULL, 0);
+}
+
+static lent *lend_write(uint8_t *right, size_t length)
+{
+    return lend(right, length, right, 1);
+}
+
+static lent *lend_distances(void)
+{
+    uint8_t distances[SENNA_DISTANCES];
+    scatter(distances, sizeof distances);
+    return lend_read(distances, sizeof distances);
+}
+
+/* A buffer for a message: of the smallest size that will do, or larger. */
+static lent *lend_out(void)
+{
+    uint8_t garbage[SENNA_MESSAGE_MAX + 9];
+    scatter(garbage, sizeof garbage);
+    return lend(garbage, SENNA_MESSAGE_MAX + (below(2) ? below(10) : 0), NULL, 1);
+}
+
+/* A message that waits in the station or was written lately. */
+static lent *lend_message(void)
+{
+    size_t waiting = senna_station_waiting(pool, sizeof pool);
+    unsigned i = below(RECENT);
+    if (waiting > 0 && below(2)) {
+        senna_waiting w = senna_station_message(pool, sizeof pool, (uint8_t)below((unsigned)waiting));
+        return lend_read(pool + w.place, w.length);
+    }
+    return lend_read(recent[i], recent_length[i]);
+}
+
+/* ---- What must hold after a call ---- */
+
+/* Whatever the answer: nothing is written outside, and what is const is as it was. On a refusal everything is. */
+static void settle(int refused)
+{
+    unsigned i;
+    size_t g;
+    for (i = 0; i < lending; i++) {
+        lent *l = &lents[i];
+        for (g = 0; l->guard != NULL && g < GUARD; g++) {
+            must(l->guard[g] == 0x5a, "a byte beside a lent buffer is written");
+        }
+        if (refused || !l->writable) {
+            must(memcmp(l->at, l->before, l->length) == 0, refused ? "a refusal alters a lent byte" : "a const buffer is altered");
+        } else if (l->home != NULL) {
+            memcpy(l->home, l->at, l->length);
+        }
+        free(l->heap);
+    }
+    lending = 0;
+}
+
+static void answered(unsigned number)
+{
+    must(number <= SENNA_POOL_FULL, "a number outside the table");
+    must(strcmp(senna_word((uint8_t)number), "unknown") != 0, "a number without a word");
+    if (number <= SENNA_POOL_FULL) {
+        numbers_seen[number]++;
+    }
+    accepted_of[current] += number == SENNA_OK;
+    settle(number != SENNA_OK);
+}
+
+/* A function that gives a value and never refuses: everything lent to it is as it was. */
+static void gave(uint64_t value, uint64_t most)
+{
+    must(value <= most, "a value that it cannot have");
+    accepted_of[current] += value != 0;
+    settle(1);
+}
+
+static void chose(senna_choice c)
+{
+    must(c.mask <= SENNA_ALL && (c.number == SENNA_OK || (c.mask == 0 && c.sum == 0)), "a choice");
+    answered(c.number);
+}
+
+static void called(senna_called c)
+{
+    must(c.number == SENNA_OK || c.answer == 0, "a refusal answers 0");
+    answered(c.number);
+}
+
+/* A call that brings something about. */
+static void delivered(senna_called c)
+{
+    must(c.answer <= SENNA_FINISHED, "what a delivery brings about");
+    if (c.number == SENNA_OK && c.answer <= SENNA_FINISHED) {
+        brought[c.answer]++;
+    }
+    called(c);
+}
+
+static void valued(senna_value v)
+{
+    must(v.number == SENNA_OK || v.value == 0, "a refusal has value 0");
+    answered(v.number);
+}
+
+/* A record, or an image, after a call on it is one. */
+static void record_stays(const lent *l, unsigned number)
+{
+    must(number != SENNA_OK || senna_check_record(l->at, l->length) == SENNA_OK, "a record stays one");
+}
+
+/* A message at the front of a buffer: well formed, and the bytes behind it are as they were. */
+static void message_at(const lent *l, unsigned number, size_t length)
+{
+    must(number == SENNA_OK || length == 0, "a refusal has length 0");
+    must(length <= SENNA_MESSAGE_MAX && length <= l->length, "the length of a message");
+    if (length <= l->length) {
+        must(memcmp(l->at + length, l->before + length, l->length - length) == 0, "a byte behind a message is written");
+    }
+    if (length > 0 && length <= SENNA_MESSAGE_MAX) {
+        unsigned i = below(RECENT);
+        must(senna_check_message(l->at, length) == SENNA_OK, "a message is well formed");
+        memcpy(recent[i], l->at, length);
+        recent_length[i] = length;
+    }
+}
+
+static void wrote(const lent *l, senna_written w)
+{
+    message_at(l, w.number, w.length);
+    answered(w.number);
+}
+
+/* ---- The calls ---- */
+
+static senna_entry an_entry(void)
+{
+    return entry(object(), below(12) == 0 ? byte() : below(2), serial(), (int64_t)draw());
+}
+
+/* Entries, mostly ascending, and reads mostly without a value. */
+static senna_entries some_entries(void)
+{
+    senna_entries e;
+    unsigned i;
+    e.count = below(12) == 0 ? byte() : (uint8_t)below(SENNA_ENTRIES + 1);
+    for (i = 0; i < SENNA_ENTRIES; i++) {
+        e.entry[i] = an_entry();
+        if (below(24) != 0) {
+            e.entry[i].object = (uint8_t)(8 * i + below(8));
+            e.entry[i].mode = (uint8_t)below(2);
+            e.entry[i].value = e.entry[i].mode == SENNA_READ ? 0 : e.entry[i].value;
+        }
+    }
+    return e;
+}
+
+static senna_serials some_rivals(void)
+{
+    senna_serials r;
+    unsigned i;
+    for (i = 0; i < SENNA_NODES; i++) {
+        r.serial[i] = below(6) == 0 ? serial() : 0;
+    }
+    return r;
+}
+
+static void call_quorum(void)
+{
+    lent *d;
+    switch (current) {
+    case AT_is_read_quorum: gave(senna_is_read_quorum(mask()), 1); break;
+    case AT_is_write_quorum: gave(senna_is_write_quorum(mask()), 1); break;
+    case AT_nearest_read: d = lend_distances(); chose(senna_nearest_read(mask(), d->at, d->length)); break;
+    default: d = lend_distances(); chose(senna_nearest_write(mask(), d->at, d->length)); break;
+    }
+}
+
+static void call_check(void)
+{
+    unsigned at = below(SENNA_NODES);
+    lent *l;
+    switch (current) {
+    case AT_check_message: l = lend_message(); answered(senna_check_message(l->at, l->length)); break;
+    case AT_check_image: l = lend_read(images + at * SENNA_IMAGE, SENNA_IMAGE); answered(senna_check_image(l->at, l->length)); break;
+    case AT_check_record: l = lend_read(records + at * SENNA_RECORD, SENNA_RECORD); answered(senna_check_record(l->at, l->length)); break;
+    case AT_blank_image: l = lend(images, SENNA_IMAGE, NULL, 1); answered(senna_blank_image(l->at, l->length)); break;
+    default: l = lend(records, SENNA_RECORD, NULL, 1); answered(senna_blank_record(l->at, l->length)); break;
+    }
+}
+
+static void call_write(void)
+{
+    lent *l = lend_out();
+    uint8_t a = node(), b = node(), word = below(12) == 0 ? byte() : (uint8_t)below(2);
+    uint32_t s = serial(), t = serial();
+    senna_entries some = some_entries();
+    senna_serials rivals = some_rivals();
+    if (current == AT_write_outcome && word == SENNA_ABORT && below(4) != 0) {
+        some.count = 0;
+    }
+    if (current == AT_write_vote && word == SENNA_NO && below(4) != 0) {
+        memset(&rivals, 0, sizeof rivals);
+    }
+    switch (current) {
+    case AT_write_fetch: wrote(l, senna_write_fetch(l->at, l->length, a, b, s, t, object(), word)); break;
+    case AT_write_copy: wrote(l, senna_write_copy(l->at, l->length, a, b, s, t, an_entry())); break;
+    case AT_write_ask: wrote(l, senna_write_ask(l->at, l->length, a, b, s, t, some)); break;
+    case AT_write_vote: wrote(l, senna_write_vote(l->at, l->length, a, b, s, t, rivals, word)); break;
+    case AT_write_outcome: wrote(l, senna_write_outcome(l->at, l->length, a, b, s, t, some, word)); break;
+    case AT_write_done: wrote(l, senna_write_done(l->at, l->length, a, b, s, t)); break;
+    default: wrote(l, senna_write_yield(l->at, l->length, a, s, t, b, serial())); break;
+    }
+}
+
+/* A replica's image is not taken home: its messages are random, and the station's own deliveries keep the station going. */
+static void call_replica(void)
+{
+    lent *m = lend_message(), *image, *out;
+    uint8_t me = m->length > 2 && below(8) != 0 ? m->at[2] : node();
+    const uint8_t *right = images + (me < SENNA_NODES ? me : 0u) * SENNA_IMAGE;
+    senna_received r;
+    image = lend(right, SENNA_IMAGE, NULL, current == AT_replica_receive);
+    if (current == AT_replica_answers) {
+        gave(senna_replica_answers(image->at, image->length, me, m->at, m->length), 1);
+        return;
+    }
+    out = lend_out();
+    r = senna_replica_receive(image->at, image->length, me, m->at, m->length, out->at, out->length);
+    must(r.number != SENNA_OK || senna_check_image(image->at, image->length) == SENNA_OK, "an image stays one");
+    message_at(out, r.number, r.length);
+    answered(r.number);
+}
+
+/* A record of the station, with the number of its node, or of the two others. What does not belong together is not taken home. */
+static lent *lend_record(uint8_t *me)
+{
+    unsigned at = node() % SENNA_NODES, kind = below(32);
+    uint8_t *home = records + at * SENNA_RECORD;
+    *me = kind == 0 ? byte() : (uint8_t)at;
+    if (kind == 1 || kind == 2) {
+        return lend(kind == 1 ? eight_open : used_up, SENNA_RECORD, NULL, 1);
+    }
+    return lend(home, SENNA_RECORD, kind == 0 || (current == AT_coordinator_abort && below(8) != 0) ? NULL : home, 1);
+}
+
+static void call_coordinator(void)
+{
+    uint8_t me;
+    lent *r = lend_record(&me), *other;
+    senna_called c;
+    switch (current) {
+    case AT_coordinator_begin:
+        other = lend_distances();
+        c = senna_coordinator_begin(r->at, r->length, me, mask(), other->at, other->length, timestamp());
+        break;
+    case AT_coordinator_reselect:
+        other = lend_distances();
+        c = senna_coordinator_reselect(r->at, r->length, me, mask(), other->at, other->length);
+        break;
+    case AT_coordinator_open_read: c = senna_coordinator_open_read(r->at, r->length, me, object()); break;
+    case AT_coordinator_open_write: c = senna_coordinator_open_write(r->at, r->length, me, object()); break;
+    case AT_coordinator_set_value: c = senna_coordinator_set_value(r->at, r->length, me, object(), (int64_t)draw()); break;
+    case AT_coordinator_request_commit: c = senna_coordinator_request_commit(r->at, r->length, me); break;
+    case AT_coordinator_abort: c = senna_coordinator_abort(r->at, r->length, me); break;
+    default:
+        other = lend_message();
+        r->home = NULL; /* a message of an invented transaction would spoil the station's story */
+        c = senna_coordinator_receive(r->at, r->length, me, other->at, other->length);
+        must(c.answer <= SENNA_FINISHED, "what a delivery brings about");
+        break;
+    }
+    record_stays(r, c.number);
+    called(c);
+}
+
+/* Functions that leave a record as it is. */
+static void call_record(void)
+{
+    uint8_t me, i = below(8) == 0 ? byte() : (uint8_t)below(3);
+    lent *r = lend_record(&me), *out;
+    r->writable = 0;
+    switch (current) {
+    case AT_coordinator_found: valued(senna_coordinator_found(r->at, r->length, me, object())); break;
+    case AT_coordinator_due:
+        out = lend_out();
+        wrote(out, senna_coordinator_due(r->at, r->length, me, node(), object(), out->at, out->length));
+        break;
+    case AT_coordinator_phase: gave(senna_coordinator_phase(r->at, r->length), SENNA_FINISHING); break;
+    case AT_coordinator_serial: gave(senna_coordinator_serial(r->at, r->length), UINT32_MAX); break;
+    case AT_coordinator_timestamp: gave(senna_coordinator_timestamp(r->at, r->length), UINT32_MAX); break;
+    case AT_coordinator_outcome: gave(senna_coordinator_outcome(r->at, r->length), SENNA_ABORTED); break;
+    case AT_coordinator_participants: gave(senna_coordinator_participants(r->at, r->length), SENNA_ALL); break;
+    case AT_coordinator_count: gave(senna_coordinator_count(r->at, r->length), SENNA_ENTRIES); break;
+    case AT_coordinator_object: gave(senna_coordinator_object(r->at, r->length, i), SENNA_OBJECTS - 1); break;
+    case AT_coordinator_mode: gave(senna_coordinator_mode(r->at, r->length, i), SENNA_WRITE); break;
+    default: gave(senna_coordinator_is_ready(r->at, r->length, i), 1); break;
+    }
+}
+
+/* The host's calls at a station's node. */
+static void call_host(void)
+{
+    lent *r = lend_write(records, SENNA_RECORDS), *o = lend_read(own, SENNA_OWN), *d;
+    uint8_t at = node();
+    switch (current) {
+    case AT_station_begin:
+        d = lend_distances();
+        called(senna_station_begin(r->at, r->length, o->at, o->length, at, mask(), d->at, d->length, timestamp()));
+        break;
+    case AT_station_reselect:
+        d = lend_distances();
+        called(senna_station_reselect(r->at, r->length, o->at, o->length, at, mask(), d->at, d->length));
+        break;
+    case AT_station_open_read: called(senna_station_open_read(r->at, r->length, o->at, o->length, at, object())); break;
+    case AT_station_open_write: called(senna_station_open_write(r->at, r->length, o->at, o->length, at, object())); break;
+    case AT_station_set_value: called(senna_station_set_value(r->at, r->length, o->at, o->length, at, object(), (int64_t)draw())); break;
+    case AT_station_found:
+        r->writable = 0;
+        valued(senna_station_found(r->at, r->length, o->at, o->length, at, object()));
+        break;
+    case AT_station_request_commit: called(senna_station_request_commit(r->at, r->length, o->at, o->length, at)); break;
+    default:
+        r->home = below(8) == 0 ? r->home : NULL;
+        called(senna_station_abort(r->at, r->length, o->at, o->length, at));
+        break;
+    }
+}
+
+/* A send of something that is due, where a few tries find it. */
+static void call_send(void)
+{
+    lent *r = lend_read(records, SENNA_RECORDS), *p = lend_write(pool, SENNA_POOL), *o = lend_read(own, SENNA_OWN);
+    uint8_t from = node(), to = node(), it = object(), message[SENNA_MESSAGE_MAX];
+    unsigned tries;
+    for (tries = 0; clean && tries < 40; tries++) {
+        from = node(), to = node(), it = object();
+        if (from < SENNA_NODES
+            && senna_coordinator_due(records + from * SENNA_RECORD, SENNA_RECORD, from, to, it, message, sizeof message).length > 0) {
+            break;
+        }
+    }
+    called(senna_station_send(r->at, r->length, p->at, p->length, o->at, o->length, from, to, it));
+}
+
+/* A new station now and then. */
+static void call_blank(void)
+{
+    lent *i, *r, *p, *o;
+    clean = clean && below(64) == 0;
+    i = lend_write(images, SENNA_IMAGES);
+    r = lend_write(records, SENNA_RECORDS);
+    p = lend_write(pool, SENNA_POOL);
+    o = lend_write(own, SENNA_OWN);
+    answered(senna_station_blank(i->at, i->length, r->at, r->length, p->at, p->length, o->at, o->length, mask()));
+}
+
+static void call_station(void)
+{
+    size_t waiting = senna_station_waiting(pool, sizeof pool);
+    uint8_t k = waiting > 0 && below(16) != 0 ? (uint8_t)below((unsigned)waiting) : byte();
+    lent *i, *r, *p, *o;
+    senna_waiting w;
+    switch (current) {
+    case AT_station_send: call_send(); break;
+    case AT_station_deliver:
+        i = lend_write(images, SENNA_IMAGES), r = lend_write(records, SENNA_RECORDS);
+        p = lend_write(pool, SENNA_POOL), o = lend_read(own, SENNA_OWN);
+        delivered(senna_station_deliver(i->at, i->length, r->at, r->length, p->at, p->length, o->at, o->length, k, below(5) == 0 ? byte() : 0));
+        break;
+    case AT_station_drop: p = lend_write(pool, SENNA_POOL); called(senna_station_drop(p->at, p->length, k)); break;
+    case AT_station_switch: o = lend_write(own, SENNA_OWN); called(senna_station_switch(o->at, o->length, node(), below(8) != 0)); break;
+    case AT_station_waiting: p = lend_read(pool, SENNA_POOL); gave(senna_station_waiting(p->at, p->length), SENNA_WAITING); break;
+    default:
+        p = lend_read(pool, SENNA_POOL);
+        w = senna_station_message(p->at, p->length, k);
+        must(w.number == SENNA_OK || (w.place == 0 && w.length == 0), "a refusal has place and length 0");
+        must(w.length <= SENNA_MESSAGE_MAX && w.place + w.length <= SENNA_POOL, "a waiting message lies in the pool");
+        answered(w.number);
+        break;
+    }
+}
+
+static void one_call(void)
+{
+    /* Sends and deliveries more often, so that transactions get to their end. */
+    unsigned kind = below(100);
+    current = below(COUNT);
+    if (kind < 45) {
+        current = kind < 20 ? AT_station_send : AT_station_deliver;
+    }
+    clean = below(2) == 0;
+    if (current <= AT_nearest_write) {
+        call_quorum();
+    } else if (current <= AT_blank_record) {
+        call_check();
+    } else if (current <= AT_write_yield) {
+        call_write();
+    } else if (current <= AT_replica_answers) {
+        call_replica();
+    } else if (current == AT_coordinator_found || (current >= AT_coordinator_due && current <= AT_coordinator_is_ready)) {
+        call_record();
+    } else if (current <= AT_coordinator_receive) {
+        call_coordinator();
+    } else if (current == AT_station_blank) {
+        call_blank();
+    } else if (current <= AT_station_abort) {
+        call_host();
+    } else {
+        call_station();
+    }
+}
+
+/* A record with eight objects open, and one whose last serial is the last there is. */
+static void prepare_records(void)
+{
+    uint8_t distances[SENNA_DISTANCES] = {0}, i;
+    check(senna_coordinator_begin(eight_open, SENNA_RECORD, 3, SENNA_ALL, distances, sizeof distances, 1).number == SENNA_OK, "begin");
+    for (i = 0; i < SENNA_ENTRIES; i++) {
+        check(senna_coordinator_open_read(eight_open, SENNA_RECORD, 3, (uint8_t)(20 + i)).number == SENNA_OK, "open");
+    }
+    memset(used_up, 255, 4);
+    used_up[4] = 1; /* the last timestamp */
+    used_up[8] = SENNA_COMMITTED;
+    check(senna_check_record(used_up, SENNA_RECORD) == SENNA_OK, "a record at its last serial");
+}
+
+static void prepare(void)
+{
+    unsigned i;
+    prepare_records();
+    for (i = 0; i < LENDERS; i++) {
+        uint8_t *all = (uint8_t *)mmap(NULL, ROOM + 2 * PAGE, PROT_NONE, MAP_PRIVATE | MAP_ANONYMOUS, -1, 0);
+        if (all == (uint8_t *)MAP_FAILED || mprotect(all + PAGE, ROOM, PROT_READ | PROT_WRITE) != 0) {
+            printf("FAILED c: no pages\n");
+            exit(1);
+        }
+        lents[i].pages = all + PAGE;
+    }
+    for (i = 0; i < RECENT; i++) {
+        senna_written w = senna_write_done(recent[i], SENNA_MESSAGE_MAX, 1, 2, 3, 4);
+        recent_length[i] = w.length;
+    }
+    check(senna_station_blank(images, SENNA_IMAGES, records, SENNA_RECORDS, pool, SENNA_POOL, own, SENNA_OWN, SENNA_ALL) == SENNA_OK, "a station");
+}
+
+/* What is printed and counted after so many calls. */
+static void report(unsigned long calls)
+{
+    int enough = calls >= USUAL;
+    unsigned i;
+    for (i = 0; i < COUNT; i++) {
+        check(faults_of[i] == 0 && (!enough || accepted_of[i] > 0), names[i]);
+    }
+    for (i = 0; i <= SENNA_POOL_FULL; i++) {
+        printf("%lu %s%s", numbers_seen[i], senna_word((uint8_t)i), i < SENNA_POOL_FULL ? ", " : "\n");
+    }
+    for (i = 0; enough && i <= SENNA_POOL_FULL; i++) {
+        check(numbers_seen[i] > 0, senna_word((uint8_t)i));
+    }
+    for (i = 0; enough && i <= SENNA_FINISHED; i++) {
+        check(brought[i] > 0, "each thing that a delivery brings about");
+    }
+    printf("%lu calls of %d functions, %lu committed\n", calls, COUNT, brought[SENNA_COMMITTED]);
+}
+
+int main(int count, char **words)
+{
+    unsigned long calls = USUAL, done;
+    int i;
+    for (i = 1; i + 1 < count; i += 2) {
+        unsigned long given = strtoul(words[i + 1], NULL, 10);
+        if (strcmp(words[i], "--calls") == 0) {
+            calls = given;
+        } else if (strcmp(words[i], "--seed") == 0 && given > 0) {
+            state = given * SPREAD;
+        }
+    }
+    prepare();
+    for (done = 0; done < calls; done++) {
+        one_call();
+    }
+    report(calls);
+    return closing();
+}
