@@ -28,6 +28,7 @@ use Rattle.clauses.proofs.Facts.{Meets}
 use Rattle.clauses.proofs.Cases.{either-of}
 use Rattle.clauses.proofs.Quorums.{tree-quorums}
 use Rattle.clauses.proofs.Keep.{begin-keeps, open-keeps, set-keeps, reselect-keeps, request-keeps, abort-keeps}
+use Rattle.station.proofs.Hosted.{off-number}
 use Rattle.station.specs.Station.{Station, withRecord}
 use Rattle.station.specs.Step.{Call, begin, openRead, openWrite, setValue, found, reselect, requestCommit, abort, Outcome, refusedWith, taken, whenOff}
 use Rattle.station.specs.Step.{hosted}
@@ -51,15 +52,6 @@ pub taken-record : (rs : List Refusal) (answer : ℕ) (c c' : Coordinator) → C
 unfolding stepOf
 taken-record rs answer c c' k = ap (λ (z : ℕ). cond {A = Step} (eqb z 0) (record { number = 0; answer = answer; coordinator = c' })
     (record { number = z; answer = 0; coordinator = c }) .coordinator) (zero-first rs k)
-
--- a call at a node that is off has a number
-pub off-number : (number : ℕ) → whenOff number ≡ 0 → ⊥
-off-number number = by (eqb number 4) (eqb number 10) refl refl
-  where
-    by : (a b : Bool) → eqb number 4 ≡ a → eqb number 10 ≡ b → cond (a || b) number 5 ≡ 0 → ⊥
-    by true b p q e = let z = eqb-true number 4 p in let y : ⊥ = omega arith in y
-    by false true p q e = let z = eqb-true number 10 q in let y : ⊥ = omega arith in y
-    by false false p q e = let y : ⊥ = omega arith in y
 
 -- a host call by its cases: refused, or none of its refusals fits and the record is the one after it
 module _ (P : Outcome → Type 0) (st : Station) (n : ℕ) (rs : List Refusal) (answer : ℕ) (c' : Coordinator) (all : T (numbered rs))

@@ -47,7 +47,7 @@ use Rattle.history.proofs.Quorums.{quorums, rules, top, of-mask}
 use Rattle.history.proofs.Sim.{tx, Match}
 use Rattle.history.proofs.Books.{Decided, Past, More, World}
 use Rattle.history.proofs.Tests.{not-false}
-use Rattle.history.proofs.Calls.{off-number}
+use Rattle.station.proofs.Hosted.{off-number}
 use Rattle.history.proofs.Theorem.{Good, good-next, good-past, blank-good}
 use Rattle.history.proofs.Polls.{Counts, blank-counts, counts-next}
 use Rattle.history.proofs.Meaning.{note-told, ripe-told, says-ripens, ripens-says}

@@ -28,7 +28,7 @@ use Rattle.station.specs.Step.{Call, begin, openRead, openWrite, setValue, foun
 use Rattle.station.specs.Step.{Outcome, refusedWith, taken, putting, full, whenOff, sendNumber, sendOf, hosted, answered, atReplica, atCoordinator, arriving}
 use Rattle.station.specs.Step.{deliveryOf, dropOf, switchOf}
 use Rattle.history.proofs.Tests.{not-false}
-use Rattle.history.proofs.Calls.{off-number}
+use Rattle.station.proofs.Hosted.{off-number}
 
 -- ---- lists
 length-without : {A : Type 0} (k : ℕ) (l : List A) → k < length l → length (without k l) + 1 ≡ length l

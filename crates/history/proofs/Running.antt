@@ -44,7 +44,7 @@ use Rattle.history.specs.Running.{putIn, telling, keeping, keptFrom, dig
 use Rattle.history.proofs.Sim.{tx}
 use Rattle.history.proofs.Books.{Past, World}
 use Rattle.history.proofs.Tests.{not-false}
-use Rattle.history.proofs.Calls.{off-number}
+use Rattle.station.proofs.Hosted.{off-number}
 use Rattle.history.proofs.Theorem.{Good, good-next}
 use Rattle.history.proofs.Claimed.{is-logged-once, always-good}
 use Rattle.history.proofs.Ranks.{is-in, thin-among}

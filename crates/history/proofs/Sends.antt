@@ -29,6 +29,7 @@ use Rattle.due.specs.Due.{entryFor, entriesOf, fetchTo, askTo, outcomeTo, yield
 use Rattle.due.proofs.Entries.{Stands, open-place, every-entry, entries-only, entries-every}
 use Rattle.coordinator.specs.Calls.{noNode}
 use Rattle.coordinator.proofs.Refusals.{clear}
+use Rattle.station.proofs.Hosted.{off-number}
 use Rattle.station.specs.Station.{Station, withPool}
 use Rattle.station.specs.Step.{send, refusedWith, putting, full, whenOff, sendNumber, sendOf}
 use Rattle.protocol.specs.Table.{In}
@@ -46,7 +47,7 @@ use Rattle.history.proofs.Replies.{root-yes}
 use Rattle.history.proofs.Arrive.{in-append, in-place}
 use Rattle.replica.proofs.Delivered.{or-neither}
 use Rattle.history.proofs.Tests.{not-false}
-use Rattle.history.proofs.Calls.{Next, refused-next, off-number}
+use Rattle.history.proofs.Calls.{Next, refused-next}
 
 -- ---- the entries of a record are its contents
 module _ (c : Coordinator) (m : Meets tree c) where

@@ -16,7 +16,7 @@ passed true n rest h e = absurd (let z : ⊥ = omega arith in z)
 passed false n rest h e = (refl, e)
 
 -- the same of a number that refuses where it is not 0
-passed-number : (n rest : ℕ) → cond (not (eqb n 0)) n rest ≡ 0 → (n ≡ 0) × (rest ≡ 0)
+pub passed-number : (n rest : ℕ) → cond (not (eqb n 0)) n rest ≡ 0 → (n ≡ 0) × (rest ≡ 0)
 passed-number n rest e = by (eqb n 0) refl e
   where
     by : (b : Bool) → eqb n 0 ≡ b → cond (not b) n rest ≡ 0 → (n ≡ 0) × (rest ≡ 0)

@@ -38,7 +38,7 @@ use Rattle.record.specs.Record.{bytesOf}
 use Rattle.pool.specs.Pool.{count, waiting, messageAt}
 use Rattle.pool.specs.Pool.{check as checkPool}
 use Rattle.pool.specs.Change.{added, removed}
-use Rattle.pool.proofs.Numbers.{Room, fine, add-after}
+use Rattle.pool.proofs.Numbers.{passed-number, Room, fine, add-after}
 use Rattle.pool.proofs.Laws.{length-waiting, getD-waiting, waiting-added, check-added, waiting-removed, check-removed}
 use Rattle.station.specs.Station.{Station, putAt, withImage, withRecord, withPool, withOn, sent, without}
 use Rattle.station.specs.Step.{Call, begin, openRead, openWrite, setValue, found, reselect, requestCommit, abort, send, delivery, drop, switch}
@@ -53,7 +53,8 @@ use Rattle.station.specs.Buffers.{leaving}
 use Rattle.station.specs.Buffers.{deliveryPool, answeredBy, Whole}
 use Rattle.station.proofs.Hosted.{node-on, off-number}
 use Rattle.station.proofs.Waiting.{there-of, check-leaving}
-use Rattle.station.proofs.Delivering.{Brought, brought, by, at-is, refused-all, blocked-all, has-room, taken-all, said, Leaves, stopped-all, heard-all}
+use Rattle.station.proofs.Delivering.{none-said, all-said, not-said, Brought, brought, by, at-is, refused-all, blocked-all, has-room, taken-all, said}
+use Rattle.station.proofs.Delivering.{Leaves, stopped-all, heard-all}
 use Rattle.station.proofs.Delivering.{image-in}
 use Rattle.station.proofs.Arriving.{Waits, waits-of, receiver-node, Left, no-message, off, at-replica, at-coordinator}
 use Rattle.runs.specs.Order.{toldOf, hostLeft, leftOf}
@@ -78,29 +79,9 @@ left-waits : (P : List ℕ) (k : ℕ) (kept : Bool) → checkPool P ≡ 0 → k 
 left-waits P k true e h = refl
 left-waits P k false e h = waiting-removed P k (there-of P k e h)
 
--- a refusal of a number that is not 0 is passed
-passed : (n rest : ℕ) → cond (not (eqb n 0)) n rest ≡ 0 → (n ≡ 0) × (rest ≡ 0)
-passed n rest e = go (eqb n 0) refl e
-  where
-    go : (b : Bool) → eqb n 0 ≡ b → cond (not b) n rest ≡ 0 → (n ≡ 0) × (rest ≡ 0)
-    go true t e = (eqb-true n 0 t, e)
-    go false t e = absurd (eqb-false n 0 t e)
-
 mask-fine : (l : List ℕ) → length l ≡ 2 → onOf l ≤ 8191 → ownNumber l ≡ 0
 unfolding ownNumber
 mask-fine l e h = simp (eq-eqb (length l) 2 e, le-ltb 8191 (onOf l) h)
-
-no-answer : (b : Bool) → (b && false) ≡ true → ⊥
-no-answer true e = false-true e
-no-answer false e = false-true e
-
-an-answer : (b : Bool) → (b && true) ≡ true → b ≡ true
-an-answer true e = refl
-an-answer false e = e
-
-not-answer : (b : Bool) → (b && true) ≡ false → b ≡ false
-not-answer true e = e
-not-answer false e = refl
 
 module _ (I R P O : List ℕ) (w : Whole (all I R P O)) where
   abbrev B : Buffers
@@ -219,7 +200,7 @@ module _ (I R P O : List ℕ) (w : Whole (all I R P O)) where
 
         go : (a : Bool) → contains (onOf O) n ≡ a → (wellFormed message ≡ true) × (count P < 128)
         go true p =
-            let a = passed (firstOf (dueRefusals (recordIn R n) n to t)) rest (sym (simp p) ∙ e) in
+            let a = passed-number (firstOf (dueRefusals (recordIn R n) n to t)) rest (sym (simp p) ∙ e) in
             let b = past (not (eqb kind 0) && not (wellFormed message)) 2 _ (a .1) in
             let f = past (full st) 11 0 (b .1) in
             let l = ltb-true (length (waiting P)) 128 (not-false (ltb (length (waiting P)) 128) (f .0)) in
@@ -345,8 +326,8 @@ module _ (I R P O : List ℕ) (w : Whole (all I R P O)) where
               (is-by ∙ go (d .answer) refl)
             where
               go : (a : Answer) → d .answer ≡ a → by I R P O n k kept d ≡ refusedWith 12 st
-              go silent q = absurd (no-answer crowded (sym (ap (λ (a : Answer). crowded && spoken a) q) ∙ t))
-              go (says x) q = simp (eq-eqb (d .number) 0 y, q, crowded-is, an-answer crowded (sym (ap (λ (a : Answer). crowded && spoken a) q) ∙ t))
+              go silent q = absurd (none-said crowded (sym (ap (λ (a : Answer). crowded && spoken a) q) ∙ t))
+              go (says x) q = simp (eq-eqb (d .number) 0 y, q, crowded-is, all-said crowded (sym (ap (λ (a : Answer). crowded && spoken a) q) ∙ t))
 
           -- taken: the image, then the pool with the answer at its end
           taken-kept : Sane (made .station) → d .number ≡ 0 → Fine (d .answer) → (crowded && spoken (d .answer)) ≡ false → delivered
@@ -375,7 +356,7 @@ module _ (I R P O : List ℕ) (w : Whole (all I R P O)) where
                   (sym s)
                   (simp a (i .0, i .1 ∙ ap (λ (x : Station). withImage x n (d .image)) (left-kept .1)))
               go (says x) a =
-                  let c = not-answer crowded (sym (ap (λ (y : Answer). crowded && spoken y) a) ∙ t) in
+                  let c = not-said crowded (sym (ap (λ (y : Answer). crowded && spoken y) a) ∙ t) in
                   let g = length-bounds x (subst Fine a f) in
                   let g0 = g .0 in
                   let r = has-room I R P O n k kept (w .pool-fine) h c (length (encode x)) (g .1) in

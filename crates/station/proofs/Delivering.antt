@@ -33,15 +33,15 @@ use Rattle.station.specs.Buffers.{leaving, exchanged, putInto, blocked}
 use Rattle.station.proofs.Waiting.{there-of, check-leaving}
 
 -- ---- tests joined
-none-said : (b : Bool) → (b && false) ≡ true → ⊥
+pub none-said : (b : Bool) → (b && false) ≡ true → ⊥
 none-said true e = false-true e
 none-said false e = false-true e
 
-all-said : (b : Bool) → (b && true) ≡ true → b ≡ true
+pub all-said : (b : Bool) → (b && true) ≡ true → b ≡ true
 all-said true e = refl
 all-said false e = e
 
-not-said : (b : Bool) → (b && true) ≡ false → b ≡ false
+pub not-said : (b : Bool) → (b && true) ≡ false → b ≡ false
 not-said true e = e
 not-said false e = refl
 
