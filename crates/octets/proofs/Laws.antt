@@ -7,8 +7,8 @@ use mathlib.Core.Path.{_≡_, refl, sym, ap, _∙_}
 use mathlib.Core.Logic.{_⊎_, inl, inr, ⊎-elim}
 use mathlib.Core.List.{List, [], _∷_, _++_}
 use mathlib.Core.Bool.{Bool, true, false}
-use lib.Dec.{ltb}
-use borrow.Author.Tests.{ltb-true, ltb-false}
+use lib.Dec.{ltb, leb}
+use borrow.Author.Tests.{ltb-true, ltb-false, leb-true, leb-false}
 use lib.ListN.{length, getD, set, take, drop, length-set, List·getD-eq-default}
 use lib.Seq.{getD-set-same, getD-set-other, set-set, set-comm, set-getD, set-out, getD-append-add, getD-drop, sets, drop-cons}
 use Rattle.octets.specs.Octets.{get, put, le}
@@ -197,3 +197,48 @@ put-there (suc k) l i v =
     rw a (put-there k (set l i (v % 256)) (i + 1) (v / 256)))
     (λ h. put-out (min (suc k) (length l - i)) l i v h ∙ sym (put-out (suc k) l i v h))
     (lt-or-le i (length l))
+
+-- ---- a number in two halves
+-- two bytes of it, one by one
+pub get-two : (l : List ℕ) (i : ℕ) → get 2 l i ≡ getD l i 0 + 256 * getD l (i + 1) 0
+unfolding get
+get-two l i = omega arith
+
+pub get-four : (l : List ℕ) (i : ℕ) → get 4 l i ≡ get 2 l i + 65536 * get 2 l (i + 2)
+unfolding get
+get-four l i = rw (let e : i + 1 + 1 ≡ i + 2 = omega arith in e) (omega arith)
+
+pub get-eight : (l : List ℕ) (i : ℕ) → get 8 l i ≡ get 4 l i + 4294967296 * get 4 l (i + 4)
+unfolding get
+get-eight l i = rw (let e : i + 1 + 1 + 1 + 1 ≡ i + 4 = omega arith in e) (omega arith)
+
+pub put-four : (l : List ℕ) (i v : ℕ) → put 4 l i v ≡ put 2 (put 2 l i v) (i + 2) (v / 65536)
+unfolding put
+put-four l i v =
+    rw (let e : i + 1 + 1 ≡ i + 2 = omega arith in e, let e : v / 256 / 256 ≡ v / 65536 = omega arith in e) refl
+
+pub put-eight : (l : List ℕ) (i v : ℕ) → put 8 l i v ≡ put 4 (put 4 l i v) (i + 4) (v / 4294967296)
+unfolding put
+put-eight l i v =
+    rw (let e : i + 1 + 1 + 1 + 1 ≡ i + 4 = omega arith in e, let e : v / 256 / 256 / 256 / 256 ≡ v / 4294967296 = omega arith in e) refl
+
+-- ---- whether k bytes from i on are there, as the code tests it
+-- two tests that say the same of the numbers
+tests-same : (a b c d : ℕ) → (a ≤ b → c ≤ d) → (c ≤ d → a ≤ b) → leb a b ≡ leb c d
+tests-same a b c d f g = go (leb a b) (leb c d) refl refl
+  where
+    go : (x y : Bool) → leb a b ≡ x → leb c d ≡ y → x ≡ y
+    go true true p q = refl
+    go false false p q = refl
+    go true false p q = let h = f (leb-true a b p) in absurd (let z = leb-false c d q in omega arith)
+    go false true p q = let h = g (leb-true c d q) in absurd (let z = leb-false a b p in omega arith)
+
+pub leb-shift : (n i k : ℕ) → k ≤ n → leb i (n - k) ≡ leb (i + k) n
+leb-shift n i k h = tests-same i (n - k) (i + k) n (λ p. omega arith) (λ p. omega arith)
+
+pub leb-short : (n i k : ℕ) → n < k → false ≡ leb (i + k) n
+leb-short n i k h = go (leb (i + k) n) refl
+  where
+    go : (x : Bool) → leb (i + k) n ≡ x → false ≡ x
+    go true p = absurd (let z = leb-true (i + k) n p in omega arith)
+    go false p = refl

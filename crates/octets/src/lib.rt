@@ -1,8 +1,9 @@
 // Little-endian numbers in lent bytes, and the signed number that 64 bits are.
 // Bytes past the end are not there: they read as 0, and writing them does nothing.
 ghost use mathlib.Core.Path.{_≡_};
-ghost use Prim.Native.Nat.{_-_, _≤_, _<_, _^_, min};
-ghost use lib.ListN.{getD, set};
+ghost use Prim.Native.Nat.{_+_, _-_, _≤_, _<_, _^_, min};
+ghost use lib.Dec.{leb};
+ghost use lib.ListN.{length, getD, set};
 ghost use Rattle.octets.specs.Octets.{get, put};
 ghost use Rattle.octets.specs.Signed.{signedOf, bitsOf};
 
@@ -49,6 +50,62 @@ fn put_bytes(s: &mut [u8], at: usize, k: usize, v: u64)
     }
 }
 
+// Whether k bytes from `at` on are all there.
+fn within(len: usize, at: usize, k: usize) -> bool
+    ensures { λ r. ⌜ r ≡ leb (at + k) len ⌝ }
+{
+    if k <= len { at <= len - k } else { false }
+}
+
+// Two, four and eight bytes that are there, read without a loop: a compiler makes one load of them.
+fn two(s: &[u8], at: usize) -> u64
+    requires { ⌜ at + 2 ≤ length (now s) ⌝ }
+    ensures { λ r. ⌜ (r ≡ get 2 (now (s .entry)) at) × (r < 65536) ⌝ }
+{
+    let next = at + 1;
+    s[at] as u64 + 256 * (s[next] as u64)
+}
+
+fn four(s: &[u8], at: usize) -> u64
+    requires { ⌜ at + 4 ≤ length (now s) ⌝ }
+    ensures { λ r. ⌜ (r ≡ get 4 (now (s .entry)) at) × (r < 4294967296) ⌝ }
+{
+    two(s, at) + 65536 * two(s, at + 2)
+}
+
+fn eight(s: &[u8], at: usize) -> u64
+    requires { ⌜ at + 8 ≤ length (now s) ⌝ }
+    ensures { λ r. ⌜ r ≡ get 8 (now (s .entry)) at ⌝ }
+{
+    four(s, at) + 4294967296 * four(s, at + 4)
+}
+
+// The same written.
+fn put_two(s: &mut [u8], at: usize, v: u64)
+    requires { ⌜ at + 2 ≤ length (now s) ⌝ }
+    ensures { λ r. ⌜ now (s .exit) ≡ put 2 (now (s .entry)) at v ⌝ }
+{
+    let next = at + 1;
+    s[at] = (v % 256) as u8;
+    s[next] = (v / 256 % 256) as u8;
+}
+
+fn put_four(s: &mut [u8], at: usize, v: u64)
+    requires { ⌜ at + 4 ≤ length (now s) ⌝ }
+    ensures { λ r. ⌜ now (s .exit) ≡ put 4 (now (s .entry)) at v ⌝ }
+{
+    put_two(s, at, v);
+    put_two(s, at + 2, v / 65536);
+}
+
+fn put_eight(s: &mut [u8], at: usize, v: u64)
+    requires { ⌜ at + 8 ≤ length (now s) ⌝ }
+    ensures { λ r. ⌜ now (s .exit) ≡ put 8 (now (s .entry)) at v ⌝ }
+{
+    put_four(s, at, v);
+    put_four(s, at + 4, v / 4294967296);
+}
+
 // Each reader at a width rules out, among others: the bytes read high end first; a byte of the neighbouring number.
 pub fn get_u8(s: &[u8], at: usize) -> u8
     ensures { λ r. ⌜ r ≡ getD (now (s .entry)) at 0 ⌝ }
@@ -59,18 +116,27 @@ pub fn get_u8(s: &[u8], at: usize) -> u8
 pub fn get_u16(s: &[u8], at: usize) -> u16
     ensures { λ r. ⌜ r ≡ get 2 (now (s .entry)) at ⌝ }
 {
+    if within(s.len(), at, 2) {
+        return two(s, at) as u16;
+    }
     get_bytes(s, at, 2) as u16
 }
 
 pub fn get_u32(s: &[u8], at: usize) -> u32
     ensures { λ r. ⌜ r ≡ get 4 (now (s .entry)) at ⌝ }
 {
+    if within(s.len(), at, 4) {
+        return four(s, at) as u32;
+    }
     get_bytes(s, at, 4) as u32
 }
 
 pub fn get_u64(s: &[u8], at: usize) -> u64
     ensures { λ r. ⌜ r ≡ get 8 (now (s .entry)) at ⌝ }
 {
+    if within(s.len(), at, 8) {
+        return eight(s, at);
+    }
     get_bytes(s, at, 8)
 }
 
@@ -86,19 +152,31 @@ pub fn put_u8(s: &mut [u8], at: usize, v: u8)
 pub fn put_u16(s: &mut [u8], at: usize, v: u16)
     ensures { λ r. ⌜ now (s .exit) ≡ put 2 (now (s .entry)) at v ⌝ }
 {
-    put_bytes(s, at, 2, v as u64);
+    if within(s.len(), at, 2) {
+        put_two(s, at, v as u64);
+    } else {
+        put_bytes(s, at, 2, v as u64);
+    }
 }
 
 pub fn put_u32(s: &mut [u8], at: usize, v: u32)
     ensures { λ r. ⌜ now (s .exit) ≡ put 4 (now (s .entry)) at v ⌝ }
 {
-    put_bytes(s, at, 4, v as u64);
+    if within(s.len(), at, 4) {
+        put_four(s, at, v as u64);
+    } else {
+        put_bytes(s, at, 4, v as u64);
+    }
 }
 
 pub fn put_u64(s: &mut [u8], at: usize, v: u64)
     ensures { λ r. ⌜ now (s .exit) ≡ put 8 (now (s .entry)) at v ⌝ }
 {
-    put_bytes(s, at, 8, v);
+    if within(s.len(), at, 8) {
+        put_eight(s, at, v);
+    } else {
+        put_bytes(s, at, 8, v);
+    }
 }
 
 // The signed number that 64 bits are in two's complement. Ruled out: the bits with the sign bit cut off; one less than the number.
