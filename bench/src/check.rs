@@ -1,0 +1,276 @@
+//! The baseline against the compiled library: number, answer and every byte of the buffers, after each of many random calls.
+
+mod crafted;
+
+use crate::fast::Fast;
+use crate::library::{Entries, Entry, Library, Serials, Transaction, ALL, IMAGE, RECORD, SLOT};
+use crate::product::Product;
+use crate::random::Random;
+use crate::station::{Station, Step};
+use crate::walk;
+use std::fmt;
+
+/// What was compared.
+#[derive(Default)]
+pub struct Counts {
+    pub steps: usize,
+    pub accepted: usize,
+    pub damaged: usize,
+    pub lengths: usize,
+    pub calls: usize,
+    pub committed: usize,
+    /// How often each number was answered.
+    pub numbers: [usize; 13],
+}
+
+impl fmt::Display for Counts {
+    fn fmt(&self, to: &mut fmt::Formatter) -> fmt::Result {
+        let Counts { steps, accepted, damaged, lengths, calls, committed, numbers } = self;
+        write!(
+            to,
+            "{steps} steps ({accepted} accepted, {committed} commits, {damaged} on damaged bytes, {lengths} with another length), "
+        )?;
+        write!(to, "{calls} calls by themselves; the steps' numbers 0 to 12: {numbers:?}")
+    }
+}
+
+type Verdict = Result<(), String>;
+
+fn same<T: PartialEq + std::fmt::Debug>(what: impl std::fmt::Debug, product: T, rust: T) -> Verdict {
+    if product == rust {
+        Ok(())
+    } else {
+        Err(format!("{what:?}: the library {product:?}, the baseline {rust:?}"))
+    }
+}
+
+/// One step at both stations.
+fn step(product: &mut Station, rust: &mut Station, step: &Step, counts: &mut Counts) -> Verdict {
+    let (one, other) = (product.take::<Product>(step), rust.take::<Fast>(step));
+    same(step, one, other)?;
+    counts.steps += 1;
+    counts.accepted += usize::from(one.number == 0);
+    counts.committed += usize::from(matches!(step, Step::Deliver { .. }) && one.answer == 1);
+    counts.numbers[usize::from(one.number)] += 1;
+    if product != rust {
+        return Err(format!("{step:?}: the buffers differ"));
+    }
+    Ok(())
+}
+
+/// A byte that a step looks at, in some buffer, is replaced; or a serial or a version becomes the last number.
+fn damage(random: &mut Random, station: &mut Station, step: &Step) {
+    let byte = if random.once_in(2) { random.byte() } else { random.byte() & 15 };
+    let mut node = random.below(13);
+    let mut slot = random.below(128);
+    match *step {
+        Step::Deliver { k, .. } => {
+            slot = usize::from(k).min(127);
+            node = usize::from(station.pool[1 + SLOT * slot + 3]).min(12);
+        }
+        Step::Begin { node: n, .. } | Step::OpenRead { node: n, .. } | Step::OpenWrite { node: n, .. } => node = usize::from(n).min(12),
+        Step::Send { node: n, .. } | Step::SetValue { node: n, .. } | Step::RequestCommit { node: n } => node = usize::from(n).min(12),
+        _ => {}
+    }
+    match random.below(16) {
+        0 => station.own[random.below(2)] = random.byte(),
+        1 => station.pool[0] = random.byte(),
+        2..=5 => station.pool[1 + SLOT * slot + random.below(40)] = byte,
+        6..=9 => station.images[IMAGE * node + random.below(IMAGE)] = byte,
+        10 => station.images[IMAGE * node + 1090 + random.below(117)] = byte,
+        11 => {
+            let place = RECORD * node + [0, 47, 72, 97][random.below(4)];
+            station.records[place..place + 4].fill(255);
+        }
+        _ => station.records[RECORD * node + random.below(RECORD)] = byte,
+    }
+}
+
+/// A step over damaged bytes, or with a buffer of another length. Both stations are then as before.
+fn troubled(random: &mut Random, product: &mut Station, rust: &mut Station, counts: &mut Counts) -> Verdict {
+    let saved = rust.clone();
+    let chosen = walk::next(random, rust, 8);
+    if random.once_in(4) {
+        let longer = random.once_in(2);
+        let which = random.below(4);
+        for station in [&mut *product, &mut *rust] {
+            let buffer = [&mut station.images, &mut station.records, &mut station.pool, &mut station.own].into_iter().nth(which);
+            let buffer = buffer.expect("one of four");
+            buffer.resize(if longer { buffer.len() + 1 } else { buffer.len() - 1 }, 0);
+        }
+        counts.lengths += 1;
+    } else {
+        for _ in 0..=random.below(2) {
+            damage(random, rust, &chosen);
+        }
+        product.clone_from(rust);
+        counts.damaged += 1;
+    }
+    let verdict = step(product, rust, &chosen, counts);
+    product.clone_from(&saved);
+    rust.clone_from(&saved);
+    verdict
+}
+
+/// A call on both, each on bytes of its own; then the bytes are compared too.
+macro_rules! both {
+    ($bytes:ident, $counts:ident, $name:ident($($argument:expr),*)) => {{
+        let (mut one, mut other) = ($bytes.clone(), $bytes.clone());
+        same(stringify!($name), Product::$name(&mut one, $($argument),*), Fast::$name(&mut other, $($argument),*))?;
+        same(concat!(stringify!($name), ": bytes"), one, other)?;
+        $counts.calls += 1;
+    }};
+}
+
+/// Some bytes of a length, sometimes cut, longer or with a byte replaced.
+fn bent(random: &mut Random, bytes: &[u8]) -> Vec<u8> {
+    let mut bytes = bytes.to_vec();
+    match random.below(8) {
+        0 => drop(bytes.pop()),
+        1 => bytes.push(random.byte()),
+        2 | 3 if !bytes.is_empty() => {
+            let place = random.below(bytes.len());
+            bytes[place] = random.byte() >> random.below(8);
+        }
+        _ => {}
+    }
+    bytes
+}
+
+/// The calls on a record by itself.
+fn record_calls(random: &mut Random, station: &Station, counts: &mut Counts) -> Verdict {
+    let node = random.below(13);
+    let me = if random.once_in(8) { random.below(15) as u8 } else { node as u8 };
+    let record = bent(random, station.record(node));
+    let (object, live) = (random.below(70) as u8, if random.once_in(2) { ALL } else { random.word() >> random.below(5) });
+    let size = random.mostly(26, 25);
+    let distances = random.bytes(size);
+    let (timestamp, value) = (random.next() as u32 >> random.below(32), random.next() as i64);
+    both!(record, counts, begin(me, live, &distances, timestamp));
+    both!(record, counts, reselect(me, live, &distances));
+    for object in [object, object & 7] {
+        both!(record, counts, open_read(me, object));
+        both!(record, counts, open_write(me, object));
+        both!(record, counts, set_value(me, object, value));
+        both!(record, counts, found(me, object));
+    }
+    both!(record, counts, request_commit(me));
+    both!(record, counts, abort(me));
+    both!(record, counts, blank_record());
+    same("check_record", Product::check_record(&record), Fast::check_record(&record))?;
+    let out = vec![7; random.mostly(130, 127)];
+    let to = random.below(15) as u8;
+    let (mut one, mut other) = (out.clone(), out);
+    same("due", Product::due(&record, me, to, object & 7, &mut one), Fast::due(&record, me, to, object & 7, &mut other))?;
+    same("due: bytes", one, other)
+}
+
+/// A waiting message at a replica and at a coordinator by themselves, and its check.
+fn deliveries(random: &mut Random, station: &Station, counts: &mut Counts) -> Verdict {
+    if station.waiting() == 0 {
+        return Ok(());
+    }
+    let k = random.below(station.waiting());
+    let message = bent(random, station.message(k));
+    same("check_message", Product::check_message(&message), Fast::check_message(&message))?;
+    let node = usize::from(message[2].min(12));
+    let me = if random.once_in(8) { random.below(15) as u8 } else { node as u8 };
+    let (image, record) = (bent(random, station.image(node)), bent(random, station.record(node)));
+    both!(record, counts, receive(me, &message));
+    same("check_image", Product::check_image(&image), Fast::check_image(&image))?;
+    same("answers", Product::replica_answers(&image, me, &message), Fast::replica_answers(&image, me, &message))?;
+    let size = random.mostly(130, 127);
+    let (mut one, mut other, mut answer, mut answer2) = (image.clone(), image.clone(), vec![9; size], vec![9; size]);
+    let received = Product::replica_receive(&mut one, me, &message, &mut answer);
+    same("replica_receive", received, Fast::replica_receive(&mut other, me, &message, &mut answer2))?;
+    same("replica_receive: image", one, other)?;
+    same("replica_receive: answer", answer, answer2)?;
+    both!(image, counts, blank_image());
+    Ok(())
+}
+
+/// Every writer, with numbers that are mostly in order.
+fn writers(random: &mut Random, counts: &mut Counts) -> Verdict {
+    let node = |random: &mut Random| random.below_mostly(13, 15) as u8;
+    let number = |random: &mut Random| random.next() as u32 >> random.below(32);
+    let (other, rival) = (node(random), node(random));
+    let of = Transaction { owner: node(random), serial: number(random), stamp: number(random) };
+    let mut object = random.below(10) as u8;
+    let mut entry = |random: &mut Random| {
+        object += random.below(10) as u8;
+        let (mode, version) = (random.below_mostly(2, 3) as u8, number(random));
+        let value = if mode == 0 && !random.once_in(8) { 0 } else { random.next() as i64 };
+        Entry { object, mode, version: if random.once_in(20) { u32::MAX } else { version }, value }
+    };
+    let entries = Entries { entry: std::array::from_fn(|_| entry(random)), count: random.below(10) as u8 };
+    let sparse = random.below(3) as u32;
+    let serials = Serials { serial: std::array::from_fn(|_| if random.below(4) < sparse as usize { number(random) } else { 0 }) };
+    let word = random.below_mostly(2, 3) as u8;
+    let out = vec![5; random.mostly(129, 127)];
+    both!(out, counts, write_fetch(other, of, entries.entry[0].object, entries.entry[0].mode));
+    both!(out, counts, write_copy(other, of, entries.entry[0]));
+    both!(out, counts, write_ask(other, of, &entries));
+    both!(out, counts, write_vote(other, of, &serials, word));
+    both!(out, counts, write_outcome(other, of, &entries, word));
+    both!(out, counts, write_outcome(other, of, &Entries { count: 0, ..entries }, word));
+    both!(out, counts, write_done(other, of));
+    both!(out, counts, write_yield(of, rival, of.stamp));
+    Ok(())
+}
+
+/// The quorum functions, on every mask and on random distances.
+fn quorums(random: &mut Random, counts: &mut Counts) -> Verdict {
+    for mask in 0..=u16::MAX {
+        same(mask, Product::is_read_quorum(mask), Fast::is_read_quorum(mask))?;
+        same(mask, Product::is_write_quorum(mask), Fast::is_write_quorum(mask))?;
+        let distances: Vec<u8> = match mask % 4 {
+            0 => random.bytes(26),
+            1 => random.bytes(26).iter().enumerate().map(|(i, byte)| if i % 2 == 0 { byte & 3 } else { 0 }).collect(),
+            2 => vec![1; 26],
+            _ => {
+                let size = random.mostly(26, 27);
+                random.bytes(size)
+            }
+        };
+        same(mask, Product::nearest_read(mask, &distances), Fast::nearest_read(mask, &distances))?;
+        same(mask, Product::nearest_write(mask, &distances), Fast::nearest_write(mask, &distances))?;
+        counts.calls += 4;
+    }
+    Ok(())
+}
+
+/// Some steps from a blank station, with the calls by themselves now and then.
+fn run(random: &mut Random, steps: usize, counts: &mut Counts) -> Verdict {
+    let on = if random.once_in(2) { ALL } else { random.word() & ALL | 1 };
+    let (mut product, mut rust) = (Station::blank::<Product>(on), Station::blank::<Fast>(on));
+    let eager = [8, 8, 2, 0][random.below(4)];
+    for _ in 0..steps {
+        if random.once_in(6) {
+            troubled(random, &mut product, &mut rust, counts)?;
+            continue;
+        }
+        let chosen = walk::next(random, &rust, eager);
+        step(&mut product, &mut rust, &chosen, counts)?;
+        if random.once_in(4) {
+            deliveries(random, &rust, counts)?;
+            crafted::at_coordinator(random, &rust, counts)?;
+            crafted::at_replica(random, &rust, counts)?;
+        }
+        if random.once_in(16) {
+            record_calls(random, &rust, counts)?;
+            writers(random, counts)?;
+        }
+    }
+    Ok(())
+}
+
+/// All comparisons; what was compared, or the first difference.
+pub fn all(seed: u64, steps: usize) -> Result<Counts, String> {
+    let mut random = Random::new(seed, "check");
+    let mut counts = Counts::default();
+    quorums(&mut random, &mut counts)?;
+    while counts.steps < steps {
+        run(&mut random, 5_000, &mut counts)?;
+    }
+    Ok(counts)
+}

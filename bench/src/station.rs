@@ -1,0 +1,94 @@
+//! A station's four buffers, and its steps as data, so that one list of steps can be taken with either library.
+
+use crate::library::{Lent, Library, Told, DISTANCES, IMAGE, IMAGES, OWN, POOL, RECORD, RECORDS, SLOT};
+
+#[derive(Clone, PartialEq, Eq)]
+pub struct Station {
+    pub images: Vec<u8>,
+    pub records: Vec<u8>,
+    pub pool: Vec<u8>,
+    pub own: Vec<u8>,
+}
+
+/// A step of the station.
+#[derive(Clone, Copy, Debug)]
+pub enum Step {
+    Begin { node: u8, live: u16, distances: [u8; DISTANCES], timestamp: u32 },
+    Reselect { node: u8, live: u16, distances: [u8; DISTANCES] },
+    OpenRead { node: u8, object: u8 },
+    OpenWrite { node: u8, object: u8 },
+    SetValue { node: u8, object: u8, value: i64 },
+    Found { node: u8, object: u8 },
+    RequestCommit { node: u8 },
+    Abort { node: u8 },
+    Send { node: u8, to: u8, object: u8 },
+    Deliver { k: u8, kept: u8 },
+    Drop { k: u8 },
+    Switch { node: u8, up: u8 },
+}
+
+impl Station {
+    /// A blank station whose nodes of a mask are on.
+    pub fn blank<L: Library>(on: u16) -> Station {
+        let mut station = Station { images: vec![0; IMAGES], records: vec![0; RECORDS], pool: vec![0; POOL], own: vec![0; OWN] };
+        assert_eq!(L::station_blank(station.lent(), on), 0, "a blank station");
+        station
+    }
+
+    #[inline(always)]
+    pub fn lent(&mut self) -> Lent<'_> {
+        Lent { images: &mut self.images, records: &mut self.records, pool: &mut self.pool, own: &mut self.own }
+    }
+
+    pub fn record(&self, node: usize) -> &[u8] {
+        &self.records[RECORD * node..RECORD * (node + 1)]
+    }
+
+    pub fn image(&self, node: usize) -> &[u8] {
+        &self.images[IMAGE * node..IMAGE * (node + 1)]
+    }
+
+    pub fn waiting(&self) -> usize {
+        usize::from(self.pool[0])
+    }
+
+    /// The k-th waiting message.
+    pub fn message(&self, k: usize) -> &[u8] {
+        let start = 1 + SLOT * k;
+        &self.pool[start + 1..start + 1 + usize::from(self.pool[start])]
+    }
+
+    /// Puts some bytes at the pool's end.
+    pub fn put(&mut self, message: &[u8]) {
+        let start = 1 + SLOT * self.waiting();
+        self.pool[start] = message.len() as u8;
+        self.pool[start + 1..start + 1 + message.len()].copy_from_slice(message);
+        self.pool[0] += 1;
+    }
+
+    /// One step with a library.
+    pub fn take<L: Library>(&mut self, step: &Step) -> Told {
+        let (records, own) = (&mut self.records[..], &self.own[..]);
+        match *step {
+            Step::Begin { node, live, ref distances, timestamp } => L::station_begin(records, own, node, live, distances, timestamp),
+            Step::Reselect { node, live, ref distances } => L::station_reselect(records, own, node, live, distances),
+            Step::OpenRead { node, object } => L::station_open_read(records, own, node, object),
+            Step::OpenWrite { node, object } => L::station_open_write(records, own, node, object),
+            Step::SetValue { node, object, value } => L::station_set_value(records, own, node, object, value),
+            Step::Found { node, object } => L::station_found(records, own, node, object),
+            Step::RequestCommit { node } => L::station_request_commit(records, own, node),
+            Step::Abort { node } => L::station_abort(records, own, node),
+            Step::Send { node, to, object } => L::station_send(records, &mut self.pool, own, node, to, object),
+            Step::Deliver { k, kept } => L::station_deliver(self.lent(), k, kept),
+            Step::Drop { k } => L::station_drop(&mut self.pool, k),
+            Step::Switch { node, up } => L::station_switch(&mut self.own, node, up),
+        }
+    }
+
+    /// One step that must be accepted; its answer.
+    pub fn must<L: Library>(&mut self, step: Step) -> u64 {
+        let told = self.take::<L>(&step);
+        assert_eq!(told.number, 0, "{step:?}");
+        told.answer
+    }
+}
