@@ -79,7 +79,7 @@ static inline const char *senna_word(uint8_t number)
     case SENNA_GARBLED: return "garbled";
     case SENNA_STRANGER: return "stranger";
     case SENNA_OUT_OF_TURN: return "out of turn";
-    case SENNA_NO_SUCH_OBJECT: return "no such object";
+    case SENNA_NO_SUCH_OBJECT: return "no such tally";
     case SENNA_EIGHT_OPEN: return "eight open";
     case SENNA_NO_QUORUM: return "no quorum";
     case SENNA_USED_UP: return "number used up";
@@ -479,7 +479,7 @@ senna_called senna_coordinator_receive(uint8_t *record, size_t length, uint8_t m
  * size    the bytes at out, at least SENNA_MESSAGE_MAX
  *
  * Numbers: SENNA_LENGTH (of either), SENNA_DAMAGED, SENNA_STRANGER (me or node above 12), SENNA_NO_SUCH_OBJECT (while SENNA_OPEN: above
- * 63, or not opened).
+ * 63, or not opened), SENNA_GARBLED (a record that no run from blank has: its message would not be well formed).
  */
 senna_written senna_coordinator_due(const uint8_t *record, size_t length, uint8_t me, uint8_t node, uint8_t object, uint8_t *out,
                                     size_t size);

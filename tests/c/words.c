@@ -3,7 +3,7 @@
  */
 #include "check.h"
 
-static const char *const words[] = {"ok",         "length",    "damaged",        "garbled", "stranger",  "out of turn", "no such object",
+static const char *const words[] = {"ok",         "length",    "damaged",        "garbled", "stranger",  "out of turn", "no such tally",
                                     "eight open", "no quorum", "number used up", "busy",    "not ready", "pool full"};
 
 int main(void)

@@ -7,3 +7,4 @@ pub mod program;
 pub mod quorum;
 pub mod replica;
 pub mod station;
+pub mod station_program;

@@ -12,6 +12,7 @@ pub mod program;
 pub mod quorum;
 pub mod record;
 pub mod replica;
+pub mod script;
 pub mod station;
 
 /// Objects (document 01: tallies) are 0 to 63.

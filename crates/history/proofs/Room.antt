@@ -31,7 +31,7 @@ use Rattle.history.proofs.Tests.{not-false}
 use Rattle.station.proofs.Hosted.{off-number}
 
 -- ---- lists
-length-without : {A : Type 0} (k : ℕ) (l : List A) → k < length l → length (without k l) + 1 ≡ length l
+pub length-without : {A : Type 0} (k : ℕ) (l : List A) → k < length l → length (without k l) + 1 ≡ length l
 length-without k l h =
     let a = length-append (take k l) (lib.ListN.drop (k + 1) l) in
     let b = length-take-le k l (omega (arith, h)) in

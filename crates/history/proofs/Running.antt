@@ -358,7 +358,7 @@ module _ (up : ℕ) where
       r .last-value-as t ∙ ap (λ (l : List Tx). replay 0 (turn L) l t)
       (sym (thin-among (Passed (L .serials) (L .committed)) (L .committed) (λ y z. z .1) (L .log) (r .given) (r .thin)))
 
-  always-reads : (l : List ℕ) → length l ≡ size → (cs : List Call) → AllTyped cs
+  pub always-reads : (l : List ℕ) → length l ≡ size → (cs : List Call) → AllTyped cs
       → Reads (sheet l (trace (blankStation up) cs)) (digest (trace (blankStation up) cs))
   unfolding ledger keptFrom
   always-reads l e [] a = blank-law l e

@@ -1,6 +1,6 @@
 //! The quorum program: its whole output, byte by byte, against the model's for texts with good, damaged and very long lines.
 
-mod child;
+pub mod child;
 mod texts;
 
 use crate::model::program as model;

@@ -3,8 +3,8 @@
 mod bad;
 mod compiled;
 pub mod ends;
-mod scenario;
-mod seen;
+pub mod scenario;
+pub mod seen;
 mod stories;
 mod tampering;
 

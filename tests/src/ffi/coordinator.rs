@@ -7,7 +7,15 @@ use crate::model::message::READ;
 extern "C" {
     fn senna_check_record(record: *const u8, length: usize) -> u8;
     fn senna_blank_record(record: *mut u8, length: usize) -> u8;
-    fn senna_coordinator_begin(record: *mut u8, length: usize, me: u8, live: u16, distances: *const u8, size: usize, timestamp: u32) -> SennaCalled;
+    fn senna_coordinator_begin(
+        record: *mut u8,
+        length: usize,
+        me: u8,
+        live: u16,
+        distances: *const u8,
+        size: usize,
+        timestamp: u32,
+    ) -> SennaCalled;
     fn senna_coordinator_open_read(record: *mut u8, length: usize, me: u8, object: u8) -> SennaCalled;
     fn senna_coordinator_open_write(record: *mut u8, length: usize, me: u8, object: u8) -> SennaCalled;
     fn senna_coordinator_set_value(record: *mut u8, length: usize, me: u8, object: u8, value: i64) -> SennaCalled;

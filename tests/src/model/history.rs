@@ -248,6 +248,11 @@ impl History {
         replayed
     }
 
+    /// The last values of the one-by-one running of the committed transactions.
+    pub fn last_values(&self) -> [i64; OBJECTS] {
+        self.replay(Order::Log).last
+    }
+
     /// Demand 3 of the run so far: (0), (a), and (c) where it is settled. (b) and the rest were checked at each event.
     pub fn check(&self, station: &Station, order: Order) -> Result<(), String> {
         let replayed = self.replay(order);

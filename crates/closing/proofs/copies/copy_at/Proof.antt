@@ -1,0 +1,82 @@
+-- `closing::copies::copy_at`: the fields of the node's part.
+use mathlib.Core.Path.{_≡_, _∙_, ap, ap₂}
+use mathlib.Core.List.{List}
+use Prim.Native.Nat.{ℕ, _+_, _-_, _*_}
+use native.Mathlib.Omega.{arith}
+use denote.Ref.{now}
+use lib.ListN.{take, drop}
+use Rattle.parts.specs.Parts.{part}
+use Rattle.image.specs.Layout.{version, value}
+use Rattle.station.specs.Buffers.{imageAt}
+use Rattle.closing.specs.declared.Best.{Best}
+use Rattle.closing.specs.Copies.{copyAt}
+use borrow.Author.Needs.{needs}
+use Rattle.closing.proofs.copies.copy_at.Statement.{statement}
+use Rattle.closing.proofs.copies.copy_at.Tie as tie
+
+wide-requires : tie.Need-wide-requires
+wide-requires c κs = search needs
+
+mul-start : tie.Need-mul-start
+mul-start c = search needs
+
+add-end : tie.Need-add-end
+add-end c = search needs
+
+sub-version : tie.Need-sub-version
+sub-version c = search needs
+
+part-version-start : tie.Need-part-version-start
+part-version-start c = search needs
+
+part-version-end : tie.Need-part-version-end
+part-version-end c = search needs
+
+version-requires : tie.Need-version-requires
+version-requires c κs = search needs
+
+sub-value : tie.Need-sub-value
+sub-value c = search needs
+
+part-value-start : tie.Need-part-value-start
+part-value-start c = search needs
+
+part-value-end : tie.Need-part-value-end
+part-value-end c = search needs
+
+value-requires : tie.Need-value-requires
+value-requires c κs = search needs
+
+single-requires : tie.Need-single-requires
+single-requires c κs = search needs
+
+returns : tie.Need-returns
+unfolding copyAt imageAt part
+returns c =
+    let w = c .before .before .before .before .before .wide in
+    let x = c .before .before .before .before .before .before .before .args in
+    let l = now (x .images) in
+    let e : 1207 * w .result + 1207 - 1207 * w .result ≡ 1207 = omega arith in
+    let k : take (1207 * w .result + 1207 - 1207 * w .result) (drop (1207 * w .result) l) ≡ take 1207 (drop (1207 * x .node) l) =
+    ap₂ (λ (m n : ℕ). take m (drop (1207 * n) l)) e (w .ensures) in
+    let f = c .before .before .before .version .ensures ∙ ap (λ (m : List ℕ). version m (x .object)) k in
+    let g = c .before .value .ensures ∙ ap (λ (m : List ℕ). value m (x .object)) k in
+    λ i. record { version = f i; value = g i; nodes = c .single .ensures i }
+
+pub copy-at-spec : {M : Type 1} → statement M
+copy-at-spec =
+    tie.close
+    (tie.spec
+    wide-requires
+    mul-start
+    add-end
+    sub-version
+    part-version-start
+    part-version-end
+    version-requires
+    sub-value
+    part-value-start
+    part-value-end
+    value-requires
+    single-requires
+    returns)

@@ -1,0 +1,77 @@
+-- The end of a scenario in texts: a line for each object that was ever written, and whether the station is at rest and settled.
+use mathlib.Core.Bool.{Bool, cond, _&&_}
+use mathlib.Core.List.{List, [], _∷_, _++_}
+use Prim.Native.Nat.{ℕ}
+use lib.Dec.{eqb}
+use Rattle.replay.specs.Sheet.{valueOf}
+use Rattle.report.specs.Page.{Page, inks}
+use Rattle.report.specs.Each.{eachFrom}
+use Rattle.report.specs.Texts.{Text, numberTexts, valueTexts, versionText, valueText}
+use Rattle.closing.specs.declared.Best.{Best}
+use Rattle.closing.specs.Copies.{newest}
+use Rattle.closing.specs.State.{atRest, settled}
+
+-- `end\n`
+abbrev pub endText : Text
+endText = 101 ∷ 110 ∷ 100 ∷ 10 ∷ []
+
+-- `  object `
+abbrev pub objectText : Text
+objectText = 32 ∷ 32 ∷ 111 ∷ 98 ∷ 106 ∷ 101 ∷ 99 ∷ 116 ∷ 32 ∷ []
+
+-- ` nodes `
+abbrev pub nodesText : Text
+nodesText = 32 ∷ 110 ∷ 111 ∷ 100 ∷ 101 ∷ 115 ∷ 32 ∷ []
+
+-- ` replay `
+abbrev pub replayText : Text
+replayText = 32 ∷ 114 ∷ 101 ∷ 112 ∷ 108 ∷ 97 ∷ 121 ∷ 32 ∷ []
+
+-- `\n`
+abbrev pub lineEnd : Text
+lineEnd = 10 ∷ []
+
+-- `  at rest`
+abbrev pub restText : Text
+restText = 32 ∷ 32 ∷ 97 ∷ 116 ∷ 32 ∷ 114 ∷ 101 ∷ 115 ∷ 116 ∷ []
+
+-- `  settled`
+abbrev pub settledText : Text
+settledText = 32 ∷ 32 ∷ 115 ∷ 101 ∷ 116 ∷ 116 ∷ 108 ∷ 101 ∷ 100 ∷ []
+
+-- ` yes\n`
+abbrev pub yesText : Text
+yesText = 32 ∷ 121 ∷ 101 ∷ 115 ∷ 10 ∷ []
+
+-- ` no\n`
+abbrev pub noText : Text
+noText = 32 ∷ 110 ∷ 111 ∷ 10 ∷ []
+
+-- ---- `  object 7 version 1 value 5 nodes 8191 replay 5`; none for an object that was never written
+unfoldable pub copyTexts : ℕ → Best → List Text
+copyTexts t b =
+    numberTexts objectText t ++ numberTexts versionText (b .version) ++ valueTexts valueText (b .value) ++ numberTexts nodesText (b .nodes)
+
+unfoldable pub objectTexts : ℕ → Best → ℕ → List Text
+objectTexts t b replayed =
+    cond (eqb (b .version) 0 && eqb replayed 0) [] (copyTexts t b ++ valueTexts replayText replayed ++ (lineEnd ∷ []))
+
+-- all objects
+abbrev pub nthObjectTexts : List ℕ → List ℕ → ℕ → List Text
+nthObjectTexts images sheet t = objectTexts t (newest images t) (valueOf sheet t)
+
+unfoldable pub objectsTexts : List ℕ → List ℕ → List Text
+objectsTexts images sheet = eachFrom (nthObjectTexts images sheet) 64 0
+
+-- ---- `  at rest yes`
+unfoldable pub answerTexts : Text → Bool → List Text
+answerTexts label said = label ∷ cond said yesText noText ∷ []
+
+-- ---- all of it
+unfoldable pub closingTexts : List ℕ → List ℕ → List ℕ → List Text
+closingTexts images records sheet =
+    (endText ∷ []) ++ objectsTexts images sheet ++ answerTexts restText (atRest records) ++ answerTexts settledText (settled images records)
+
+-- put on a page
+abbrev pub closed : Page → List ℕ → List ℕ → List ℕ → Page
+closed p images records sheet = inks p (closingTexts images records sheet)

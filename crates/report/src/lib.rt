@@ -1,0 +1,203 @@
+// Texts put into a lent buffer one behind another: numbers, messages with their fields, and the words of the numbers. Each function answers the position
+// behind what it wrote; a text that does not fit is left out.
+ghost use mathlib.Core.Path.{_≡_};
+ghost use mathlib.Core.List.{[], _∷_};
+ghost use Prim.Native.Nat.{_≤_};
+ghost use lib.ListN.{length};
+ghost use Rattle.report.specs.Page.{page, ink, inks};
+ghost use Rattle.report.specs.Each.{eachFrom};
+ghost use Rattle.report.specs.Texts.{kindWord, numberTexts, valueTexts, modeText, entryTexts, rivalTexts, nthEntryTexts, nthRivalTexts};
+ghost use Rattle.report.specs.Texts.{routeTexts, nameTexts, messageTexts, wordOfNumber};
+ghost use Rattle.decimal.specs.Decimal.{decimal};
+use view::Header;
+use wire::Entry;
+use wire::Rival;
+
+// Puts a text. Ruled out: a text cut off at the buffer's end; a byte behind it that changes.
+pub fn text(out: &mut [u8], at: usize, t: &[u8]) -> usize
+    ensures { λ r. ⌜ page (now (out .exit)) r ≡ ink (page (now (out .entry)) at) (now (t .entry)) ⌝ }
+{
+    decimal::append(out, at, t)
+}
+
+// Puts a number.
+fn digits(out: &mut [u8], at: usize, n: u64) -> usize
+    ensures { λ r. ⌜ page (now (out .exit)) r ≡ ink (page (now (out .entry)) at) (decimal n) ⌝ }
+{
+    decimal::put(out, at, n)
+}
+
+// A number behind a label. Ruled out: the number before its label; "07" for 7.
+pub fn number(out: &mut [u8], at: usize, label: &[u8], n: u64) -> usize
+    ensures { λ r. ⌜ page (now (out .exit)) r ≡ inks (page (now (out .entry)) at) (numberTexts (now (label .entry)) n) ⌝ }
+{
+    let a = text(out, at, label);
+    digits(out, a, n)
+}
+
+// A value behind a label, 64 bits read as a signed number. Ruled out: 18446744073709551615 for -1; "-0" for 0.
+pub fn value(out: &mut [u8], at: usize, label: &[u8], v: u64) -> usize
+    ensures { λ r. ⌜ page (now (out .exit)) r ≡ inks (page (now (out .entry)) at) (valueTexts (now (label .entry)) v) ⌝ }
+{
+    if v < 9223372036854775808 {
+        return number(out, at, label, v);
+    }
+    let a = text(out, at, label);
+    number(out, a, b"-", 18446744073709551615 - v + 1)
+}
+
+// The word of a message.
+fn kind_word(out: &mut [u8], at: usize, kind: u8, word: u8) -> usize
+    ensures { λ r. ⌜ page (now (out .exit)) r ≡ ink (page (now (out .entry)) at) (kindWord kind word) ⌝ }
+{
+    if kind == 1 {
+        return text(out, at, b"fetch");
+    }
+    if kind == 2 {
+        return text(out, at, b"copy");
+    }
+    if kind == 3 {
+        return text(out, at, b"ask");
+    }
+    if kind == 4 {
+        if word == 1 {
+            return text(out, at, b"yes");
+        }
+        return text(out, at, b"no");
+    }
+    if kind == 5 {
+        if word == 1 {
+            return text(out, at, b"commit");
+        }
+        return text(out, at, b"abort");
+    }
+    if kind == 6 {
+        return text(out, at, b"done");
+    }
+    text(out, at, b"yield")
+}
+
+// An object with its mode.
+fn mode(out: &mut [u8], at: usize, mode: u8, object: u8) -> usize
+    ensures { λ r. ⌜ page (now (out .exit)) r ≡ inks (page (now (out .entry)) at) (numberTexts (modeText mode) object) ⌝ }
+{
+    if mode == 0 {
+        return number(out, at, b" read ", object as u64);
+    }
+    number(out, at, b" write ", object as u64)
+}
+
+// An entry and a rival of a message.
+fn entry(out: &mut [u8], at: usize, e: Entry) -> usize
+    ensures { λ r. ⌜ page (now (out .exit)) r ≡ inks (page (now (out .entry)) at) (entryTexts e) ⌝ }
+{
+    let a = mode(out, at, e.mode, e.object);
+    let b = number(out, a, b" version ", e.version as u64);
+    value(out, b, b" value ", e.value)
+}
+
+fn rival(out: &mut [u8], at: usize, r: Rival) -> usize
+    ensures { λ q. ⌜ page (now (out .exit)) q ≡ inks (page (now (out .entry)) at) (rivalTexts r) ⌝ }
+{
+    let a = number(out, at, b" rival ", r.owner as u64);
+    number(out, a, b".", r.serial as u64)
+}
+
+// All of them, each shown once.
+fn entries(out: &mut [u8], at: usize, m: &[u8], n: u8) -> usize
+    ensures { λ r. ⌜ page (now (out .exit)) r ≡ inks (page (now (out .entry)) at) (eachFrom (nthEntryTexts (now (m .entry))) n 0) ⌝ }
+{
+    let mut a = at;
+    let mut i: u8 = 0;
+    while i < n {
+        let s = view::show(m, i);
+        let e = s.entry;
+        a = entry(out, a, e);
+        i = i + 1;
+    }
+    a
+}
+
+fn rivals(out: &mut [u8], at: usize, m: &[u8], n: u8) -> usize
+    ensures { λ r. ⌜ page (now (out .exit)) r ≡ inks (page (now (out .entry)) at) (eachFrom (nthRivalTexts (now (m .entry))) n 0) ⌝ }
+{
+    let mut a = at;
+    let mut i: u8 = 0;
+    while i < n {
+        let s = view::show(m, i);
+        let r = s.rival;
+        a = rival(out, a, r);
+        i = i + 1;
+    }
+    a
+}
+
+// What a message is, between which nodes, and of which transaction.
+fn route(out: &mut [u8], at: usize, h: Header, word: u8) -> usize
+    ensures { λ r. ⌜ page (now (out .exit)) r ≡ inks (page (now (out .entry)) at) (routeTexts h word) ⌝ }
+{
+    let a = kind_word(out, at, h.kind, word);
+    let b = number(out, a, b" ", h.from as u64);
+    number(out, b, b" to ", h.to as u64)
+}
+
+fn name(out: &mut [u8], at: usize, h: Header) -> usize
+    ensures { λ r. ⌜ page (now (out .exit)) r ≡ inks (page (now (out .entry)) at) (nameTexts h) ⌝ }
+{
+    let a = number(out, at, b" for ", h.owner as u64);
+    let b = number(out, a, b".", h.serial as u64);
+    number(out, b, b" stamp ", h.stamp as u64)
+}
+
+// A message as its view shows it. Ruled out: sender and receiver exchanged; a rival left out.
+pub fn message(out: &mut [u8], at: usize, m: &[u8]) -> usize
+    ensures { λ r. ⌜ page (now (out .exit)) r ≡ inks (page (now (out .entry)) at) (messageTexts (now (m .entry))) ⌝ }
+{
+    let s = view::show(m, 0);
+    let h = s.header;
+    let k = s.counts;
+    let a = route(out, at, h, s.word);
+    let b = name(out, a, h);
+    let c = entries(out, b, m, k.entries);
+    rivals(out, c, m, k.rivals)
+}
+
+// The word of a number. Ruled out: `busy` for 5; the word of the number beside it.
+pub fn word(out: &mut [u8], at: usize, n: u8) -> usize
+    ensures { λ r. ⌜ page (now (out .exit)) r ≡ ink (page (now (out .entry)) at) (wordOfNumber n) ⌝ }
+{
+    if n == 1 {
+        return text(out, at, b"length");
+    }
+    if n == 2 {
+        return text(out, at, b"damaged");
+    }
+    if n == 3 {
+        return text(out, at, b"garbled");
+    }
+    if n == 4 {
+        return text(out, at, b"stranger");
+    }
+    if n == 5 {
+        return text(out, at, b"out of turn");
+    }
+    if n == 6 {
+        return text(out, at, b"no such tally");
+    }
+    if n == 7 {
+        return text(out, at, b"eight open");
+    }
+    if n == 8 {
+        return text(out, at, b"no quorum");
+    }
+    if n == 9 {
+        return text(out, at, b"number used up");
+    }
+    if n == 10 {
+        return text(out, at, b"busy");
+    }
+    if n == 11 {
+        return text(out, at, b"not ready");
+    }
+    text(out, at, b"pool full")
+}

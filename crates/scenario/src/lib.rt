@@ -1,0 +1,32 @@
+// Scenarios as text: the lines are read, the steps that they name are taken at the station over its lent buffers, and what they answered, what was put
+// into the pool, and the end of each scenario are printed.
+mod lines;
+mod reading;
+mod results;
+mod steps;
+
+pub use lines::finish;
+pub use lines::take;
+pub use reading::fresh;
+use script::Said;
+
+// The longest line.
+pub const LONGEST: usize = 160;
+
+// No line of the input is answered with more bytes.
+pub const ROOM: usize = 16384;
+
+// A line that is being read, its bytes so far, its number, and whether a scenario runs.
+pub struct Reader {
+    pub said: Said,
+    pub text: [u8; 160],
+    pub long: usize,
+    pub line: u64,
+    pub going: bool,
+}
+
+// What a byte of the input comes to: the reader after it, and how many bytes of output there are.
+pub struct Taken {
+    pub reader: Reader,
+    pub written: usize,
+}

@@ -1,0 +1,54 @@
+// A line that is being read, with its bytes.
+ghost use mathlib.Core.Path.{_≡_};
+ghost use Rattle.scenario.specs.Reading.{fresh, noted, next};
+use crate::LONGEST;
+use crate::Reader;
+
+// The part of a line that is bad, whatever comes.
+const SPOILT: u8 = 7;
+
+// Nothing is read yet.
+pub fn fresh() -> Reader
+    ensures { λ r. ⌜ r ≡ fresh ⌝ }
+{
+    let said = script::fresh();
+    Reader {
+        said,
+        text: [0; 160],
+        long: 0,
+        line: 1,
+        going: false,
+    }
+}
+
+// One byte of a line; a line that is too long is bad.
+pub(crate) fn noted(r: Reader, b: u8) -> Reader
+    ensures { λ t. ⌜ t ≡ noted r b ⌝ }
+{
+    let mut t = r;
+    let said = r.said;
+    let i = r.long;
+    if i < LONGEST {
+        t.text[i] = b;
+        t.long = i + 1;
+        t.said = script::step(said, b);
+        return t;
+    }
+    let mut bad = said;
+    bad.part = SPOILT;
+    t.said = bad;
+    t
+}
+
+// The next line.
+pub(crate) fn next(r: Reader, going: bool) -> Reader
+    ensures { λ t. ⌜ t ≡ next r going ⌝ }
+{
+    let mut t = r;
+    let n = r.line;
+    t.said = script::fresh();
+    t.long = 0;
+    t.line = if n < 18446744073709551615 { n + 1 } else { n };
+    t.going = going;
+    t
+}

@@ -1,0 +1,259 @@
+// The step that a line names.
+ghost use mathlib.Core.Path.{_≡_};
+ghost use mathlib.Core.Bool.{cond};
+ghost use Prim.Native.Nat.{_+_, _%_};
+ghost use Rattle.script.specs.Parse.{arity, mayMeasure, full, firstMost, secondMost, thirdMost, countFits, numbersFit, isStep, kindOf, orderOf};
+ghost use Rattle.script.specs.Parse.{whatOf, parsed};
+use crate::Parsed;
+use crate::Said;
+use crate::line::space;
+use coordinator::BeginWith;
+use numbers::both;
+use numbers::either;
+use runs::Kind;
+use runs::Order;
+
+const BLANK: u64 = 422725119595;
+
+const BEGIN: u64 = 422608071022;
+
+const RESELECT: u64 = 8243121572419036020;
+
+const READ: u64 = 1919246692;
+
+const WRITE: u64 = 513020621925;
+
+const SET: u64 = 7562612;
+
+const FOUND: u64 = 439956631140;
+
+const ASK: u64 = 6386539;
+
+const ABORT: u64 = 418263298676;
+
+const SEND: u64 = 1936027236;
+
+const DELIVER: u64 = 28259013971305842;
+
+const KEEP: u64 = 1801807216;
+
+const DROP: u64 = 1685221232;
+
+const ON: u64 = 28526;
+
+const OFF: u64 = 7300710;
+
+const SPOILT: u8 = 7;
+
+// One of two numbers.
+fn choose(test: bool, a: u64, b: u64) -> u64
+    ensures { λ r. ⌜ r ≡ cond test a b ⌝ }
+{
+    if test { a } else { b }
+}
+
+// The low bits of a number.
+fn low8(x: u64) -> u8
+    ensures { λ r. ⌜ r ≡ x % 256 ⌝ }
+{
+    (x % 256) as u8
+}
+
+fn low16(x: u64) -> u16
+    ensures { λ r. ⌜ r ≡ x % 65536 ⌝ }
+{
+    (x % 65536) as u16
+}
+
+fn low32(x: u64) -> u32
+    ensures { λ r. ⌜ r ≡ x % 4294967296 ⌝ }
+{
+    (x % 4294967296) as u32
+}
+
+// How many numbers follow a word.
+fn arity(w: u64) -> u64
+    ensures { λ r. ⌜ r ≡ arity w ⌝ }
+{
+    let three = either(w == BEGIN, either(w == SET, w == SEND));
+    let two = either(
+        w == READ,
+        either(w == WRITE, either(w == FOUND, w == RESELECT)),
+    );
+    let place = either(
+        w == DELIVER,
+        either(w == KEEP, either(w == DROP, w == BLANK)),
+    );
+    let one = either(
+        w == ASK,
+        either(w == ABORT, either(w == ON, either(w == OFF, place))),
+    );
+    choose(three, 3, choose(two, 2, choose(one, 1, 0)))
+}
+
+fn may_measure(w: u64) -> bool
+    ensures { λ r. ⌜ r ≡ mayMeasure w ⌝ }
+{
+    either(w == BEGIN, w == RESELECT)
+}
+
+// How many follow with them.
+fn full(w: u64) -> u64
+    ensures { λ r. ⌜ r ≡ full w ⌝ }
+{
+    choose(w == BEGIN, 16, 15)
+}
+
+// How large each number may be.
+fn first_most(w: u64) -> u64
+    ensures { λ r. ⌜ r ≡ firstMost w ⌝ }
+{
+    choose(w == BLANK, 65535, 255)
+}
+
+fn second_most(w: u64) -> u64
+    ensures { λ r. ⌜ r ≡ secondMost w ⌝ }
+{
+    choose(w == BEGIN, 4294967295, choose(w == RESELECT, 65535, 255))
+}
+
+fn third_most(w: u64) -> u64
+    ensures { λ r. ⌜ r ≡ thirdMost w ⌝ }
+{
+    choose(
+        w == SET,
+        18446744073709551615,
+        choose(w == BEGIN, 65535, 255),
+    )
+}
+
+// Whether the numbers are as the word wants them.
+fn count_fits(w: u64, n: u64) -> bool
+    ensures { λ r. ⌜ r ≡ countFits w n ⌝ }
+{
+    let k = arity(w);
+    let more = both(may_measure(w), n == full(w));
+    both(k != 0, either(n == k, more))
+}
+
+fn numbers_fit(w: u64, a: u64, b: u64, c: u64) -> bool
+    ensures { λ r. ⌜ r ≡ numbersFit w a b c ⌝ }
+{
+    both(
+        a <= first_most(w),
+        both(b <= second_most(w), c <= third_most(w)),
+    )
+}
+
+fn is_step(s: Said) -> bool
+    ensures { λ r. ⌜ r ≡ isStep s ⌝ }
+{
+    let a = s.numbers[0];
+    let b = s.numbers[1];
+    let c = s.numbers[2];
+    both(
+        count_fits(s.word, s.count as u64),
+        numbers_fit(s.word, a, b, c),
+    )
+}
+
+// The kind of a step.
+fn kind_of(w: u64) -> Kind
+    ensures { λ r. ⌜ r ≡ kindOf w ⌝ }
+{
+    if w == BEGIN {
+        return Kind::Begin;
+    }
+    if w == READ {
+        return Kind::OpenRead;
+    }
+    if w == WRITE {
+        return Kind::OpenWrite;
+    }
+    if w == SET {
+        return Kind::SetValue;
+    }
+    if w == FOUND {
+        return Kind::Found;
+    }
+    if w == RESELECT {
+        return Kind::Reselect;
+    }
+    if w == ASK {
+        return Kind::RequestCommit;
+    }
+    if w == ABORT {
+        return Kind::Abort;
+    }
+    if w == SEND {
+        return Kind::Send;
+    }
+    if w == DROP {
+        return Kind::Drop;
+    }
+    if either(w == DELIVER, w == KEEP) {
+        return Kind::Deliver;
+    }
+    Kind::Switch
+}
+
+// The step.
+fn order_of(s: Said) -> Order
+    ensures { λ r. ⌜ r ≡ orderOf s ⌝ }
+{
+    let w = s.word;
+    let a = s.numbers[0];
+    let b = s.numbers[1];
+    let c = s.numbers[2];
+    let distances = s.distances;
+    let kind = kind_of(w);
+    let object = choose(w == SEND, c, b);
+    let live = choose(w == BEGIN, c, choose(w == RESELECT, b, a));
+    let with = BeginWith {
+        live: low16(live),
+        distances,
+        timestamp: low32(b),
+    };
+    Order {
+        kind,
+        node: low8(a),
+        to: low8(b),
+        object: low8(object),
+        place: low8(a),
+        flag: either(w == KEEP, w == ON),
+        value: c,
+        with,
+    }
+}
+
+// What a line is.
+fn what_of(s: Said) -> u8
+    ensures { λ r. ⌜ r ≡ whatOf s ⌝ }
+{
+    if s.part == SPOILT {
+        return 1;
+    }
+    if s.word == 0 {
+        return 0;
+    }
+    if is_step(s) {
+        if s.word == BLANK {
+            return 2;
+        }
+        return 3;
+    }
+    1
+}
+
+// The end of a line: what it is, and the step that it names.
+// Ruled out: a word with a number missing taken as a step; a node of 256 taken as node 0.
+pub fn parse(s: Said) -> Parsed
+    ensures { λ r. ⌜ r ≡ parsed s ⌝ }
+{
+    let t = space(s);
+    let order = order_of(t);
+    Parsed {
+        what: what_of(t),
+        order,
+    }
+}

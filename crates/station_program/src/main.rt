@@ -1,0 +1,126 @@
+// The station program: reads scenarios as text, and writes what their steps answered and how each scenario ends.
+// It moves bytes only: what is done and written for what is read is `scenario`.
+use libc::STDIN_FILENO;
+use libc::STDOUT_FILENO;
+use scenario::Reader;
+
+// The reader, and whether to go on.
+struct Went {
+    reader: Reader,
+    on: bool,
+}
+
+// Writes the front of the buffer.
+fn put(out: &[u8], n: usize) -> bool {
+    if out.len() < n {
+        return false;
+    }
+    io::write_all(STDOUT_FILENO, &out[..n])
+}
+
+// A byte of the input, and whether one came.
+struct Got {
+    byte: u8,
+    came: bool,
+}
+
+fn get(input: &mut [u8]) -> Got {
+    let got = libc::read(STDIN_FILENO, input);
+    let n = io::count(got, input);
+    if n == 0 {
+        return Got {
+            byte: 0,
+            came: false,
+        };
+    }
+    if input.len() == 0 {
+        return Got {
+            byte: 0,
+            came: false,
+        };
+    }
+    Got {
+        byte: input[0],
+        came: true,
+    }
+}
+
+// Reads a byte, and writes what comes of it; the input ends where nothing came.
+fn turn(
+    r: Reader,
+    input: &mut [u8],
+    images: &mut [u8],
+    records: &mut [u8],
+    pool: &mut [u8],
+    own: &mut [u8],
+    sheet: &mut [u64],
+    out: &mut [u8],
+) -> Went {
+    let got = get(input);
+    if !got.came {
+        return Went {
+            reader: r,
+            on: false,
+        };
+    }
+    let t = scenario::take(r, got.byte, images, records, pool, own, sheet, out);
+    let written = t.written;
+    let next = t.reader;
+    let on = put(out, written);
+    Went { reader: next, on }
+}
+
+// Reads until the input ends. A proved loop has to end, and nothing says that the input does: so the loop counts its turns
+// down, from a number that no run uses up.
+fn all(
+    input: &mut [u8],
+    images: &mut [u8],
+    records: &mut [u8],
+    pool: &mut [u8],
+    own: &mut [u8],
+    sheet: &mut [u64],
+    out: &mut [u8],
+) -> Reader {
+    let mut r = scenario::fresh();
+    let mut turns = u64::MAX;
+    while turns > 0 {
+        let went = turn(r, input, images, records, pool, own, sheet, out);
+        r = went.reader;
+        if !went.on {
+            return r;
+        }
+        turns -= 1;
+    }
+    r
+}
+
+fn main() {
+    let mut input = [0u8; 1];
+    let mut images = [0u8; 15691];
+    let mut records = [0u8; 3913];
+    let mut pool = [0u8; 16513];
+    let mut own = [0u8; 2];
+    let mut sheet = [0u64; 1819];
+    let mut out = [0u8; 16384];
+    runs::start(&mut images, &mut records, &mut pool, &mut own, 8191);
+    replay::blank(&mut sheet);
+    let r = all(
+        &mut input,
+        &mut images,
+        &mut records,
+        &mut pool,
+        &mut own,
+        &mut sheet,
+        &mut out,
+    );
+    let n = scenario::finish(
+        r,
+        &mut images,
+        &mut records,
+        &mut pool,
+        &mut own,
+        &mut sheet,
+        &mut out,
+    );
+    put(&out, n);
+}

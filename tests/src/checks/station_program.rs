@@ -1,0 +1,389 @@
+//! The station program: its whole output, byte by byte, against the model's for scenarios as text, known, stored and random.
+
+mod texts;
+
+use crate::checks::program::child::{Child, Feed};
+use crate::checks::station::scenario::{closing_step, next_step, some_style, Style};
+use crate::checks::station::seen::{Case, Seen};
+use crate::model::coordinator::Call;
+use crate::model::program::lines;
+use crate::model::quorum::ALL;
+use crate::model::script::{output, read_line, Line, Program, Taken, LONGEST};
+use crate::model::station::Step;
+use crate::random::Random;
+use crate::runner::{ensure, Runner, Verdict};
+use std::collections::BTreeMap;
+use std::fs;
+use std::path::{Path, PathBuf};
+
+/// The stored scenarios, NAME.txt with NAME.out beside it.
+const STORED: &str = "tests/scenarios";
+
+pub fn run(runner: &mut Runner, path: &Path) {
+    let child = Child::new(path);
+    runner.check("station program: known texts", |_, _| known_texts(&child));
+    runner.check("station program: stored scenarios", |_, _| stored(&child));
+    runner.check("station program: every byte at every place", |_, _| every_byte(&child));
+    runner.check("station program: random scenarios", |random, rounds| random_scenarios(&child, random, rounds));
+    runner.check("station program: a pipe in small pieces", |random, rounds| small_pieces(&child, random, rounds));
+}
+
+/// Where two outputs part, in words.
+fn difference(got: &[u8], expected: &[u8]) -> String {
+    let (got, expected) = (lines(got), lines(expected));
+    let at = (0..).find(|&i| got.get(i) != expected.get(i)).unwrap_or(0);
+    let short = |list: &[&[u8]], at: usize| list.get(at).map_or(String::from("nothing"), |line| String::from_utf8_lossy(line).into_owned());
+    let before: Vec<String> = (at.saturating_sub(4)..at).map(|i| short(&expected, i)).collect();
+    format!("behind {before:?} it prints {:?}, but the model {:?}", short(&got, at), short(&expected, at))
+}
+
+fn same(child: &Child, text: &[u8], feed: Feed, expected: &[u8]) -> Result<(), String> {
+    let got = child.run(text, feed)?;
+    ensure!(got == expected, "{}", difference(&got, expected));
+    Ok(())
+}
+
+/// The end of a scenario in which nothing was written.
+const END: &str = "end\n  at rest yes\n  settled yes\n";
+
+/// Texts whose output is written out here.
+fn known_texts(child: &Child) -> Verdict {
+    let bad = |line: usize| format!("line {line}: no such step, nothing done\n");
+    let known = [
+        (String::new(), String::new()),
+        (String::from("\n"), String::new()),
+        (String::from("# nothing\n   \n#"), String::new()),
+        (String::from("blank 8191"), format!("1 blank 8191\n{END}")),
+        (String::from("blank 8191\n"), format!("1 blank 8191\n{END}")),
+        (String::from("\n blank  0 # none on\nblank 1"), format!("2  blank  0 # none on\n{END}3 blank 1\n{END}")),
+        (String::from("blank 8192\n"), String::from("1 blank 8192\n  4 stranger\n")),
+        (String::from("blank 8191\nblank 65535"), format!("1 blank 8191\n2 blank 65535\n  4 stranger\n{END}")),
+        (String::from("blank 65536"), bad(1)),
+        (String::from("blank"), bad(1)),
+        (String::from("x\nY\n4\n-\n\t\nblank 1 1\n"), (1..=6).map(bad).collect()),
+        (String::from("ask 4"), format!("1 ask 4\n  5 out of turn\n{END}")),
+        (String::from("off 4\non 13\ndeliver 0\n"), format!("1 off 4\n  ok\n2 on 13\n  4 stranger\n3 deliver 0\n  5 out of turn\n{END}")),
+        (
+            String::from("begin 4 1 8191 9 1 1 1 1 1 1 1 1 1 1 1 1\nabort 4\nfound 4 7\n"),
+            format!("1 begin 4 1 8191 9 1 1 1 1 1 1 1 1 1 1 1 1\n  ok quorum 6\n2 abort 4\n  ok\n3 found 4 7\n  5 out of turn\n{END}"),
+        ),
+        (format!("on 4{}\n", " ".repeat(LONGEST - 4)), format!("1 on 4{}\n  ok\n{END}", " ".repeat(LONGEST - 4))),
+        (format!("on 4{}\n", " ".repeat(LONGEST - 3)), bad(1)),
+    ];
+    for (text, expected) in &known {
+        for feed in [Feed::Pipe, Feed::File] {
+            same(child, text.as_bytes(), feed, expected.as_bytes()).map_err(|wrong| format!("{text:?}: {wrong}"))?;
+        }
+        ensure!(output(text.as_bytes())? == expected.as_bytes(), "{text:?}: the model itself prints another text");
+    }
+    Ok(format!("{} texts", known.len()))
+}
+
+/// The stored scenarios: what is stored beside each is what the program prints and what the model prints.
+fn stored(child: &Child) -> Verdict {
+    let folder = fs::read_dir(STORED).map_err(|error| format!("{STORED}: {error}"))?;
+    let paths: Vec<PathBuf> = folder.flatten().map(|entry| entry.path()).collect();
+    let mut names: Vec<&PathBuf> = paths.iter().filter(|path| path.extension().is_some_and(|end| end == "txt")).collect();
+    names.sort();
+    let mut read = 0;
+    for path in &names {
+        let bytes = |path: &Path| fs::read(path).map_err(|error| format!("{}: {error}", path.display()));
+        let (text, expected) = (bytes(path)?, bytes(&path.with_extension("out"))?);
+        let named = |wrong: String| format!("{}: {wrong}", path.display());
+        same(child, &text, Feed::File, &expected).map_err(named)?;
+        let modelled = output(&text).map_err(named)?;
+        ensure!(modelled == expected, "{}", named(difference(&expected, &modelled)));
+        ensure!(lines(&text).iter().all(|line| read_line(line) != Line::Bad), "{}: a bad line", path.display());
+        read += lines(&text).len();
+    }
+    ensure!(names.len() >= 10 && read > 2000, "{} scenarios of {read} lines are too few", names.len());
+    Ok(format!("{} scenarios, {read} lines", names.len()))
+}
+
+/// Lines of each kind, with each of the 256 bytes put in at each place and put in place of each of their bytes.
+fn every_byte(child: &Child) -> Verdict {
+    let good: [&[u8]; 8] = [
+        b"begin 4 10 8191",
+        b"reselect 12 8191 65535 9 1 1 1 1 1 1 1 1 1 1 1",
+        b"set 4 63 -9223372036854775808",
+        b"send 4 0 63",
+        b"keep 255",
+        b"blank 8191",
+        b"write 4 63 # a-1",
+        b"off 12",
+    ];
+    let mut text = Vec::new();
+    for line in good {
+        for byte in 0..=255 {
+            for at in 0..=line.len() {
+                let (front, back) = line.split_at(at);
+                text.extend([front, &[byte], back, b"\n"].concat());
+                if !back.is_empty() {
+                    text.extend([front, &[byte], &back[1..], b"\n"].concat());
+                }
+            }
+        }
+    }
+    same(child, &text, Feed::Pipe, &output(&text)?)?;
+    let all = lines(&text);
+    let bad = all.iter().filter(|line| read_line(line) == Line::Bad).count();
+    ensure!(all.len() > 60_000 && bad > 50_000 && all.len() - bad > 3000, "{} lines, {bad} of them bad, are too poor", all.len());
+    Ok(format!("{} lines, {bad} of them bad", all.len()))
+}
+
+/// What the random texts had.
+#[derive(Default)]
+struct Counts {
+    seen: Seen,
+    scenarios: usize,
+    quiet: usize,
+    refused_blanks: usize,
+    full_lines: usize,
+    /// Values that were set: below 0, the lowest and the highest.
+    negative: usize,
+    extreme: usize,
+    measured: usize,
+    unmeasured: usize,
+    bad: BTreeMap<&'static str, usize>,
+    /// Scenarios' ends: at rest or not, settled or not.
+    ends: BTreeMap<(bool, bool), usize>,
+    bytes: usize,
+}
+
+/// A text that is being made, beside the model that takes its lines.
+struct Writer<'a> {
+    text: Vec<u8>,
+    program: Program,
+    counts: &'a mut Counts,
+}
+
+impl Writer<'_> {
+    fn new(counts: &mut Counts) -> Writer<'_> {
+        Writer { text: vec![], program: Program::new(), counts }
+    }
+
+    /// A line, which the model takes.
+    fn line(&mut self, line: &[u8]) -> Result<Taken, String> {
+        self.text.extend(line);
+        self.text.push(b'\n');
+        self.counts.full_lines += usize::from(line.len() == LONGEST);
+        self.program.take(line)
+    }
+
+    /// A step in some form; the model must read it as that step.
+    fn step(&mut self, random: &mut Random, step: Step) -> Result<(), String> {
+        let step = with_extremes(random, step);
+        let Some(words) = texts::words_of(random, &step) else { return Ok(()) };
+        let before = self.program.station().clone();
+        let line = texts::dressed(random, &words);
+        let Taken::Step(event) = self.line(&line)? else {
+            return Err(format!("the model takes {:?} otherwise than made", String::from_utf8_lossy(&line)));
+        };
+        ensure!(event.step == step, "the model reads {:?} as {:?}", String::from_utf8_lossy(&line), event.step);
+        self.counts.seen.count(&before, &event);
+        self.counts.seen.count_more(&before, &event, self.program.station());
+        match step {
+            Step::Host { call: Call::SetValue { value, .. }, .. } => {
+                self.counts.negative += usize::from(value < 0);
+                self.counts.extreme += usize::from(value == i64::MIN || value == i64::MAX);
+            }
+            Step::Host { call: Call::Begin { .. } | Call::Reselect { .. }, .. } if words.len() > 13 => self.counts.measured += 1,
+            Step::Host { call: Call::Begin { .. } | Call::Reselect { .. }, .. } => self.counts.unmeasured += 1,
+            _ => {}
+        }
+        Ok(())
+    }
+
+    /// A line that is no step: it says nothing, it is bad, or it is a `blank` that is refused.
+    fn other(&mut self, random: &mut Random) -> Result<(), String> {
+        if random.once_in(3) {
+            let line = texts::quiet_line(random);
+            ensure!(self.line(&line)? == Taken::Nothing, "{:?} says something", String::from_utf8_lossy(&line));
+            self.counts.quiet += 1;
+        } else if random.once_in(6) {
+            let mask = 8192 + random.below(65_536 - 8192);
+            let line = texts::dressed(random, &[String::from("blank"), mask.to_string()]);
+            ensure!(self.line(&line)? == Taken::Blank(true), "{:?} is taken", String::from_utf8_lossy(&line));
+            self.counts.refused_blanks += 1;
+        } else {
+            let style = some_style(random);
+            let some = next_step(random, self.program.station(), &style);
+            let words = texts::words_of(random, &some).unwrap_or_else(|| vec![String::from("ask"), String::from("4")]);
+            let (name, line) = texts::bad_line(random, words);
+            ensure!(self.line(&line)? == Taken::Bad, "{name}: {:?} is taken", String::from_utf8_lossy(&line));
+            *self.counts.bad.entry(name).or_insert(0) += 1;
+        }
+        Ok(())
+    }
+
+    /// A scenario of some length, brought to rest at its end or not.
+    fn scenario(&mut self, random: &mut Random, style: &Style) -> Result<(), String> {
+        let on = if random.once_in(4) { random.word() & ALL } else { ALL };
+        let line = texts::dressed(random, &[String::from("blank"), on.to_string()]);
+        ensure!(self.line(&line)? == Taken::Blank(false), "no new scenario");
+        self.counts.seen.start();
+        self.counts.scenarios += 1;
+        for _ in 0..*random.pick(&[0, 20, 200, 500, 900]) {
+            if random.once_in(20) {
+                self.other(random)?;
+            }
+            let step = next_step(random, self.program.station(), style);
+            self.step(random, step)?;
+        }
+        let closes = random.once_in(2);
+        for _ in 0..5000 {
+            match closing_step(random, self.program.station()).filter(|_| closes) {
+                Some(step) => self.step(random, step)?,
+                None => break,
+            }
+        }
+        Ok(())
+    }
+
+    /// The text, its last line with or without its newline, and what the program must print for it.
+    fn complete(mut self, random: &mut Random) -> (Vec<u8>, Vec<u8>) {
+        self.program.end();
+        if random.once_in(2) && self.text.len() > 1 && !self.text.ends_with(b"\n\n") {
+            self.text.pop();
+        }
+        for &end in &self.program.ends {
+            *self.counts.ends.entry(end).or_insert(0) += 1;
+        }
+        self.counts.bytes += self.text.len();
+        (self.text, self.program.printed)
+    }
+}
+
+/// Little goes wrong, so that many transactions commit.
+fn calm(mut style: Style) -> Style {
+    style.owners.truncate(3);
+    (style.most, style.calm, style.ask, style.again) = (2, 30, 1, 40);
+    (style.keep, style.lose, style.switch, style.abort, style.reselect, style.wild) = (40, 100, 400, 200, 100, 100);
+    style
+}
+
+/// Transactions open many objects, up to one too many.
+fn wide(style: Style) -> Style {
+    Style { objects: 64, most: 10, ask: 12, write: 2, ..calm(style) }
+}
+
+/// Few transactions wait for long with what they found, and fetches come again.
+fn late(style: Style) -> Style {
+    let mut style = Style { objects: 1, most: 1, switch: 400, abort: 200, ..style.lingering() };
+    style.owners.truncate(4);
+    style
+}
+
+/// Messages are sent again and again and wait, up to a full pool.
+fn crowded(mut style: Style) -> Style {
+    (style.calm, style.keep, style.again, style.lose) = (400, 2, 1, 400);
+    style
+}
+
+/// A step whose value is an extreme one, now and then, whose distances are all 1, or that switches a node that is not there.
+fn with_extremes(random: &mut Random, mut step: Step) -> Step {
+    if let Step::Switch { node, .. } = &mut step {
+        *node = if random.once_in(40) { 13 + random.below(243) as u8 } else { *node };
+    }
+    let Step::Host { call, .. } = &mut step else { return step };
+    let ones: Vec<u8> = [1u16; 13].iter().flat_map(|one| one.to_le_bytes()).collect();
+    match call {
+        Call::SetValue { value, .. } if random.once_in(3) => {
+            *value = *random.pick(&[i64::MIN, i64::MAX, i64::MIN + 1, -1, 0, 1, -500, 500]);
+        }
+        Call::Begin { distances, .. } | Call::Reselect { distances, .. } if random.once_in(3) => *distances = ones,
+        _ => {}
+    }
+    step
+}
+
+impl Counts {
+    /// The rarest case, number of a step, kind of damage and kind of end.
+    fn rarest(&self) -> (String, usize) {
+        let reached: [&[usize]; 5] = [&[0, 4, 5, 6, 7, 8, 10, 11], &[0, 4, 5, 6, 12], &[0, 5, 12], &[0, 5], &[0, 4]];
+        // A newer copy that comes too late is too rare for a floor; the stored scenario of the slips has one.
+        let cases = Case::ALL.into_iter().filter(|case| *case != Case::LateNewer).map(|case| (format!("{case:?}"), self.seen.of(case)));
+        let numbers = (0..5).flat_map(|step| reached[step].iter().map(move |&number| (step, number)));
+        let numbers = numbers.map(|(step, number)| (format!("step {step} number {number}"), self.seen.numbers[step][number]));
+        let bad = texts::DAMAGES.iter().map(|it| (String::from(it.name), self.bad.get(it.name).copied().unwrap_or(0)));
+        // At rest, every done is in: no scenario ends at rest and not settled.
+        let ends =
+            [(false, false), (false, true), (true, true)].map(|end| (format!("end {end:?}"), self.ends.get(&end).copied().unwrap_or(0)));
+        cases.chain(numbers).chain(bad).chain(ends).min_by_key(|(_, count)| *count).expect("some case")
+    }
+
+    fn words(&self) -> String {
+        let (case, least) = self.rarest();
+        let [called, voted, yielded] = self.seen.aborts();
+        let bad: usize = self.bad.values().sum();
+        format!(
+            "{} scenarios, {} bytes, {} steps, {} committed; aborted: {called} by a call, {voted} by a no, {yielded} by a yield; {}; \
+             {bad} bad lines of {} kinds, {} that say nothing, {} refused blanks, {} of 160 bytes; {} negative values, {} extreme; \
+             distances {} times, none {} times; ends (at rest, settled) {:?}; the rarest ({case}) {least} times",
+            self.scenarios,
+            self.bytes,
+            self.seen.steps(),
+            self.seen.of(Case::Committed),
+            crate::checks::station::seen::numbers_in_words(&self.seen.numbers),
+            self.bad.len(),
+            self.quiet,
+            self.refused_blanks,
+            self.full_lines,
+            self.negative,
+            self.extreme,
+            self.measured,
+            self.unmeasured,
+            self.ends
+        )
+    }
+}
+
+/// Random scenarios, many in one text, with bad lines between their steps: conflicts, repeats, losses, switches and refusals.
+fn random_scenarios(child: &Child, random: &mut Random, rounds: usize) -> Verdict {
+    let mut counts = Counts::default();
+    for text in 0..36 * rounds {
+        let mut writer = Writer::new(&mut counts);
+        for _ in 0..=text % 10 {
+            let point = *random.pick(&[|style| style, late, Style::slow_votes, calm, calm, wide, crowded]);
+            let style = point(some_style(random));
+            writer.scenario(random, &style)?;
+        }
+        let (text, expected) = writer.complete(random);
+        let feed = if random.once_in(2) { Feed::Pipe } else { Feed::File };
+        same(child, &text, feed, &expected)?;
+    }
+    let counted = counts.words();
+    let rich = [
+        (counts.seen.steps(), 40_000),
+        (counts.seen.of(Case::Committed), 150),
+        (counts.scenarios, 150),
+        (counts.quiet, 500),
+        (counts.refused_blanks, 200),
+        (counts.full_lines, 500),
+        (counts.negative, 500),
+        (counts.extreme, 80),
+        (counts.measured.min(counts.unmeasured), 200),
+        (counts.rarest().1, 1),
+    ];
+    ensure!(rich.iter().all(|&(count, floor)| count >= floor * rounds), "too poor: {counted}");
+    Ok(counted)
+}
+
+/// Texts through a pipe in pieces of random sizes.
+fn small_pieces(child: &Child, random: &mut Random, rounds: usize) -> Verdict {
+    let mut counts = Counts::default();
+    for _ in 0..4 * rounds {
+        let mut writer = Writer::new(&mut counts);
+        let style = some_style(random);
+        for _ in 0..300 {
+            let step = next_step(random, writer.program.station(), &style);
+            writer.step(random, step)?;
+        }
+        let (text, expected) = writer.complete(random);
+        let most = 1 + random.below(30);
+        let sizes: Vec<usize> = (0..text.len()).map(|_| 1 + random.below(most)).collect();
+        same(child, &text, Feed::Pieces(&sizes), &expected)?;
+    }
+    ensure!(counts.seen.steps() > 1000, "{} steps are too few", counts.seen.steps());
+    Ok(format!("{} steps, {} bytes", counts.seen.steps(), counts.bytes))
+}
