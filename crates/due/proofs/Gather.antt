@@ -1,17 +1,21 @@
--- A loop over the objects gathers the entries into an array and a count: one entry more, one turn, and its start.
-use mathlib.Core.Path.{_≡_, refl, sym, ap, _∙_}
-use mathlib.Core.Bool.{Bool, true, false, _&&_}
+-- A loop over the places marks where each object stands, and a loop over the objects gathers the entries into an array and a count.
+use mathlib.Core.Path.{_≡_, refl, sym, ap, subst, _∙_}
+use mathlib.Core.Bool.{Bool, true, false, cond, _&&_}
 use mathlib.Core.List.{List, [], _∷_, _++_}
-use Prim.Native.Nat.{ℕ, _+_, _<_, min}
+use Prim.Native.Nat.{ℕ, _+_, _-_, _<_, _≤_, min}
 use native.Mathlib.Numerals.{add-one}
 use native.Mathlib.Omega.{arith}
-use lib.Dec.{ltb}
-use borrow.Author.Tests.{ltb-true}
-use lib.ListN.{length, take, set, length-append}
-use lib.Seq.{take-suc-set}
+use lib.Dec.{eqb, ltb}
+use borrow.Author.Tests.{eqb-true, eqb-false, ne-eqb, ltb-true, ltb-false}
+use lib.ListN.{length, getD, take, drop, set, replicate, length-append, getD-replicate}
+use lib.Seq.{take-suc-set, getD-set-same, getD-set-other}
+use Rattle.mask.proofs.Tests.{and-left, T-true}
 use Rattle.wire.specs.declared.Entry.{Entry}
+use Rattle.coordinator.specs.declared.Object.{Object}
 use Rattle.coordinator.specs.declared.Coordinator.{Coordinator}
-use Rattle.coordinator.specs.State.{objectAt, isOpen}
+use Rattle.coordinator.specs.State.{eight, objectsEnd, noObject, across, hereElse, placeIn, placeOf, objectAt, isOpen}
+use Rattle.coordinator.proofs.Across.{across-turn, across-start}
+use Rattle.clauses.proofs.Parts.{on-cond, true-T}
 use Rattle.due.specs.declared.Gathered.{Gathered}
 use Rattle.due.specs.Gather.{Lists}
 use Rattle.due.specs.Due.{entryFor, withNext, entriesBelow}
@@ -40,10 +44,13 @@ module _ (c : Coordinator) (n : ℕ) (g r : Gathered) (es : List Entry) (l : Lis
 pub listed-all : (g : Gathered) (es : List Entry) → Lists g es → take (min (g .count) 8) (g .entries) ≡ es
 listed-all g es l = let e : min (g .count) 8 ≡ g .count = omega (arith, l .room) in ap (λ (n : ℕ). take n (g .entries)) e ∙ l .same
 
--- the count has room where both tests hold
-pub next-fits : (a : Bool) (k : ℕ) → (a && ltb k 8) ≡ true → k < 8
-next-fits true k t = ltb-true k 8 t
-next-fits false k t = absurd (let z : _≡_ {A = ℕ} 0 1 = cc in let w : ⊥ = omega arith in w)
+-- the second of two tests that hold
+pub second-fits : (a : Bool) (k n : ℕ) → (a && ltb k n) ≡ true → k < n
+second-fits true k n t = ltb-true k n t
+second-fits false k n t = absurd (let z : _≡_ {A = ℕ} 0 1 = cc in let w : ⊥ = omega arith in w)
+
+pub first-fits : (k n : ℕ) (b : Bool) → (ltb k n && b) ≡ true → k < n
+first-fits k n b t = ltb-true k n (T-true (ltb k n) (and-left (ltb k n) b (true-T (ltb k n && b) t)))
 
 pub below-none : (c : Coordinator) → entriesBelow c 0 ≡ []
 unfolding entriesBelow
@@ -52,3 +59,75 @@ below-none c = refl
 pub below-more : (c : Coordinator) (n : ℕ) → entriesBelow c (n + 1) ≡ withNext c n (entriesBelow c n)
 unfolding entriesBelow
 below-more c n = ap (entriesBelow c) (add-one n)
+
+-- ---- where each object stands, looked for from place i on
+abbrev pub Marks : List ℕ → List Object → ℕ → ℕ → Type 0
+Marks places objects count i = (n : ℕ) → n < objectsEnd → getD places n 0 ≡ across (hereElse n count) eight i (drop i objects)
+
+pub marks-start : (objects : List Object) (count : ℕ) → length objects ≡ eight → Marks (replicate 64 8) objects count eight
+marks-start objects count e n h = getD-replicate 64 n 8 0 h ∙ sym (across-start (hereElse n count) eight objects eight (omega arith))
+
+pub marks-whole : (places : List ℕ) (objects : List Object) (count : ℕ) → Marks places objects count 0
+    → (n : ℕ) → n < objectsEnd → getD places n 0 ≡ placeIn objects count n
+unfolding placeIn
+marks-whole places objects count m n h = m n h
+
+-- an object below the count and below 64 is marked, another is not looked for
+put-test : (a : Bool) (o n : ℕ) → (a && ltb o 64) ≡ true → (a && eqb o n) ≡ eqb o n
+put-test true o n t = refl
+put-test false o n t = absurd (let z : _≡_ {A = ℕ} 0 1 = cc in let w : ⊥ = omega arith in w)
+
+keep-test : (a : Bool) (o n : ℕ) → n < 64 → (a && ltb o 64) ≡ false → (a && eqb o n) ≡ false
+keep-test true o n h t = ne-eqb o n (λ e. omega (arith, ltb-false o 64 t))
+keep-test false o n h t = refl
+
+module _ (places : List ℕ) (objects : List Object) (count i o : ℕ) (h : 0 < i) (k : i ≤ length objects)
+    (same : o ≡ getD objects (i - 1) noObject .object) (m : Marks places objects count i) where
+  abbrev found : ℕ → Bool → ℕ
+  found n t = cond t (i - 1) (across (hereElse n count) eight i (drop i objects))
+
+  turn : (n : ℕ) → across (hereElse n count) eight (i - 1) (drop (i - 1) objects) ≡ found n (ltb (i - 1) count && eqb o n)
+  turn n = across-turn (hereElse n count) eight objects i h k ∙ ap (λ (j : ℕ). found n (ltb (i - 1) count && eqb j n)) (sym same)
+
+  pub marks-put : o < length places → (ltb (i - 1) count && ltb o 64) ≡ true → Marks (set places o (i - 1)) objects count (i - 1)
+  marks-put l t n b =
+      on-cond (λ (p : ℕ). getD (set places o (i - 1)) n 0 ≡ p) (eqb o n) (i - 1) (across (hereElse n count) eight i (drop i objects))
+      (λ e. ap (λ (j : ℕ). getD (set places o (i - 1)) j 0) (sym (eqb-true o n e)) ∙ getD-set-same places o (i - 1) 0 l)
+      (λ e. getD-set-other places o n (i - 1) 0 (λ z. eqb-false o n e (sym z)) ∙ m n b)
+      ∙ sym (turn n ∙ ap (found n) (put-test (ltb (i - 1) count) o n t))
+
+  pub marks-keep : (ltb (i - 1) count && ltb o 64) ≡ false → Marks places objects count (i - 1)
+  marks-keep t n b = m n b ∙ sym (turn n ∙ ap (found n) (keep-test (ltb (i - 1) count) o n b t))
+
+-- ---- the entries of the objects below n, for every record with these objects at these places
+abbrev pub Gathers : List Object → List ℕ → List Entry → ℕ → ℕ → Type 0
+Gathers objects places entries count n =
+    (c : Coordinator) → c .objects ≡ objects → ((k : ℕ) → k < objectsEnd → getD places k 0 ≡ placeOf c k)
+    → Lists (record { entries = entries; count = count }) (entriesBelow c n)
+
+pub gathers-none : (objects : List Object) (places : List ℕ) (entries : List Entry) → Gathers objects places entries 0 0
+gathers-none objects places entries c e f =
+    subst (Lists (record { entries = entries; count = 0 })) (sym (below-none c)) (record { same = refl; count = refl; room = omega arith })
+
+module _ (objects : List Object) (places : List ℕ) (entries : List Entry) (count n p : ℕ) (h : n < objectsEnd) (at : p ≡ getD places n 0)
+    (l : Gathers objects places entries count n) where
+  test : (c : Coordinator) → ((k : ℕ) → k < objectsEnd → getD places k 0 ≡ placeOf c k) → (b : Bool) → (ltb p 8 && ltb count 8) ≡ b
+      → (isOpen c n && ltb count 8) ≡ b
+  test c f b t = ap (λ (k : ℕ). ltb k 8 && ltb count 8) (sym (at ∙ f n h)) ∙ t
+
+  pub gathers-more : (e : Entry) → length entries ≡ 8 → (ltb p 8 && ltb count 8) ≡ true → e ≡ entryFor (getD objects p noObject)
+      → Gathers objects places (set entries count e) (count + 1) (n + 1)
+  gathers-more e full t same c o f =
+      let g : Gathered = record { entries = entries; count = count } in
+      let r : Gathered = record { entries = set entries count e; count = count + 1 } in
+      let es = entriesBelow c n in
+      let x : e ≡ entryFor (objectAt c n) =
+      same ∙ ap (λ (k : ℕ). entryFor (getD objects k noObject)) (at ∙ f n h) ∙ ap (λ (y : List Object). entryFor (getD y (placeOf c n) noObject)) (sym o) in
+      let m : Lists r (es ++ (e ∷ [])) = one-more g e es full (second-fits (ltb p 8) count 8 t) (l c o f) in
+      subst (Lists r) (sym (below-more c n))
+      (next-taken c n g r es (l c o f) (test c f true t) (subst (λ (y : Entry). Lists r (es ++ (y ∷ []))) x m))
+
+  pub gathers-same : (ltb p 8 && ltb count 8) ≡ false → Gathers objects places entries count (n + 1)
+  gathers-same t c o f =
+      let g : Gathered = record { entries = entries; count = count } in
+      subst (Lists g) (sym (below-more c n)) (next-left c n g g (entriesBelow c n) (l c o f) (test c f false t))

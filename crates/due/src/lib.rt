@@ -1,13 +1,13 @@
 // What is due to a node, as a message in a lent buffer.
 ghost use mathlib.Core.Path.{_≡_};
-ghost use mathlib.Core.List.{List, [], _∷_, _++_};
-ghost use Prim.Native.Nat.{_<_};
-ghost use lib.ListN.{length};
-ghost use Rattle.wire.specs.declared.Entry.{Entry};
+ghost use Prim.Native.Nat.{ℕ, _<_};
+ghost use lib.ListN.{length, getD, replicate};
+ghost use Rattle.wire.specs.Items.{noEntry};
 ghost use Rattle.wire.specs.Write.{writtenOf, bufferAfter};
 ghost use Rattle.coordinator.specs.System.{tree};
+ghost use Rattle.coordinator.specs.State.{placeIn};
 ghost use Rattle.due.specs.Gather.{Lists};
-ghost use Rattle.due.specs.Due.{entryFor, withNext, entriesOf, askTo, outcomeTo, messageDue, dueWritten, dueBuffer};
+ghost use Rattle.due.specs.Due.{entryFor, entriesOf, askTo, outcomeTo, messageDue, dueWritten, dueBuffer};
 use coordinator::COMMITTED;
 use coordinator::Coordinator;
 use coordinator::OBJECTS;
@@ -17,7 +17,7 @@ use wire::Entry;
 use wire::Written;
 
 // Objects are below this.
-const OBJECTS_END: u8 = 64;
+const OBJECTS_END: usize = 64;
 
 // The first `count` of eight entries.
 struct Gathered {
@@ -38,9 +38,9 @@ fn entry_for(x: Object) -> Entry
     }
 }
 
-// No entries.
-fn none() -> Gathered
-    ensures { λ r. ⌜ Lists r [] ⌝ }
+// Room for eight entries.
+fn no_entries() -> [Entry; OBJECTS]
+    ensures { λ r. ⌜ r ≡ replicate 8 noEntry ⌝ }
 {
     let e = Entry {
         object: 0,
@@ -48,49 +48,52 @@ fn none() -> Gathered
         version: 0,
         value: 0,
     };
-    let entries = [e; OBJECTS];
-    Gathered { entries, count: 0 }
+    [e; OBJECTS]
 }
 
-// One entry more, behind those that are there.
-fn with_entry(list: [Entry; OBJECTS], count: usize, e: Entry) -> Gathered
-    requires { ⌜ count < 8 ⌝ }
-    ensures { λ r. ⌜ ((es : List Entry) → Lists (record { entries = list; count = count }) es → Lists r (es ++ (e ∷ []))) ⌝ }
+// A byte as an index.
+fn wide(x: u8) -> usize
+    ensures { λ r. ⌜ r ≡ x ⌝ }
 {
-    let mut entries = list;
-    entries[count] = e;
-    Gathered {
-        entries,
-        count: count + 1,
-    }
+    x as usize
 }
 
-// The entry of object n too, where it is open.
-fn with_next(c: Coordinator, n: u8, g: Gathered) -> Gathered
-    ensures { λ r. ⌜ ((es : List Entry) → Lists g es → Lists r (withNext c n es)) ⌝ }
+// Where each object stands among the open ones, 8 where it is not open. The loop goes down over the places, so that the first of two counts.
+fn places_of(objects: [Object; OBJECTS], count: usize) -> [u8; OBJECTS_END]
+    ensures { λ r. ⌜ length r ≡ 64 ⌝ }
+    ensures { λ r. ⌜ ((n : ℕ) → n < 64 → getD r n 0 ≡ placeIn objects count n) ⌝ }
 {
-    let here = coordinator::place(c, n) < OBJECTS;
-    if both(here, g.count < OBJECTS) {
-        let e = entry_for(coordinator::at_place(c, n));
-        let entries = g.entries;
-        with_entry(entries, g.count, e)
-    } else {
-        g
+    let mut places = [8u8; OBJECTS_END];
+    let mut i = OBJECTS;
+    while 0 < i {
+        i = i - 1;
+        let x = objects[i];
+        let at = wide(x.object);
+        if both(i < count, at < OBJECTS_END) {
+            places[at] = i as u8;
+        }
     }
+    places
 }
 
 // The entries of an ask or a commit, ascending by object.
 fn entries_of(c: Coordinator) -> Gathered
     ensures { λ r. ⌜ Lists r (entriesOf c) ⌝ }
 {
-    let mut g = none();
-    let mut n: u8 = 0;
+    let objects = c.objects;
+    let places = places_of(objects, c.count);
+    let mut entries = no_entries();
+    let mut count: usize = 0;
+    let mut n: usize = 0;
     while n < OBJECTS_END {
-        let next = with_next(c, n, g);
-        g = next;
+        let p = wide(places[n]);
         n = n + 1;
+        if both(p < OBJECTS, count < OBJECTS) {
+            entries[count] = entry_for(objects[p]);
+            count = count + 1;
+        }
     }
-    g
+    Gathered { entries, count }
 }
 
 // An ask to a node.
@@ -108,11 +111,12 @@ fn send_outcome(c: Coordinator, me: u8, node: u8, out: &mut [u8]) -> Written
     ensures { λ r. ⌜ r ≡ writtenOf (length (now (out .entry))) (outcomeTo c me node) ⌝ }
     ensures { λ r. ⌜ now (out .exit) ≡ bufferAfter (outcomeTo c me node) (now (out .entry)) ⌝ }
 {
-    let g = entries_of(c);
-    let entries = g.entries;
     if c.outcome == COMMITTED {
+        let g = entries_of(c);
+        let entries = g.entries;
         wire::write_outcome(out, node, me, c.serial, c.timestamp, entries, g.count, 1)
     } else {
+        let entries = no_entries();
         wire::write_outcome(out, node, me, c.serial, c.timestamp, entries, 0, 0)
     }
 }

@@ -1,47 +1,125 @@
 -- `due::entries_of`: what is gathered so far are the entries of the objects passed.
 use Prim.Native.Nat.{ℕ, _-_, _≤_}
-use mathlib.Core.Path.{_≡_, sym, subst}
+use mathlib.Core.Path.{_≡_, refl, sym, ap, subst, _∙_}
+use lib.Dec.{ltb}
+use lib.ListN.{length}
 use native.Mathlib.Omega.{arith}
 use borrow.Author.Needs.{needs}
 use Rattle.due.specs.Gather.{Lists}
 use Rattle.due.specs.Due.{entriesBelow, entriesOf}
-use Rattle.due.proofs.Gather.{below-none, below-more}
+use Rattle.due.proofs.Gather.{first-fits, second-fits, Gathers, gathers-none, gathers-more, gathers-same}
 use Rattle.due.proofs.entries_of.Statement.{statement}
 use Rattle.due.proofs.entries_of.Tie as tie
 
 abbrev Inv-loop : tie.InvT-loop
-Inv-loop c g₀ n₀ g n = (n ≤ 64) × Lists g (entriesBelow c n)
+Inv-loop objects places entries₀ count₀ n₀ entries count n = (n ≤ 64) × ((length entries ≡ 8) × Gathers objects places entries count n)
 
 abbrev μ-loop : tie.MeasureT-loop
-μ-loop c g₀ n₀ g n = 64 - n
+μ-loop objects places entries₀ count₀ n₀ entries count n = 64 - n
 
-none-requires : tie.Need-none-requires Inv-loop μ-loop
-none-requires c κs = search needs
+places-of-requires : tie.Need-places-of-requires Inv-loop μ-loop
+places-of-requires c κs = search needs
+
+no-entries-requires : tie.Need-no-entries-requires Inv-loop μ-loop
+no-entries-requires c κs = search needs
 
 loop-holds : tie.Need-loop-holds Inv-loop μ-loop
-loop-holds c = (omega arith, subst (Lists (c .none .result)) (sym (below-none (c .before .args .c))) (c .none .ensures))
+loop-holds c =
+    let b = c .before in
+    (omega arith, (ap length (c .no-entries .ensures), gathers-none (b .before .before .args .c .objects) (b .places-of .result) (c .no-entries .result)))
 
-with-next-requires : tie.Need-with-next-requires Inv-loop μ-loop
-with-next-requires c κs = search needs
+array-read-wide : tie.Need-array-read-wide Inv-loop μ-loop
+array-read-wide c = search needs
+
+wide-requires : tie.Need-wide-requires Inv-loop μ-loop
+wide-requires c κs = search needs
 
 add-n : tie.Need-add-n Inv-loop μ-loop
 add-n c = omega arith
+
+both-requires : tie.Need-both-requires Inv-loop μ-loop
+both-requires c κs = search needs
+
+mul-entry-for : tie.Need-mul-entry-for Inv-loop μ-loop
+mul-entry-for c =
+    let b = c .before .before in
+    let t = sym (c .before .both .ensures) ∙ c .if1 .taken in
+    let q = first-fits (b .wide .result) 8 (ltb (b .before .before .loop .count) 8) t in
+    search needs
+
+array-copy-out-entry-for : tie.Need-array-copy-out-entry-for Inv-loop μ-loop
+array-copy-out-entry-for c =
+    let b = c .before .before in
+    first-fits (b .wide .result) 8 (ltb (b .before .before .loop .count) 8) (sym (c .before .both .ensures) ∙ c .if1 .taken)
+
+entry-for-requires : tie.Need-entry-for-requires Inv-loop μ-loop
+entry-for-requires c κs = search needs
+
+mul-entries : tie.Need-mul-entries Inv-loop μ-loop
+mul-entries c =
+    let b = c .before .before .before in
+    let t = sym (b .both .ensures) ∙ c .before .before .if1 .taken in
+    let q = second-fits (ltb (b .before .wide .result) 8) (b .before .before .before .loop .count) 8 t in
+    search needs
+
+array-set-from-entries : tie.Need-array-set-from-entries Inv-loop μ-loop
+array-set-from-entries c =
+    let b = c .before .before .before in
+    let t = sym (b .both .ensures) ∙ c .before .before .if1 .taken in
+    second-fits (ltb (b .before .wide .result) 8) (b .before .before .before .loop .count) 8 t
+
+add-count : tie.Need-add-count Inv-loop μ-loop
+add-count c =
+    let b = c .before .before .before in
+    let t = sym (b .both .ensures) ∙ c .before .before .if1 .taken in
+    let q = second-fits (ltb (b .before .wide .result) 8) (b .before .before .before .loop .count) 8 t in
+    omega arith
 
 loop-less : tie.Need-loop-less Inv-loop μ-loop
 loop-less c = omega arith
 
 loop-again : tie.Need-loop-again Inv-loop μ-loop
 loop-again c =
-    let l = c .before .before .loop in
-    let x = c .before .before .before .before .args in
-    (omega arith, subst (Lists (c .with-next .result)) (sym (below-more (x .c) (l .n))) (c .with-next .ensures _ (l .inv .1)))
+    let b = c .before .before .before in
+    let w = b .before .wide in
+    let l = b .before .before .before .loop in
+    let p = b .before .before .before .before .before in
+    let t = sym (b .both .ensures) ∙ c .before .before .if1 .taken in (
+      omega arith,
+      (
+        search needs,
+        gathers-more (p .before .before .args .c .objects) (p .places-of .result) (l .entries) (l .count) (l .n) (w .result) (omega arith) (w .ensures)
+            (l .inv .1 .1) (c .entry-for .result) (l .inv .1 .0) t (c .entry-for .ensures),
+      ),
+    )
+
+loop-less-2 : tie.Need-loop-less-2 Inv-loop μ-loop
+loop-less-2 c = omega arith
+
+loop-again-2 : tie.Need-loop-again-2 Inv-loop μ-loop
+loop-again-2 c =
+    let b = c .before in
+    let w = b .before .wide in
+    let l = b .before .before .before .loop in
+    let p = b .before .before .before .before .before in
+    let t = sym (b .both .ensures) ∙ c .if1 .left in (
+      omega arith,
+      (
+        l .inv .1 .0,
+        gathers-same (p .before .before .args .c .objects) (p .places-of .result) (l .entries) (l .count) (l .n) (w .result) (omega arith) (w .ensures)
+            (l .inv .1 .1) t,
+      ),
+    )
 
 returns : tie.Need-returns Inv-loop μ-loop
 unfolding entriesOf
 returns c =
     let l = c .before .loop in
+    let p = c .before .before .before in
+    let x = p .before .before .args in
     let last : l .n ≡ 64 = omega arith in
-    subst (λ (n : ℕ). Lists (l .g) (entriesBelow (c .before .before .before .args .c) n)) last (l .inv .1)
+    subst (λ (n : ℕ). Lists (record { entries = l .entries; count = l .count }) (entriesBelow (x .c) n)) last
+    (l .inv .1 .1 (x .c) refl (p .places-of .ensures .1))
 
 pub entries-of-spec : {M : Type 1} → statement M
 entries-of-spec =
@@ -49,10 +127,21 @@ entries-of-spec =
     (tie.spec
     Inv-loop
     μ-loop
-    none-requires
+    places-of-requires
+    no-entries-requires
     loop-holds
-    with-next-requires
+    array-read-wide
+    wide-requires
     add-n
+    both-requires
+    mul-entry-for
+    array-copy-out-entry-for
+    entry-for-requires
+    mul-entries
+    array-set-from-entries
+    add-count
     loop-less
     loop-again
+    loop-less-2
+    loop-again-2
     returns)

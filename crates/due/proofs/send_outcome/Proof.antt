@@ -11,6 +11,9 @@ entries-of-requires c κs = search needs
 write-outcome-requires : tie.Need-write-outcome-requires
 write-outcome-requires c κs = search needs
 
+no-entries-requires : tie.Need-no-entries-requires
+no-entries-requires c κs = search needs
+
 write-outcome-requires-2 : tie.Need-write-outcome-requires-2
 write-outcome-requires-2 c κs = search needs
 
@@ -19,10 +22,9 @@ same-length c = search needs
 
 returns : tie.Need-returns
 returns c =
-    let g = c .before .before .before .before .before .before .before .entries-of in
-    let t = eq-eqb _ 1 (c .before .before .before .before .if1 .taken) in
+    let t = eq-eqb _ 1 (c .before .before .before .before .before .before .if1 .taken) in
     let w = c .before .before .write-outcome .ensures in
-    let e = listed-all _ _ (g .ensures) in
+    let e = listed-all _ _ (c .before .before .before .before .before .entries-of .ensures) in
     (simp t (simp e at (w .0)), simp t (simp e at (w .1)))
 
 same-length-2 : tie.Need-same-length-2
@@ -30,7 +32,7 @@ same-length-2 c = search needs
 
 returns-2 : tie.Need-returns-2
 returns-2 c =
-    let t = ne-eqb _ 1 (c .before .before .before .before .if1 .left) in
+    let t = ne-eqb _ 1 (c .before .before .before .before .before .if1 .left) in
     let w = c .before .before .write-outcome2 .ensures in
     (simp t (w .0), simp t (w .1))
 
@@ -40,6 +42,7 @@ send-outcome-spec =
     (tie.spec
     entries-of-requires
     write-outcome-requires
+    no-entries-requires
     write-outcome-requires-2
     same-length
     returns
