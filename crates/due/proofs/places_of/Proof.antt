@@ -56,7 +56,8 @@ loop-again c =
       omega arith,
       (
         search needs,
-        marks-put (l .loop .places) (x .t1) (x .count) (l .loop .i) (w .result) (omega arith) (search needs) (w .ensures) (l .loop .inv .1 .1) (search needs) t,
+        marks-put (l .loop .places) (x .t1) (x .count) (l .loop .i) (w .result) (omega arith) (search needs) (w .ensures) (l .loop .inv .1 .1)
+            (search needs) t,
       ),
     )
 
