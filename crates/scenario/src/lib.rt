@@ -13,9 +13,6 @@ use script::Said;
 // The longest line.
 pub const LONGEST: usize = 160;
 
-// No line of the input is answered with more bytes.
-pub const ROOM: usize = 16384;
-
 // A line that is being read, its bytes so far, its number, and whether a scenario runs.
 pub struct Reader {
     pub said: Said,

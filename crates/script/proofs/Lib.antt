@@ -1,1 +1,2 @@
--- What the proofs of `script` share.
+-- The words by their letters (Words).
+pub mod Words

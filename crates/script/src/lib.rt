@@ -1,4 +1,4 @@
-// Scenarios as text: what a line says and the step that it names, what is printed for it, and the station that the steps are taken at.
+// What a line of a scenario says, byte by byte, and the step that it names.
 mod line;
 mod naming;
 
