@@ -15,7 +15,7 @@ use Rattle.wire.proofs.Accepted.{length-items}
 use Rattle.record.specs.Record.{givenOk}
 
 module _ {A : Type 0} (at : List ℕ → ℕ → A) (size : ℕ) (l : List ℕ) (d : A) where
-  getD-items : (n i j : ℕ) → j < n → getD (itemsFrom at size n l i) j d ≡ at l (i + size * j)
+  pub getD-items : (n i j : ℕ) → j < n → getD (itemsFrom at size n l i) j d ≡ at l (i + size * j)
   unfolding itemsFrom
   getD-items zero i j h = absurd (let z : ⊥ = omega arith in z)
   getD-items (suc n) i zero h = let e : i ≡ i + size * 0 = omega arith in ap (at l) e

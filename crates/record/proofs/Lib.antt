@@ -4,6 +4,8 @@
 pub mod Made
 pub mod Items
 pub mod Stores
+pub mod Pieces
+pub mod Places
 pub mod OnBytes
 pub mod RoundTrip
 pub mod Kept

@@ -21,7 +21,7 @@ use Rattle.coordinator.specs.declared.Coordinator.{Coordinator}
 use Rattle.clauses.proofs.Parts.{by-test, true-T}
 use Rattle.clauses.proofs.Places.{at}
 use Rattle.clauses.proofs.Fits.{ObjectFits, Fits}
-use Rattle.record.specs.Record.{objectOf, distancesOf, objectsOf, rivalsOf, recordOf, objectBytes, frontBytes, quorumBytes, voteBytes, bytesOf, givenOk}
+use Rattle.record.specs.Record.{frontOf, quorumOf, votesOf, objectOf, distancesOf, objectsOf, rivalsOf, recordOf, objectBytes, frontBytes, quorumBytes, voteBytes, bytesOf, givenOk}
 use Rattle.record.proofs.Made.{made-object, made-record}
 use Rattle.record.proofs.Stores.{length-object, length-front, length-quorum, length-votes}
 
@@ -150,7 +150,7 @@ module _ (c : Coordinator) (f : Fits c) where
   -- the numbers of each piece
   front-read : ((get 4 l 0 ≡ c .serial) × (get 4 l 4 ≡ c .timestamp))
       × ((getD l 8 0 ≡ c .outcome) × ((getD l 9 0 ≡ c .phase) × (get 2 l 10 ≡ c .live)))
-  unfolding bytesOf frontBytes
+  unfolding bytesOf frontOf
   front-read =
       let t8 : List ℕ = c .outcome ∷ c .phase ∷ le 2 (c .live) in
       let t4 : List ℕ = le 4 (c .timestamp) ++ t8 in
@@ -165,7 +165,7 @@ module _ (c : Coordinator) (f : Fits c) where
       )
 
   quorum-read : (get 2 l 38 ≡ c .quorum) × ((get 2 l 40 ≡ c .contacted) × (getD l 42 0 ≡ c .count))
-  unfolding quorumBytes
+  unfolding quorumOf
   quorum-read =
       let t42 : List ℕ = c .count % 256 ∷ [] in
       let t40 : List ℕ = le 2 (c .contacted) ++ t42 in
@@ -179,7 +179,7 @@ module _ (c : Coordinator) (f : Fits c) where
       )
 
   votes-read : (get 2 l 243 ≡ c .participants) × ((get 2 l 245 ≡ c .yes) × (get 2 l 247 ≡ c .done))
-  unfolding voteBytes
+  unfolding votesOf
   votes-read =
       let t245 : List ℕ = le 2 (c .yes) ++ le 2 (c .done) in
       let h243 : drop 243 l ≡ le 2 (c .participants) ++ (t245 ++ R) = at243 ∙ append-assoc (le 2 (c .participants)) t245 R in
@@ -282,7 +282,7 @@ given-each (suc n) l e j h =
 
 -- the record that bytes are has these bytes
 pub bytes-record : (l : List ℕ) → Bytes l → length l ≡ 301 → givenOk 8 l ≡ true → bytesOf (recordOf l) ≡ l
-unfolding bytesOf frontBytes quorumBytes voteBytes recordOf distancesOf objectsOf rivalsOf
+unfolding bytesOf frontOf quorumOf votesOf recordOf distancesOf objectsOf rivalsOf
 bytes-record l b n g =
     let end : drop 301 l ≡ [] = drop-of-length-le l (let z : length l ≤ 301 = omega arith in z) in
     let rivals : drop 249 l ≡ together (le 4) (itemsFrom (get 4) 4 13 l 249) =
@@ -349,7 +349,7 @@ all-bytes (x ∷ l) a zero = a .0
 all-bytes (x ∷ l) a (suc j) = all-bytes l (a .1) j
 
 pub bytes-small : (c : Coordinator) → Fits c → Bytes (bytesOf c)
-unfolding bytesOf frontBytes quorumBytes voteBytes
+unfolding bytesOf frontOf quorumOf votesOf
 bytes-small c f =
     all-bytes (bytesOf c)
     (join (frontBytes c) _

@@ -14,7 +14,7 @@ use Rattle.wire.proofs.Stores.{sets-then, put-then}
 use Rattle.wire.proofs.RoundTrip.{length-together}
 use Rattle.coordinator.specs.declared.Object.{Object}
 use Rattle.coordinator.specs.declared.Coordinator.{Coordinator}
-use Rattle.record.specs.Record.{objectBytes, frontBytes, quorumBytes, voteBytes, bytesOf}
+use Rattle.record.specs.Record.{frontOf, quorumOf, votesOf, objectBytes, frontBytes, quorumBytes, voteBytes, bytesOf}
 
 -- ---- one byte or one number, then the rest
 byte-to : (v : ℕ) (b l : List ℕ) (i j : ℕ) → i + 1 ≡ j → sets l i (v ∷ b) ≡ sets (set l i v) j b
@@ -54,47 +54,48 @@ object-stores x l i =
     ∙ byte-to (cond (x .given) 1 0) t6 l5 (i + 16) (i + 17) (omega arith)
     ∙ sym (put-le 8 l6 (i + 17) (x .new)))
 
-module _ (c : Coordinator) (l : List ℕ) where
-  pub front-stores : put 2 (set (set (put 4 (put 4 l 0 (c .serial)) 4 (c .timestamp)) 8 (c .outcome)) 9 (c .phase)) 10 (c .live) ≡ sets l 0 (frontBytes c)
-  unfolding frontBytes
-  front-stores =
-      let t4 : List ℕ = le 2 (c .live) in
-      let t3 : List ℕ = c .phase ∷ t4 in
-      let t2 : List ℕ = c .outcome ∷ t3 in
-      let t1 : List ℕ = le 4 (c .timestamp) ++ t2 in
-      let l1 : List ℕ = put 4 l 0 (c .serial) in
-      let l2 : List ℕ = put 4 l1 4 (c .timestamp) in
-      let l3 : List ℕ = set l2 8 (c .outcome) in
-      let l4 : List ℕ = set l3 9 (c .phase) in
-      sym
-      (put-to 4 (c .serial) t1 l 0 4 refl
-      ∙ put-to 4 (c .timestamp) t2 l1 4 8 refl
-      ∙ byte-to (c .outcome) t3 l2 8 9 refl
-      ∙ byte-to (c .phase) t4 l3 9 10 refl
-      ∙ sym (put-le 2 l4 10 (c .live)))
+pub front-stores : (serial timestamp outcome phase live : ℕ) (l : List ℕ)
+    → put 2 (set (set (put 4 (put 4 l 0 serial) 4 timestamp) 8 outcome) 9 phase) 10 live ≡ sets l 0 (frontOf serial timestamp outcome phase live)
+unfolding frontOf
+front-stores serial timestamp outcome phase live l =
+    let t4 : List ℕ = le 2 live in
+    let t3 : List ℕ = phase ∷ t4 in
+    let t2 : List ℕ = outcome ∷ t3 in
+    let t1 : List ℕ = le 4 timestamp ++ t2 in
+    let l1 : List ℕ = put 4 l 0 serial in
+    let l2 : List ℕ = put 4 l1 4 timestamp in
+    let l3 : List ℕ = set l2 8 outcome in
+    let l4 : List ℕ = set l3 9 phase in
+    sym
+    (put-to 4 serial t1 l 0 4 refl
+    ∙ put-to 4 timestamp t2 l1 4 8 refl
+    ∙ byte-to outcome t3 l2 8 9 refl
+    ∙ byte-to phase t4 l3 9 10 refl
+    ∙ sym (put-le 2 l4 10 live))
 
-  pub quorum-stores : set (put 2 (put 2 l 38 (c .quorum)) 40 (c .contacted)) 42 (c .count % 256) ≡ sets l 38 (quorumBytes c)
-  unfolding quorumBytes
-  quorum-stores =
-      let t2 : List ℕ = c .count % 256 ∷ [] in
-      let t1 : List ℕ = le 2 (c .contacted) ++ t2 in
-      let l1 : List ℕ = put 2 l 38 (c .quorum) in
-      let l2 : List ℕ = put 2 l1 40 (c .contacted) in
-      sym
-      (put-to 2 (c .quorum) t1 l 38 40 refl
-      ∙ put-to 2 (c .contacted) t2 l1 40 42 refl)
+pub quorum-stores : (quorum contacted count : ℕ) (l : List ℕ)
+    → set (put 2 (put 2 l 38 quorum) 40 contacted) 42 (count % 256) ≡ sets l 38 (quorumOf quorum contacted count)
+unfolding quorumOf
+quorum-stores quorum contacted count l =
+    let t2 : List ℕ = count % 256 ∷ [] in
+    let t1 : List ℕ = le 2 contacted ++ t2 in
+    let l1 : List ℕ = put 2 l 38 quorum in
+    sym
+    (put-to 2 quorum t1 l 38 40 refl
+    ∙ put-to 2 contacted t2 l1 40 42 refl)
 
-  pub vote-stores : put 2 (put 2 (put 2 l 243 (c .participants)) 245 (c .yes)) 247 (c .done) ≡ sets l 243 (voteBytes c)
-  unfolding voteBytes
-  vote-stores =
-      let t2 : List ℕ = le 2 (c .done) in
-      let t1 : List ℕ = le 2 (c .yes) ++ t2 in
-      let l1 : List ℕ = put 2 l 243 (c .participants) in
-      let l2 : List ℕ = put 2 l1 245 (c .yes) in
-      sym
-      (put-to 2 (c .participants) t1 l 243 245 refl
-      ∙ put-to 2 (c .yes) t2 l1 245 247 refl
-      ∙ sym (put-le 2 l2 247 (c .done)))
+pub vote-stores : (participants agreed done : ℕ) (l : List ℕ)
+    → put 2 (put 2 (put 2 l 243 participants) 245 agreed) 247 done ≡ sets l 243 (votesOf participants agreed done)
+unfolding votesOf
+vote-stores participants agreed done l =
+    let t2 : List ℕ = le 2 done in
+    let t1 : List ℕ = le 2 agreed ++ t2 in
+    let l1 : List ℕ = put 2 l 243 participants in
+    let l2 : List ℕ = put 2 l1 245 agreed in
+    sym
+    (put-to 2 participants t1 l 243 245 refl
+    ∙ put-to 2 agreed t2 l1 245 247 refl
+    ∙ sym (put-le 2 l2 247 done))
 
 -- ---- lengths
 pub length-object : (x : Object) → length (objectBytes x) ≡ 25
@@ -103,15 +104,15 @@ length-object x =
     simp length-append (omega (arith, length-le 2 (x .came), length-le 4 (x .version), length-le 8 (x .value), length-le 8 (x .new)))
 
 pub length-front : (c : Coordinator) → length (frontBytes c) ≡ 12
-unfolding frontBytes
+unfolding frontOf
 length-front c = simp length-append (omega (arith, length-le 4 (c .serial), length-le 4 (c .timestamp), length-le 2 (c .live)))
 
 pub length-quorum : (c : Coordinator) → length (quorumBytes c) ≡ 5
-unfolding quorumBytes
+unfolding quorumOf
 length-quorum c = simp length-append (omega (arith, length-le 2 (c .quorum), length-le 2 (c .contacted)))
 
 pub length-votes : (c : Coordinator) → length (voteBytes c) ≡ 6
-unfolding voteBytes
+unfolding votesOf
 length-votes c = simp length-append (omega (arith, length-le 2 (c .participants), length-le 2 (c .yes), length-le 2 (c .done)))
 
 module _ (c : Coordinator) (d13 : length (c .distances) ≡ 13) (o8 : length (c .objects) ≡ 8) (r13 : length (c .rivals) ≡ 13) where

@@ -64,17 +64,24 @@ objectBytes x =
     x .object
     ∷ x .mode ∷ (le 2 (x .came) ++ (le 4 (x .version) ++ (le 8 (x .value) ++ (cond (x .given) 1 0 ∷ le 8 (x .new)))))
 
--- serial, timestamp, outcome, phase, live
-unfoldable pub frontBytes : Coordinator → List ℕ
-frontBytes c = le 4 (c .serial) ++ (le 4 (c .timestamp) ++ (c .outcome ∷ c .phase ∷ le 2 (c .live)))
+-- the numbers in front of the distances, between them and the objects, and behind the objects
+unfoldable pub frontOf : ℕ → ℕ → ℕ → ℕ → ℕ → List ℕ
+frontOf serial timestamp outcome phase live = le 4 serial ++ (le 4 timestamp ++ (outcome ∷ phase ∷ le 2 live))
 
--- quorum, contacted, count
-unfoldable pub quorumBytes : Coordinator → List ℕ
-quorumBytes c = le 2 (c .quorum) ++ (le 2 (c .contacted) ++ (c .count % 256 ∷ []))
+unfoldable pub quorumOf : ℕ → ℕ → ℕ → List ℕ
+quorumOf quorum contacted count = le 2 quorum ++ (le 2 contacted ++ (count % 256 ∷ []))
 
--- participants, yes, done
-unfoldable pub voteBytes : Coordinator → List ℕ
-voteBytes c = le 2 (c .participants) ++ (le 2 (c .yes) ++ le 2 (c .done))
+unfoldable pub votesOf : ℕ → ℕ → ℕ → List ℕ
+votesOf participants agreed done = le 2 participants ++ (le 2 agreed ++ le 2 done)
+
+abbrev pub frontBytes : Coordinator → List ℕ
+frontBytes c = frontOf (c .serial) (c .timestamp) (c .outcome) (c .phase) (c .live)
+
+abbrev pub quorumBytes : Coordinator → List ℕ
+quorumBytes c = quorumOf (c .quorum) (c .contacted) (c .count)
+
+abbrev pub voteBytes : Coordinator → List ℕ
+voteBytes c = votesOf (c .participants) (c .yes) (c .done)
 
 unfoldable pub bytesOf : Coordinator → List ℕ
 bytesOf c =

@@ -1,6 +1,7 @@
 // The coordinator's record as bytes: checked, read and written, and each call on bytes.
 mod calls;
 mod load;
+mod look;
 mod store;
 mod tell;
 mod verify;

@@ -31,7 +31,7 @@ use coordinator::OBJECTS;
 use coordinator::Object;
 
 // The object that starts at a place.
-fn object_of(bytes: &[u8], at: usize) -> Object
+pub(crate) fn object_of(bytes: &[u8], at: usize) -> Object
     requires { ⌜ at < 8192 ⌝ }
     ensures { λ r. ⌜ r ≡ objectOf (now (bytes .entry)) at ⌝ }
 {
@@ -47,7 +47,7 @@ fn object_of(bytes: &[u8], at: usize) -> Object
 }
 
 // The distances, the objects and the rivals' serials.
-fn distances_of(bytes: &[u8]) -> [u16; NODES]
+pub(crate) fn distances_of(bytes: &[u8]) -> [u16; NODES]
     ensures { λ r. ⌜ r ≡ distancesOf (now (bytes .entry)) ⌝ }
 {
     let mut a = [0u16; NODES];
@@ -59,7 +59,7 @@ fn distances_of(bytes: &[u8]) -> [u16; NODES]
     a
 }
 
-fn objects_of(bytes: &[u8]) -> [Object; OBJECTS]
+pub(crate) fn objects_of(bytes: &[u8]) -> [Object; OBJECTS]
     ensures { λ r. ⌜ r ≡ objectsOf (now (bytes .entry)) ⌝ }
 {
     let none = Object {
@@ -81,7 +81,7 @@ fn objects_of(bytes: &[u8]) -> [Object; OBJECTS]
     a
 }
 
-fn rivals_of(bytes: &[u8]) -> [u32; NODES]
+pub(crate) fn rivals_of(bytes: &[u8]) -> [u32; NODES]
     ensures { λ r. ⌜ r ≡ rivalsOf (now (bytes .entry)) ⌝ }
 {
     let mut a = [0u32; NODES];
@@ -94,7 +94,7 @@ fn rivals_of(bytes: &[u8]) -> [u32; NODES]
 }
 
 // A byte as a count.
-fn wide(x: u8) -> usize
+pub(crate) fn wide(x: u8) -> usize
     ensures { λ r. ⌜ r ≡ x ⌝ }
 {
     x as usize

@@ -7,7 +7,7 @@ ghost use lib.Seq.{sets};
 ghost use Rattle.octets.specs.Octets.{le};
 ghost use Rattle.wire.specs.Encode.{together};
 ghost use Rattle.record.specs.Layout.{distancesPlace, quorumPlace, objectsPlace, participantsPlace, rivalsPlace};
-ghost use Rattle.record.specs.Record.{objectBytes, frontBytes, quorumBytes, voteBytes, bytesOf, written};
+ghost use Rattle.record.specs.Record.{objectBytes, frontOf, quorumOf, votesOf, bytesOf, written};
 ghost use Rattle.record.specs.Call.{blankNumber, blankAfter};
 use crate::CAME_IN;
 use crate::CONTACTED;
@@ -53,7 +53,7 @@ fn low(n: usize) -> u8
 }
 
 // An object at a place.
-fn put_object(bytes: &mut [u8], at: usize, x: Object)
+pub(crate) fn put_object(bytes: &mut [u8], at: usize, x: Object)
     requires { ⌜ at < 8192 ⌝ }
     ensures { λ r. ⌜ now (bytes .exit) ≡ sets (now (bytes .entry)) at (objectBytes x) ⌝ }
 {
@@ -67,7 +67,7 @@ fn put_object(bytes: &mut [u8], at: usize, x: Object)
 }
 
 // The distances, the objects and the rivals' serials.
-fn put_distances(bytes: &mut [u8], list: [u16; NODES])
+pub(crate) fn put_distances(bytes: &mut [u8], list: [u16; NODES])
     ensures { λ r. ⌜ now (bytes .exit) ≡ sets (now (bytes .entry)) distancesPlace (together (le 2) list) ⌝ }
     ensures { λ r. ⌜ length list ≡ 13 ⌝ }
 {
@@ -90,7 +90,7 @@ fn put_objects(bytes: &mut [u8], list: [Object; OBJECTS])
     }
 }
 
-fn put_rivals(bytes: &mut [u8], list: [u32; NODES])
+pub(crate) fn put_rivals(bytes: &mut [u8], list: [u32; NODES])
     ensures { λ r. ⌜ now (bytes .exit) ≡ sets (now (bytes .entry)) rivalsPlace (together (le 4) list) ⌝ }
     ensures { λ r. ⌜ length list ≡ 13 ⌝ }
 {
@@ -102,30 +102,37 @@ fn put_rivals(bytes: &mut [u8], list: [u32; NODES])
 }
 
 // The numbers between them.
-fn put_front(bytes: &mut [u8], c: Coordinator)
-    ensures { λ r. ⌜ now (bytes .exit) ≡ sets (now (bytes .entry)) 0 (frontBytes c) ⌝ }
+pub(crate) fn put_front(
+    bytes: &mut [u8],
+    serial: u32,
+    timestamp: u32,
+    outcome: u8,
+    phase: u8,
+    live: u16,
+)
+    ensures { λ r. ⌜ now (bytes .exit) ≡ sets (now (bytes .entry)) 0 (frontOf serial timestamp outcome phase live) ⌝ }
 {
-    octets::put_u32(bytes, SERIAL, c.serial);
-    octets::put_u32(bytes, TIMESTAMP, c.timestamp);
-    octets::put_u8(bytes, OUTCOME, c.outcome);
-    octets::put_u8(bytes, PHASE, c.phase);
-    octets::put_u16(bytes, LIVE, c.live);
+    octets::put_u32(bytes, SERIAL, serial);
+    octets::put_u32(bytes, TIMESTAMP, timestamp);
+    octets::put_u8(bytes, OUTCOME, outcome);
+    octets::put_u8(bytes, PHASE, phase);
+    octets::put_u16(bytes, LIVE, live);
 }
 
-fn put_quorum(bytes: &mut [u8], c: Coordinator)
-    ensures { λ r. ⌜ now (bytes .exit) ≡ sets (now (bytes .entry)) quorumPlace (quorumBytes c) ⌝ }
+pub(crate) fn put_quorum(bytes: &mut [u8], quorum: u16, contacted: u16, count: usize)
+    ensures { λ r. ⌜ now (bytes .exit) ≡ sets (now (bytes .entry)) quorumPlace (quorumOf quorum contacted count) ⌝ }
 {
-    octets::put_u16(bytes, QUORUM, c.quorum);
-    octets::put_u16(bytes, CONTACTED, c.contacted);
-    octets::put_u8(bytes, COUNT, low(c.count));
+    octets::put_u16(bytes, QUORUM, quorum);
+    octets::put_u16(bytes, CONTACTED, contacted);
+    octets::put_u8(bytes, COUNT, low(count));
 }
 
-fn put_votes(bytes: &mut [u8], c: Coordinator)
-    ensures { λ r. ⌜ now (bytes .exit) ≡ sets (now (bytes .entry)) participantsPlace (voteBytes c) ⌝ }
+pub(crate) fn put_votes(bytes: &mut [u8], participants: u16, yes: u16, done: u16)
+    ensures { λ r. ⌜ now (bytes .exit) ≡ sets (now (bytes .entry)) participantsPlace (votesOf participants yes done) ⌝ }
 {
-    octets::put_u16(bytes, PARTICIPANTS, c.participants);
-    octets::put_u16(bytes, YES, c.yes);
-    octets::put_u16(bytes, DONE, c.done);
+    octets::put_u16(bytes, PARTICIPANTS, participants);
+    octets::put_u16(bytes, YES, yes);
+    octets::put_u16(bytes, DONE, done);
 }
 
 // The whole record from the front on.
@@ -136,11 +143,11 @@ fn fill(bytes: &mut [u8], c: Coordinator)
     let distances = c.distances;
     let objects = c.objects;
     let rivals = c.rivals;
-    put_front(bytes, c);
+    put_front(bytes, c.serial, c.timestamp, c.outcome, c.phase, c.live);
     put_distances(bytes, distances);
-    put_quorum(bytes, c);
+    put_quorum(bytes, c.quorum, c.contacted, c.count);
     put_objects(bytes, objects);
-    put_votes(bytes, c);
+    put_votes(bytes, c.participants, c.yes, c.done);
     put_rivals(bytes, rivals);
 }
 

@@ -35,7 +35,7 @@ returns c =
       b8 .before .before .before .before .before .before .put-u322 .ensures,
       b16 .before .before .put-u32 .ensures,
     )
-    (front-stores (x .c) (now (x .bytes)))
+    (front-stores (x .serial) (x .timestamp) (x .outcome) (x .phase) (x .live) (now (x .bytes)))
 
 pub put-front-spec : {M : Type 1} → statement M
 put-front-spec =

@@ -29,7 +29,7 @@ returns c =
       c .before .before .before .before .before .before .before .put-u162 .ensures,
       c .before .before .before .before .before .before .before .before .before .before .before .put-u16 .ensures,
     )
-    (quorum-stores (x .c) (now (x .bytes)))
+    (quorum-stores (x .quorum) (x .contacted) (x .count) (now (x .bytes)))
 
 pub put-quorum-spec : {M : Type 1} → statement M
 put-quorum-spec =

@@ -25,7 +25,7 @@ returns c =
       c .before .before .before .before .before .before .put-u162 .ensures,
       c .before .before .before .before .before .before .before .before .before .before .put-u16 .ensures,
     )
-    (vote-stores (x .c) (now (x .bytes)))
+    (vote-stores (x .participants) (x .yes) (x .done) (now (x .bytes)))
 
 pub put-votes-spec : {M : Type 1} → statement M
 put-votes-spec =

@@ -1,0 +1,81 @@
+// What the bytes of a record say, read where they stand.
+ghost use mathlib.Core.Path.{_≡_};
+ghost use Prim.Native.Nat.{ℕ, _≤_, _<_};
+ghost use lib.ListN.{length, getD};
+ghost use Rattle.coordinator.specs.State.{noObject, placeOf, awaited};
+ghost use Rattle.record.specs.Record.{objectsOf, recordOf};
+use crate::CONTACTED;
+use crate::COUNT;
+use crate::OBJECT_SIZE;
+use crate::OBJECTS_PLACE;
+use crate::PARTICIPANTS;
+use crate::PHASE;
+use crate::load::object_of;
+use crate::load::wide;
+use coordinator::OBJECTS;
+use coordinator::Object;
+
+// The phase; and every byte is one.
+pub(crate) fn phase(bytes: &[u8]) -> u8
+    requires { ⌜ length (now bytes) ≡ 301 ⌝ }
+    ensures { λ r. ⌜ r ≡ recordOf (now (bytes .entry)) .phase ⌝ }
+    ensures { λ r. ⌜ ((j : ℕ) → getD (now (bytes .entry)) j 0 < 256) ⌝ }
+{
+    bytes[PHASE]
+}
+
+// How many objects are open.
+pub(crate) fn count(bytes: &[u8]) -> usize
+    ensures { λ r. ⌜ r ≡ recordOf (now (bytes .entry)) .count ⌝ }
+{
+    wide(octets::get_u8(bytes, COUNT))
+}
+
+// The place of an opened object; 8 where it is not open.
+pub(crate) fn place(bytes: &[u8], object: u8) -> usize
+    requires { ⌜ (length (now bytes) ≡ 301) × (recordOf (now bytes) .count ≤ 8) ⌝ }
+    ensures { λ r. ⌜ r ≡ placeOf (recordOf (now (bytes .entry))) object ⌝ }
+{
+    let n = count(bytes);
+    let mut i = 0;
+    let mut at = OBJECTS_PLACE;
+    while i < n {
+        if bytes[at] == object {
+            return i;
+        }
+        i += 1;
+        at += OBJECT_SIZE;
+    }
+    OBJECTS
+}
+
+// The object at a place; a blank one past the last place.
+pub(crate) fn object_at(bytes: &[u8], p: usize) -> Object
+    ensures { λ r. ⌜ r ≡ getD (objectsOf (now (bytes .entry))) p noObject ⌝ }
+{
+    if p < OBJECTS {
+        object_of(bytes, OBJECTS_PLACE + OBJECT_SIZE * p)
+    } else {
+        Object {
+            object: 0,
+            mode: 0,
+            came: 0,
+            version: 0,
+            value: 0,
+            given: false,
+            new: 0,
+        }
+    }
+}
+
+// Who must say done: the participants, when never voted the contacted nodes.
+pub(crate) fn awaited_in(bytes: &[u8]) -> u16
+    ensures { λ r. ⌜ r ≡ awaited (recordOf (now (bytes .entry))) ⌝ }
+{
+    let participants = octets::get_u16(bytes, PARTICIPANTS);
+    if participants == 0 {
+        octets::get_u16(bytes, CONTACTED)
+    } else {
+        participants
+    }
+}
