@@ -48,8 +48,8 @@ pub(crate) fn wide(m: u16) -> u64
     m as u64
 }
 
-// The set of a choice, and whether there is none.
-pub(crate) fn mask_of(x: Choice) -> u16
+// The set of a choice, and whether there is none. Ruled out: the sum of distances; 'none' for a choice at distance 0.
+pub fn mask_of(x: Choice) -> u16
     ensures { λ r. ⌜ r ≡ maskOf x ⌝ }
 {
     match x {
@@ -58,7 +58,7 @@ pub(crate) fn mask_of(x: Choice) -> u16
     }
 }
 
-pub(crate) fn is_none(x: Choice) -> bool
+pub fn is_none(x: Choice) -> bool
     ensures { λ r. ⌜ r ≡ isNone x ⌝ }
 {
     match x {

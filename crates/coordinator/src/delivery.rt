@@ -2,6 +2,7 @@
 ghost use mathlib.Core.Path.{_≡_};
 ghost use Rattle.numbers.specs.Refusal.{firstOf};
 ghost use Rattle.wire.specs.Decode.{rivalCount};
+ghost use Rattle.coordinator.specs.declared.Coordinator.{Coordinator};
 ghost use Rattle.coordinator.specs.System.{tree};
 ghost use Rattle.coordinator.specs.Receive.{brought, answers, withCopy, copyFits, copyTaken, raise, raiseFrom, withYes, voteTaken};
 ghost use Rattle.coordinator.specs.Receive.{withDone, doneTaken, yieldTaken, delivered, receiveRefusals, receiveOf};
@@ -53,8 +54,8 @@ fn is_answer(c: Coordinator, phase: u8, nodes: u16, m: &[u8]) -> bool
     both(c.phase == phase, both(wire::serial(m) == c.serial, same))
 }
 
-// The object with a copy that came: the highest version, the first such copy.
-fn copied(x: Object, from: u8, e: Entry) -> Object
+// The object with a copy that came: the highest version, the first such copy. Ruled out: a later copy of the same version; the node not counted.
+pub fn copied(x: Object, from: u8, e: Entry) -> Object
     ensures { λ r. ⌜ r ≡ withCopy x from e ⌝ }
 {
     let mut y = x;
@@ -158,7 +159,8 @@ fn raised(rivals: [u32; NODES], r: Rival) -> [u32; NODES]
     a
 }
 
-fn raised_by(rivals: [u32; NODES], m: &[u8]) -> [u32; NODES]
+// The serials with every rival that a message names. Ruled out: the last serial named for an owner where an earlier one was higher; the first rival alone.
+pub fn raised_by(rivals: [u32; NODES], m: &[u8]) -> [u32; NODES]
     ensures { λ x. ⌜ x ≡ raiseFrom (now (m .entry)) (rivalCount (now (m .entry))) 0 rivals ⌝ }
 {
     let mut a = rivals;
@@ -202,9 +204,9 @@ fn deliver(c: Coordinator, m: &[u8]) -> Step
     }
 }
 
-// The number of a delivery.
-fn receive_number(c: Coordinator, me: u8, m: &[u8]) -> u8
-    ensures { λ r. ⌜ r ≡ firstOf (receiveRefusals c me (now (m .entry))) ⌝ }
+// The number of a delivery, whatever the record is. Ruled out: 'out of turn' for a message to another node; 0 for an ask.
+pub fn receive_number(me: u8, m: &[u8]) -> u8
+    ensures { λ r. ⌜ ((c : Coordinator) → r ≡ firstOf (receiveRefusals c me (now (m .entry)))) ⌝ }
 {
     let kind = wire::kind(m);
     let other = either(
@@ -227,7 +229,7 @@ fn receive_number(c: Coordinator, me: u8, m: &[u8]) -> u8
 pub fn receive(c: Coordinator, me: u8, m: &[u8]) -> Step
     ensures { λ r. ⌜ r ≡ receiveOf tree c me (now (m .entry)) ⌝ }
 {
-    let number = receive_number(c, me, m);
+    let number = receive_number(me, m);
     if number != 0 {
         return refused(number, c);
     }

@@ -9,3 +9,4 @@ pub mod Places
 pub mod OnBytes
 pub mod RoundTrip
 pub mod Kept
+pub mod Stored

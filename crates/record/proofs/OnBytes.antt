@@ -13,10 +13,11 @@ use Rattle.wire.specs.Write.{answer}
 use Rattle.coordinator.specs.declared.Coordinator.{Coordinator}
 use Rattle.coordinator.specs.declared.Step.{Step}
 use Rattle.coordinator.specs.System.{tree}
+use Rattle.coordinator.specs.State.{stepOf}
 use Rattle.coordinator.specs.Receive.{receiveRefusals, receiveOf}
 use Rattle.due.specs.Due.{dueWritten, dueBuffer}
-use Rattle.record.specs.Record.{recordOf, check}
-use Rattle.record.specs.Call.{called, calledOf, kept, recordAfter, receivedOf, dueFirst, recordDue, recordDueBuffer}
+use Rattle.record.specs.Record.{recordOf, bytesOf, check}
+use Rattle.record.specs.Call.{called, toldBy, calledOf, kept, recordAfter, receivedOf, dueFirst, recordDue, recordDueBuffer}
 
 -- bytes that are a record have its length
 long : (b : Bool) (n : ℕ) → cond b n 1 ≡ 0 → b ≡ true
@@ -99,3 +100,21 @@ module _ (l : List ℕ) (me node object : ℕ) where
   unfolding recordDueBuffer
   due-filled out e c p =
       simp (eq-eqb (firstOf (dueFirst l (length out))) 0 e) (ap (λ (x : Coordinator). dueBuffer tree x me node object out) p)
+
+-- ---- a step by value: refused, it leaves the bytes; taken, it leaves those of its record
+module _ (n a : ℕ) (c d : Coordinator) (l : List ℕ) where
+  pub told-refused : (m : ℕ) → m ≡ n → (m ≡ 0 → ⊥) → called m 0 ≡ toldBy (stepOf n a c d)
+  unfolding stepOf
+  told-refused m e h = simp (ne-eqb n 0 (λ z. h (e ∙ z))) (ap (λ (k : ℕ). called k 0) e)
+
+  pub kept-refused : (m : ℕ) → m ≡ n → (m ≡ 0 → ⊥) → l ≡ kept (stepOf n a c d) l
+  unfolding stepOf kept
+  kept-refused m e h = let t : eqb n 0 ≡ false = ne-eqb n 0 (λ z. h (e ∙ z)) in simp (t, t)
+
+  pub told-taken : n ≡ 0 → called 0 a ≡ toldBy (stepOf n a c d)
+  unfolding stepOf
+  told-taken e = simp (eq-eqb n 0 e)
+
+  pub kept-taken : n ≡ 0 → bytesOf d ≡ kept (stepOf n a c d) l
+  unfolding stepOf kept
+  kept-taken e = simp (eq-eqb n 0 e)

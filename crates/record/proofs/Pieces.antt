@@ -1,13 +1,13 @@
 -- A record changed in place: other bytes stored over one piece of a record's bytes give the bytes of the record with that piece changed.
 use mathlib.Core.Path.{_≡_, refl, sym, ap, _∙_}
-use mathlib.Core.List.{List, [], _∷_, _++_}
+use mathlib.Core.List.{List, [], _∷_, _++_, append-nil}
 use Prim.Native.Nat.{ℕ, zero, suc, _+_, _*_, _≤_, _<_}
 use native.Mathlib.Nat.{mul-suc}
 use native.Mathlib.Omega.{arith}
 use lib.ListN.{length, set, drop, length-append, length-set}
 use lib.Seq.{sets, sets-eq, drop-append-seam}
-use Rattle.octets.specs.Octets.{le}
-use Rattle.octets.proofs.Laws.{length-le}
+use Rattle.octets.specs.Octets.{put, le}
+use Rattle.octets.proofs.Laws.{put-le, length-le}
 use Rattle.wire.specs.Encode.{together}
 use Rattle.wire.proofs.RoundTrip.{length-together}
 use Rattle.coordinator.specs.declared.Object.{Object}
@@ -22,6 +22,9 @@ over x y v n e f =
     let h : 0 + length v ≤ length (x ++ y) = omega (arith, length-append x y) in
     let z : 0 + length v ≡ length x = omega arith in
     sets-eq v (x ++ y) 0 h ∙ ap (λ (k : ℕ). v ++ drop k (x ++ y)) z ∙ ap (_++_ v) (drop-append-seam x y)
+
+all-over : (x v : List ℕ) (n : ℕ) → length x ≡ n → length v ≡ n → sets x 0 v ≡ v
+all-over x v n e f = ap (λ (l : List ℕ). sets l 0 v) (sym (append-nil x)) ∙ over x [] v n e f ∙ append-nil v
 
 set-first : (x y : List ℕ) (i a : ℕ) → i < length x → set (x ++ y) i a ≡ set x i a ++ y
 set-first [] y i a h = absurd (let z : ⊥ = omega arith in z)
@@ -105,13 +108,18 @@ module _ (c : Coordinator) (d13 : length (c .distances) ≡ 13) (o8 : length (c 
       ∙ ap (λ (l : List ℕ). F ++ (D ++ (Q ++ l))) (past O (W ++ R) v i 200 (200 + i) O200 refl)
 
   -- ---- each piece changed
-  pub front-changed : (outcome phase : ℕ)
-      → sets (bytesOf c) 0 (frontOf (c .serial) (c .timestamp) outcome phase (c .live))
-      ≡ bytesOf (withPhase c phase outcome (c .participants) (c .yes) (c .done) (c .rivals))
-  unfolding bytesOf
-  front-changed outcome phase =
-      let d : Coordinator = withPhase c phase outcome (c .participants) (c .yes) (c .done) (c .rivals) in
-      over F (D ++ (Q ++ (O ++ (W ++ R)))) (frontOf (c .serial) (c .timestamp) outcome phase (c .live)) 12 (length-front c) (length-front d)
+  -- outcome and phase
+  pub turned : (outcome phase : ℕ)
+      → set (set (bytesOf c) 8 outcome) 9 phase ≡ bytesOf (withPhase c phase outcome (c .participants) (c .yes) (c .done) (c .rivals))
+  unfolding bytesOf frontOf
+  turned outcome phase =
+      let rest : List ℕ = D ++ (Q ++ (O ++ (W ++ R))) in
+      let t8 : List ℕ = c .outcome ∷ c .phase ∷ le 2 (c .live) in
+      let v : List ℕ = outcome ∷ phase ∷ [] in
+      within-first v F rest 8 (omega (arith, length-front c))
+      ∙ ap (λ (l : List ℕ). l ++ rest)
+      (past (le 4 (c .serial)) (le 4 (c .timestamp) ++ t8) v 4 4 8 (length-le 4 (c .serial)) refl
+      ∙ ap (_++_ (le 4 (c .serial))) (past (le 4 (c .timestamp)) t8 v 0 4 4 (length-le 4 (c .timestamp)) refl))
 
   pub quorum-changed : (contacted count : ℕ)
       → sets (bytesOf c) 38 (quorumOf (c .quorum) contacted count) ≡ bytesOf (withObjects c contacted count (c .objects))
@@ -130,10 +138,54 @@ module _ (c : Coordinator) (d13 : length (c .distances) ≡ 13) (o8 : length (c 
       (within-first (objectBytes x) O (W ++ R) (25 * p) (omega (arith, length-object x, O200))
       ∙ ap (λ (l : List ℕ). l ++ (W ++ R)) (item-over objectBytes 25 length-object (c .objects) p x (omega arith)))
 
-  pub votes-changed : (participants agreed done : ℕ)
-      → sets (bytesOf c) 243 (votesOf participants agreed done) ≡ bytesOf (withPhase c (c .phase) (c .outcome) participants agreed done (c .rivals))
+  -- participants, yes, done
+  votes-put : (i n v : ℕ) (w : List ℕ) → 243 + i ≡ n → put 2 W i v ≡ w → i + 2 ≤ 6 → put 2 (bytesOf c) n v ≡ F ++ (D ++ (Q ++ (O ++ (w ++ R))))
+  votes-put i n v w e f h =
+      put-le 2 (bytesOf c) n v
+      ∙ past-objects (le 2 v) i n e
+      ∙ ap (λ (l : List ℕ). F ++ (D ++ (Q ++ (O ++ l))))
+      (within-first (le 2 v) W R i (omega (arith, length-le 2 v, length-votes c)) ∙ ap (λ (l : List ℕ). l ++ R) (sym (put-le 2 W i v) ∙ f))
+
+  -- the three numbers of the votes, each put anew
+  first-put : (v : ℕ) → put 2 W 0 v ≡ votesOf v (c .yes) (c .done)
+  unfolding votesOf
+  first-put v =
+      put-le 2 W 0 v ∙ over (le 2 (c .participants)) (le 2 (c .yes) ++ le 2 (c .done)) (le 2 v) 2 (length-le 2 (c .participants)) (length-le 2 v)
+
+  second-put : (v : ℕ) → put 2 W 2 v ≡ votesOf (c .participants) v (c .done)
+  unfolding votesOf
+  second-put v =
+      put-le 2 W 2 v
+      ∙ past (le 2 (c .participants)) (le 2 (c .yes) ++ le 2 (c .done)) (le 2 v) 0 2 2 (length-le 2 (c .participants)) refl
+      ∙ ap (_++_ (le 2 (c .participants))) (over (le 2 (c .yes)) (le 2 (c .done)) (le 2 v) 2 (length-le 2 (c .yes)) (length-le 2 v))
+
+  third-put : (v : ℕ) → put 2 W 4 v ≡ votesOf (c .participants) (c .yes) v
+  unfolding votesOf
+  third-put v =
+      put-le 2 W 4 v
+      ∙ past (le 2 (c .participants)) (le 2 (c .yes) ++ le 2 (c .done)) (le 2 v) 2 2 4 (length-le 2 (c .participants)) refl
+      ∙ ap (_++_ (le 2 (c .participants)))
+      (past (le 2 (c .yes)) (le 2 (c .done)) (le 2 v) 0 2 2 (length-le 2 (c .yes)) refl
+      ∙ ap (_++_ (le 2 (c .yes))) (all-over (le 2 (c .done)) (le 2 v) 2 (length-le 2 (c .done)) (length-le 2 v)))
+
+  pub participants-put : (v : ℕ) → put 2 (bytesOf c) 243 v ≡ bytesOf (withPhase c (c .phase) (c .outcome) v (c .yes) (c .done) (c .rivals))
   unfolding bytesOf
-  votes-changed participants agreed done =
-      let d : Coordinator = withPhase c (c .phase) (c .outcome) participants agreed done (c .rivals) in
-      past-objects (votesOf participants agreed done) 0 243 refl
-      ∙ ap (λ (l : List ℕ). F ++ (D ++ (Q ++ (O ++ l)))) (over W R (votesOf participants agreed done) 6 (length-votes c) (length-votes d))
+  participants-put v = votes-put 0 243 v (votesOf v (c .yes) (c .done)) refl (first-put v) (omega arith)
+
+  pub yes-put : (v : ℕ) → put 2 (bytesOf c) 245 v ≡ bytesOf (withPhase c (c .phase) (c .outcome) (c .participants) v (c .done) (c .rivals))
+  unfolding bytesOf
+  yes-put v = votes-put 2 245 v (votesOf (c .participants) v (c .done)) refl (second-put v) (omega arith)
+
+  pub done-put : (v : ℕ) → put 2 (bytesOf c) 247 v ≡ bytesOf (withPhase c (c .phase) (c .outcome) (c .participants) (c .yes) v (c .rivals))
+  unfolding bytesOf
+  done-put v = votes-put 4 247 v (votesOf (c .participants) (c .yes) v) refl (third-put v) (omega arith)
+
+  -- the rivals' serials
+  pub rivals-changed : (rivals : List ℕ) → length rivals ≡ 13
+      → sets (bytesOf c) 249 (together (le 4) rivals) ≡ bytesOf (withPhase c (c .phase) (c .outcome) (c .participants) (c .yes) (c .done) rivals)
+  unfolding bytesOf
+  rivals-changed rivals n =
+      let v : List ℕ = together (le 4) rivals in
+      let m : length v ≡ 52 = omega (arith, length-together (le 4) 4 (length-le 4) rivals) in
+      past-objects v 6 249 refl
+      ∙ ap (λ (l : List ℕ). F ++ (D ++ (Q ++ (O ++ l)))) (past W R v 0 6 6 (length-votes c) refl ∙ ap (_++_ W) (all-over R v 52 R52 m))

@@ -21,9 +21,12 @@ use Rattle.record.specs.Record.{recordOf, bytesOf, check}
 abbrev pub called : ℕ → ℕ → Called
 called number answer = record { number = number; answer = answer }
 
--- what the caller is told
+-- what the caller is told: of a step, and of a call on bytes
+abbrev pub toldBy : Step → Called
+toldBy s = called (s .number) (s .answer)
+
 unfoldable pub calledOf : (Coordinator → Step) → List ℕ → Called
-calledOf f l = cond (eqb (check l) 0) (called (f (recordOf l) .number) (f (recordOf l) .answer)) (called (check l) 0)
+calledOf f l = cond (eqb (check l) 0) (toldBy (f (recordOf l))) (called (check l) 0)
 
 -- the bytes after a step, and after a call
 unfoldable pub kept : Step → List ℕ → List ℕ

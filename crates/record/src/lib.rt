@@ -1,5 +1,7 @@
 // The coordinator's record as bytes: checked, read and written, and each call on bytes.
+mod arrive;
 mod calls;
+mod deeds;
 mod load;
 mod look;
 mod store;

@@ -1,6 +1,6 @@
 // What the bytes of a record say, read where they stand.
 ghost use mathlib.Core.Path.{_≡_};
-ghost use Prim.Native.Nat.{ℕ, _≤_, _<_};
+ghost use Prim.Native.Nat.{_≤_};
 ghost use lib.ListN.{length, getD};
 ghost use Rattle.coordinator.specs.State.{noObject, placeOf, awaited};
 ghost use Rattle.record.specs.Record.{objectsOf, recordOf};
@@ -15,13 +15,11 @@ use crate::load::wide;
 use coordinator::OBJECTS;
 use coordinator::Object;
 
-// The phase; and every byte is one.
+// The phase.
 pub(crate) fn phase(bytes: &[u8]) -> u8
-    requires { ⌜ length (now bytes) ≡ 301 ⌝ }
     ensures { λ r. ⌜ r ≡ recordOf (now (bytes .entry)) .phase ⌝ }
-    ensures { λ r. ⌜ ((j : ℕ) → getD (now (bytes .entry)) j 0 < 256) ⌝ }
 {
-    bytes[PHASE]
+    octets::get_u8(bytes, PHASE)
 }
 
 // How many objects are open.
@@ -34,7 +32,7 @@ pub(crate) fn count(bytes: &[u8]) -> usize
 // The place of an opened object; 8 where it is not open.
 pub(crate) fn place(bytes: &[u8], object: u8) -> usize
     requires { ⌜ (length (now bytes) ≡ 301) × (recordOf (now bytes) .count ≤ 8) ⌝ }
-    ensures { λ r. ⌜ r ≡ placeOf (recordOf (now (bytes .entry))) object ⌝ }
+    ensures { λ r. ⌜ (r ≡ placeOf (recordOf (now (bytes .entry))) object) × (r ≤ 8) ⌝ }
 {
     let n = count(bytes);
     let mut i = 0;

@@ -36,7 +36,7 @@ refuse-requires-4 c κs = search needs
 
 returns : tie.Need-returns
 unfolding receiveRefusals
-returns c = cc
+returns c = λ d. cc
 
 pub receive-number-spec : {M : Type 1} → statement M
 receive-number-spec =

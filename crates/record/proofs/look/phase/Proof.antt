@@ -1,17 +1,15 @@
--- `record::look::phase`: its byte, and what is known of every byte of a slice.
-use mathlib.Core.Path.{refl}
-use native.Mathlib.Omega.{arith}
+-- `record::look::phase`: its byte.
 use Rattle.record.specs.Record.{recordOf}
 use borrow.Author.Needs.{needs}
 use Rattle.record.proofs.look.phase.Statement.{statement}
 use Rattle.record.proofs.look.phase.Tie as tie
 
-shared-slice-read-result : tie.Need-shared-slice-read-result
-shared-slice-read-result c = search needs
+get-u8-requires : tie.Need-get-u8-requires
+get-u8-requires c κs = search needs
 
 returns : tie.Need-returns
 unfolding recordOf
-returns c = (refl, λ j. omega (arith, c .shared-slice-known .given j))
+returns c = c .get-u8 .ensures
 
 pub phase-spec : {M : Type 1} → statement M
-phase-spec = tie.close (tie.spec shared-slice-read-result returns)
+phase-spec = tie.close (tie.spec get-u8-requires returns)

@@ -35,10 +35,12 @@ returns c =
     let k = c .before .before .before .loop in
     let z = k .inv .1 .0 in
     let h : getD (now (x .bytes)) (43 + 25 * k .i) 0 ≡ x .object = ap (λ (j : ℕ). getD (now (x .bytes)) j 0) (sym z) ∙ c .if1 .taken in
+    let found =
     place-here (now (x .bytes)) (n .result) (x .object) (k .i) (omega (arith, n .ensures)) (omega arith) h
     ∙ k .inv .1 .1
     ∙ place-start (now (x .bytes)) (n .result) (x .object)
-    ∙ ap (λ (j : ℕ). placeIn (objectsOf (now (x .bytes))) j (x .object)) (n .ensures)
+    ∙ ap (λ (j : ℕ). placeIn (objectsOf (now (x .bytes))) j (x .object)) (n .ensures) in
+    (found, omega (arith, n .ensures))
 
 add-i : tie.Need-add-i Inv-loop μ-loop
 add-i c = search needs
@@ -66,10 +68,12 @@ returns-2 c =
     let x = c .before .before .before .before .args in
     let n = c .before .before .count in
     let k = c .before .loop in
+    let none =
     sym (place-past (now (x .bytes)) (n .result) (x .object) (k .i) (omega arith))
     ∙ k .inv .1 .1
     ∙ place-start (now (x .bytes)) (n .result) (x .object)
-    ∙ ap (λ (j : ℕ). placeIn (objectsOf (now (x .bytes))) j (x .object)) (n .ensures)
+    ∙ ap (λ (j : ℕ). placeIn (objectsOf (now (x .bytes))) j (x .object)) (n .ensures) in
+    (none, omega arith)
 
 pub place-spec : {M : Type 1} → statement M
 place-spec =

@@ -1,0 +1,41 @@
+-- `record::arrive::become_idle`: a blank record but for serial, timestamp and outcome.
+use denote.Ref.{now}
+use lib.ListN.{length}
+use borrow.Author.Tests.{eq-eqb}
+use Rattle.coordinator.specs.State.{idleAfter}
+use Rattle.record.specs.Record.{recordOf, written}
+use borrow.Author.Needs.{needs}
+use Rattle.record.proofs.arrive.become_idle.Statement.{statement}
+use Rattle.record.proofs.arrive.become_idle.Tie as tie
+
+blank-requires : tie.Need-blank-requires
+blank-requires c κs = search needs
+
+get-u32-requires : tie.Need-get-u32-requires
+get-u32-requires c κs = search needs
+
+get-u32-requires-2 : tie.Need-get-u32-requires-2
+get-u32-requires-2 c κs = search needs
+
+write-requires : tie.Need-write-requires
+write-requires c κs = search needs
+
+same-length : tie.Need-same-length
+same-length c = search needs
+
+returns : tie.Need-returns
+unfolding written recordOf idleAfter
+returns c =
+    let full = eq-eqb (length (now (c .before .before .before .before .before .before .before .before .before .before .args .bytes))) 301 (c .before .before .before .before .before .before .before .before .before .before .pre) in
+    rw (c .before .before .write .ensures) (simp (full, c .before .before .before .before .before .before .before .before .blank .ensures, c .before .before .before .before .get-u322 .ensures, c .before .before .before .before .before .before .get-u32 .ensures))
+
+pub become-idle-spec : {M : Type 1} → statement M
+become-idle-spec =
+    tie.close
+    (tie.spec
+    blank-requires
+    get-u32-requires
+    get-u32-requires-2
+    write-requires
+    same-length
+    returns)

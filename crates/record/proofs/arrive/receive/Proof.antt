@@ -1,0 +1,48 @@
+-- `record::arrive::receive`: a number refuses; 0 delivers.
+use mathlib.Core.Path.{sym, _∙_}
+use denote.Ref.{now}
+use borrow.Author.Tests.{eq-eqb, ne-eqb}
+use Rattle.coordinator.specs.Receive.{receiveOf}
+use Rattle.record.specs.Record.{recordOf}
+use Rattle.record.specs.Call.{kept}
+use borrow.Author.Needs.{needs}
+use Rattle.record.proofs.arrive.receive.Statement.{statement}
+use Rattle.record.proofs.arrive.receive.Tie as tie
+
+receive-number-requires : tie.Need-receive-number-requires
+receive-number-requires c κs = search needs
+
+refused-requires : tie.Need-refused-requires
+refused-requires c κs = search needs
+
+returns : tie.Need-returns
+unfolding receiveOf kept
+returns c =
+    let e = sym (c .before .before .receive-number .ensures (recordOf (now (c .before .before .before .before .before .args .bytes)))) in
+    let t = ne-eqb _ 0 (c .before .if1 .taken) in
+    (c .refused .ensures ∙ simp (e, t), simp (e, t, t))
+
+deliver-requires : tie.Need-deliver-requires
+deliver-requires c κs = search needs
+
+same-length : tie.Need-same-length
+same-length c = search needs
+
+returns-2 : tie.Need-returns-2
+unfolding receiveOf
+returns-2 c =
+    let e = sym (c .before .before .before .before .before .receive-number .ensures (recordOf (now (c .before .before .before .before .before .before .before .before .args .bytes)))) in
+    let t = eq-eqb _ 0 (c .before .before .before .before .if1 .left) in
+    let w = c .before .before .deliver .ensures in
+    (w .0 ∙ simp (e, t), w .1 ∙ simp (e, t))
+
+pub receive-spec : {M : Type 1} → statement M
+receive-spec =
+    tie.close
+    (tie.spec
+    receive-number-requires
+    refused-requires
+    returns
+    deliver-requires
+    same-length
+    returns-2)

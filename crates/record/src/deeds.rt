@@ -1,0 +1,149 @@
+// The host's calls on the bytes of a record: each finds its number, and changes the pieces of the record that it must.
+ghost use mathlib.Core.Path.{_≡_};
+ghost use Prim.Native.Nat.{_≤_};
+ghost use lib.ListN.{length};
+ghost use Rattle.numbers.specs.Refusal.{firstOf};
+ghost use Rattle.coordinator.specs.System.{tree};
+ghost use Rattle.coordinator.specs.State.{objectAt};
+ghost use Rattle.coordinator.specs.Calls.{openRefusals, openOf, setRefusals, setOf, foundRefusals, foundOf};
+ghost use Rattle.record.specs.Record.{recordOf, check};
+ghost use Rattle.record.specs.Call.{called, toldBy, kept};
+use crate::CONTACTED;
+use crate::Called;
+use crate::OBJECT_SIZE;
+use crate::OBJECTS_PLACE;
+use crate::QUORUM;
+use crate::look::count;
+use crate::look::object_at;
+use crate::look::phase;
+use crate::look::place;
+use crate::store::put_object;
+use crate::store::put_quorum;
+use coordinator::IDLE;
+use coordinator::OBJECTS;
+use coordinator::OPEN;
+use coordinator::Object;
+use numbers::either;
+use numbers::refuse;
+
+const OBJECTS_END: u8 = 64;
+
+// A call that is refused, and one that is taken.
+pub(crate) fn refused(number: u8) -> Called
+    ensures { λ r. ⌜ r ≡ called number 0 ⌝ }
+{
+    Called { number, answer: 0 }
+}
+
+pub(crate) fn taken(answer: u64) -> Called
+    ensures { λ r. ⌜ r ≡ called 0 answer ⌝ }
+{
+    Called { number: 0, answer }
+}
+
+// An opened object; a blank one for an object that is not open.
+pub(crate) fn object_named(bytes: &[u8], object: u8) -> Object
+    requires { ⌜ (length (now bytes) ≡ 301) × (recordOf (now bytes) .count ≤ 8) ⌝ }
+    ensures { λ r. ⌜ r ≡ objectAt (recordOf (now (bytes .entry))) object ⌝ }
+{
+    object_at(bytes, place(bytes, object))
+}
+
+// The number of an open.
+fn open_number(bytes: &[u8], me: u8, object: u8) -> u8
+    requires { ⌜ (length (now bytes) ≡ 301) × (recordOf (now bytes) .count ≤ 8) ⌝ }
+    ensures { λ r. ⌜ r ≡ firstOf (openRefusals (recordOf (now (bytes .entry))) me object) ⌝ }
+{
+    let ninth = refuse(numbers::EIGHT_OPEN, !(count(bytes) < OBJECTS), 0);
+    let here = place(bytes, object) < OBJECTS;
+    let twice = refuse(
+        numbers::NO_SUCH_OBJECT,
+        either(!(object < OBJECTS_END), here),
+        ninth,
+    );
+    let turn = refuse(numbers::OUT_OF_TURN, phase(bytes) != OPEN, twice);
+    refuse(numbers::STRANGER, !(me < 13), turn)
+}
+
+// Opens an object in a mode: one object more, and the present read quorum contacted.
+pub(crate) fn open(bytes: &mut [u8], me: u8, object: u8, mode: u8) -> Called
+    requires { ⌜ check (now bytes) ≡ 0 ⌝ }
+    ensures { λ r. ⌜ r ≡ toldBy (openOf (recordOf (now (bytes .entry))) me object mode) ⌝ }
+    ensures { λ r. ⌜ now (bytes .exit) ≡ kept (openOf (recordOf (now (bytes .entry))) me object mode) (now (bytes .entry)) ⌝ }
+{
+    let number = open_number(bytes, me, object);
+    if number != 0 {
+        return refused(number);
+    }
+    let n = count(bytes);
+    let quorum = octets::get_u16(bytes, QUORUM);
+    let contacted = mask::join(octets::get_u16(bytes, CONTACTED), quorum);
+    put_quorum(bytes, quorum, contacted, n + 1);
+    let x = Object {
+        object,
+        mode,
+        came: 0,
+        version: 0,
+        value: 0,
+        given: false,
+        new: 0,
+    };
+    put_object(bytes, OBJECTS_PLACE + OBJECT_SIZE * n, x);
+    taken(0)
+}
+
+// The number of a set.
+fn set_number(bytes: &[u8], me: u8, object: u8) -> u8
+    requires { ⌜ (length (now bytes) ≡ 301) × (recordOf (now bytes) .count ≤ 8) ⌝ }
+    ensures { λ r. ⌜ r ≡ firstOf (setRefusals (recordOf (now (bytes .entry))) me object) ⌝ }
+{
+    let absent = !(place(bytes, object) < OBJECTS);
+    let x = object_named(bytes, object);
+    let none = refuse(numbers::NO_SUCH_OBJECT, either(absent, x.mode == 0), 0);
+    let turn = refuse(numbers::OUT_OF_TURN, phase(bytes) != OPEN, none);
+    refuse(numbers::STRANGER, !(me < 13), turn)
+}
+
+// Gives a written object its new value.
+pub(crate) fn set_value(bytes: &mut [u8], me: u8, object: u8, value: u64) -> Called
+    requires { ⌜ check (now bytes) ≡ 0 ⌝ }
+    ensures { λ r. ⌜ r ≡ toldBy (setOf (recordOf (now (bytes .entry))) me object value) ⌝ }
+    ensures { λ r. ⌜ now (bytes .exit) ≡ kept (setOf (recordOf (now (bytes .entry))) me object value) (now (bytes .entry)) ⌝ }
+{
+    let number = set_number(bytes, me, object);
+    if number != 0 {
+        return refused(number);
+    }
+    let p = place(bytes, object);
+    let mut x = object_named(bytes, object);
+    x.given = true;
+    x.new = value;
+    put_object(bytes, OBJECTS_PLACE + OBJECT_SIZE * p, x);
+    taken(0)
+}
+
+// The number of a found.
+fn found_number(bytes: &[u8], me: u8, object: u8) -> u8
+    requires { ⌜ (length (now bytes) ≡ 301) × (recordOf (now bytes) .count ≤ 8) ⌝ }
+    ensures { λ r. ⌜ r ≡ firstOf (foundRefusals tree (recordOf (now (bytes .entry))) me object) ⌝ }
+{
+    let x = object_named(bytes, object);
+    let early = refuse(numbers::NOT_READY, !coordinator::is_ready(x), 0);
+    let absent = !(place(bytes, object) < OBJECTS);
+    let none = refuse(numbers::NO_SUCH_OBJECT, absent, early);
+    let turn = refuse(numbers::OUT_OF_TURN, phase(bytes) == IDLE, none);
+    refuse(numbers::STRANGER, !(me < 13), turn)
+}
+
+// Answers the value found for a ready object.
+pub(crate) fn found(bytes: &[u8], me: u8, object: u8) -> Called
+    requires { ⌜ check (now bytes) ≡ 0 ⌝ }
+    ensures { λ r. ⌜ r ≡ toldBy (foundOf tree (recordOf (now (bytes .entry))) me object) ⌝ }
+{
+    let number = found_number(bytes, me, object);
+    if number != 0 {
+        return refused(number);
+    }
+    let x = object_named(bytes, object);
+    taken(x.value)
+}
