@@ -1,11 +1,12 @@
 -- A call on bytes, by whether they are a record: refused bytes are left as they were, else the call by value decides.
 use mathlib.Core.Path.{_≡_, refl, sym, ap, _∙_}
 use mathlib.Core.Bool.{Bool, true, false, cond}
-use mathlib.Core.List.{List}
-use Prim.Native.Nat.{ℕ}
+use mathlib.Core.List.{List, [], _++_, append-nil}
+use Prim.Native.Nat.{ℕ, _≤_}
 use native.Mathlib.Omega.{arith}
 use lib.Dec.{eqb}
-use lib.ListN.{length}
+use lib.ListN.{length, take, drop, drop-of-length-le}
+use lib.Seq.{take-all}
 use borrow.Author.Tests.{eq-eqb, ne-eqb, eqb-true}
 use Rattle.numbers.specs.Refusal.{firstOf}
 use Rattle.wire.specs.Decode.{checkOf}
@@ -16,6 +17,7 @@ use Rattle.coordinator.specs.System.{tree}
 use Rattle.coordinator.specs.State.{stepOf}
 use Rattle.coordinator.specs.Receive.{receiveRefusals, receiveOf}
 use Rattle.due.specs.Due.{dueWritten, dueBuffer}
+use Rattle.record.specs.declared.Called.{Called}
 use Rattle.record.specs.Record.{recordOf, bytesOf, check}
 use Rattle.record.specs.Call.{called, toldBy, calledOf, kept, recordAfter, receivedOf, dueFirst, recordDue, recordDueBuffer}
 
@@ -118,3 +120,27 @@ module _ (n a : ℕ) (c d : Coordinator) (l : List ℕ) where
   pub kept-taken : n ≡ 0 → bytesOf d ≡ kept (stepOf n a c d) l
   unfolding stepOf kept
   kept-taken e = simp (eq-eqb n 0 e)
+
+-- ---- a call that is handed the 301 bytes as a part: they are all the bytes
+module _ (l : List ℕ) (e : check l ≡ 0) where
+  all-of : take 301 l ≡ l
+  all-of = take-all 301 l (let z = checked-length l e in omega arith)
+
+  pub part-long : 301 ≤ length l
+  part-long = let z = checked-length l e in omega arith
+
+  pub part-count : 301 ≡ length (take 301 l)
+  part-count = sym (ap length all-of ∙ checked-length l e)
+
+  pub part-checked : check (take 301 l) ≡ 0
+  part-checked = ap check all-of ∙ e
+
+  pub part-called : (f : Coordinator → Step) (r : Called) → r ≡ toldBy (f (recordOf (take 301 l))) → r ≡ calledOf f l
+  part-called f r h = h ∙ taken-called f l e (f (recordOf (take 301 l))) (ap (λ (m : List ℕ). f (recordOf m)) all-of)
+
+  pub part-record : (f : Coordinator → Step) (x : List ℕ) → x ≡ kept (f (recordOf (take 301 l))) (take 301 l) → x ++ drop 301 l ≡ recordAfter f l
+  part-record f x h =
+      let n : length l ≤ 301 = (let z = checked-length l e in omega arith) in
+      let gone : drop 301 l ≡ [] = drop-of-length-le l n in
+      ap (λ (m : List ℕ). x ++ m) gone
+      ∙ append-nil x ∙ h ∙ ap (λ (m : List ℕ). kept (f (recordOf m)) m) all-of ∙ taken-record f l e (f (recordOf l)) refl

@@ -7,6 +7,10 @@ ghost use Rattle.coordinator.specs.Calls.{beginOf, openOf, setOf, foundOf, rese
 ghost use Rattle.coordinator.specs.Receive.{receiveOf};
 ghost use Rattle.record.specs.Call.{called, calledOf, kept, recordAfter, receivedOf, recordDue, recordDueBuffer};
 use crate::Called;
+use crate::SIZE;
+use crate::arrive;
+use crate::deeds;
+use crate::deeds::open;
 use crate::load::read;
 use crate::store::write;
 use crate::verify::check;
@@ -62,8 +66,7 @@ pub fn open_read(bytes: &mut [u8], me: u8, object: u8) -> Called
     if number != 0 {
         return failed(number);
     }
-    let s = coordinator::open_read(read(bytes), me, object);
-    keep(bytes, s)
+    open(&mut bytes[..SIZE], me, object, 0)
 }
 
 pub fn open_write(bytes: &mut [u8], me: u8, object: u8) -> Called
@@ -74,8 +77,7 @@ pub fn open_write(bytes: &mut [u8], me: u8, object: u8) -> Called
     if number != 0 {
         return failed(number);
     }
-    let s = coordinator::open_write(read(bytes), me, object);
-    keep(bytes, s)
+    open(&mut bytes[..SIZE], me, object, 1)
 }
 
 // Gives a written object its new value. Ruled out: the value found overwritten; a damaged record taken.
@@ -87,8 +89,7 @@ pub fn set_value(bytes: &mut [u8], me: u8, object: u8, value: u64) -> Called
     if number != 0 {
         return failed(number);
     }
-    let s = coordinator::set_value(read(bytes), me, object, value);
-    keep(bytes, s)
+    deeds::set_value(&mut bytes[..SIZE], me, object, value)
 }
 
 // Answers the value found for a ready object. Ruled out: the new value; a byte altered.
@@ -100,8 +101,7 @@ pub fn found(bytes: &mut [u8], me: u8, object: u8) -> Called
     if number != 0 {
         return failed(number);
     }
-    let s = coordinator::found(read(bytes), me, object);
-    keep(bytes, s)
+    deeds::found(&bytes[..SIZE], me, object)
 }
 
 // Takes a fresh live mask and distances. Ruled out: the old quorum answered; the distances kept as they were.
@@ -156,8 +156,7 @@ pub fn receive(bytes: &mut [u8], me: u8, message: &[u8]) -> Called
     if number != 0 {
         return failed(number);
     }
-    let s = coordinator::receive(read(bytes), me, message);
-    keep(bytes, s)
+    arrive::receive(&mut bytes[..SIZE], me, message)
 }
 
 // Writes what is due to a node: 1 for either length, 2, then the numbers of `due`.

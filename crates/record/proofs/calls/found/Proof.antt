@@ -1,10 +1,13 @@
--- `record::calls::found`: refused bytes, or the call by value.
-use mathlib.Core.Path.{sym, ap, _∙_}
+-- `record::calls::found`: refused bytes, or the call on all of them; no byte changes.
+use mathlib.Core.Path.{sym, _∙_}
+use native.Mathlib.Omega.{arith}
 use denote.Ref.{now}
+use Rattle.octets.proofs.Laws.{Bytes}
 use Rattle.coordinator.specs.declared.Coordinator.{Coordinator}
 use Rattle.coordinator.specs.System.{tree}
 use Rattle.coordinator.specs.Calls.{foundOf}
-use Rattle.record.proofs.OnBytes.{checked-length, refused-called, refused-record, taken-called, taken-record}
+use Rattle.record.proofs.OnBytes.{refused-called, refused-record, part-long, part-count, part-checked, part-called}
+use Rattle.record.proofs.Kept.{found-bytes}
 use borrow.Author.Needs.{needs}
 use Rattle.record.proofs.calls.found.Statement.{statement}
 use Rattle.record.proofs.calls.found.Tie as tie
@@ -27,31 +30,25 @@ returns c =
       refused-record (λ (c : Coordinator). foundOf tree c (x .me) (x .object)) (now (x .bytes)) _ e h,
     )
 
-read-requires : tie.Need-read-requires
-read-requires c κs = search needs
+slice-reshare-prefix-found : tie.Need-slice-reshare-prefix-found
+slice-reshare-prefix-found c = part-long _ (sym (c .before .check .ensures) ∙ c .if1 .left)
+
+slice-aggregate-found : tie.Need-slice-aggregate-found
+slice-aggregate-found c = part-count _ (sym (c .before .before .check .ensures) ∙ c .before .if1 .left)
 
 found-requires : tie.Need-found-requires
-found-requires c κs = search needs
-
-keep-requires : tie.Need-keep-requires
-keep-requires c κs =
-    let b8 = c .before .before .before .before .before .before .before .before in
-    checked-length (now (b8 .args .bytes)) (sym (c .before .before .before .before .before .check .ensures) ∙ c .before .before .before .before .if1 .left)
+found-requires c κs = part-checked _ (sym (c .before .before .check .ensures) ∙ c .before .if1 .left)
 
 same-length-2 : tie.Need-same-length-2
 same-length-2 c = search needs
 
 returns-2 : tie.Need-returns-2
 returns-2 c =
-    let b8 = c .before .before .before .before .before .before .before .before in
-    let x = b8 .before .before .before .args in
-    let e = sym (b8 .check .ensures) ∙ c .before .before .before .before .before .before .before .if1 .left in
-    let s = c .before .before .before .before .found .ensures
-    ∙ ap (λ (c : Coordinator). foundOf tree c (x .me) (x .object)) (c .before .before .before .before .before .read .ensures) in
-    let w = c .before .before .keep .ensures in (
-      w .0 ∙ taken-called (λ (c : Coordinator). foundOf tree c (x .me) (x .object)) (now (x .bytes)) e _ s,
-      w .1 ∙ taken-record (λ (c : Coordinator). foundOf tree c (x .me) (x .object)) (now (x .bytes)) e _ s,
-    )
+    let x = c .before .before .before .before .before .before .args in
+    let l = now (x .bytes) in
+    let small : Bytes l = λ j. omega (arith, c .before .before .before .before .before .slice-known .given j) in
+    let e = sym (c .before .before .before .check .ensures) ∙ c .before .before .if1 .left in
+    (part-called l e (λ (c : Coordinator). foundOf tree c (x .me) (x .object)) _ (c .found .ensures), sym (found-bytes (x .me) (x .object) l small))
 
 pub found-spec : {M : Type 1} → statement M
 found-spec =
@@ -61,8 +58,8 @@ found-spec =
     failed-requires
     same-length
     returns
-    read-requires
+    slice-reshare-prefix-found
+    slice-aggregate-found
     found-requires
-    keep-requires
     same-length-2
     returns-2)

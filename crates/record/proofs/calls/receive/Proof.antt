@@ -1,5 +1,5 @@
--- `record::calls::receive`: a message of another length, refused bytes, or the call by value.
-use mathlib.Core.Path.{sym, ap, _∙_}
+-- `record::calls::receive`: a message of another length, refused bytes, or the delivery on all of them.
+use mathlib.Core.Path.{sym, _∙_}
 use denote.Ref.{now}
 use borrow.Author.Tests.{eq-eqb, ne-eqb}
 use Rattle.wire.specs.Decode.{checkOf}
@@ -7,8 +7,8 @@ use Rattle.coordinator.specs.declared.Coordinator.{Coordinator}
 use Rattle.coordinator.specs.declared.Step.{Step}
 use Rattle.coordinator.specs.System.{tree}
 use Rattle.coordinator.specs.Receive.{receiveOf}
-use Rattle.record.proofs.OnBytes.{checked-length, refused-called, refused-record, taken-called, taken-record}
-use Rattle.record.proofs.OnBytes.{short-answer, short-bytes, long-answer}
+use Rattle.record.proofs.OnBytes.{short-answer, short-bytes, long-answer, refused-called, refused-record}
+use Rattle.record.proofs.OnBytes.{part-long, part-count, part-checked, part-called, part-record}
 use borrow.Author.Needs.{needs}
 use Rattle.record.proofs.calls.receive.Statement.{statement}
 use Rattle.record.proofs.calls.receive.Tie as tie
@@ -47,34 +47,28 @@ returns-2 c =
       refused-record s (now (x .bytes)) _ e h,
     )
 
-read-requires : tie.Need-read-requires
-read-requires c κs = search needs
+slice-relend-prefix-receive : tie.Need-slice-relend-prefix-receive
+slice-relend-prefix-receive c = part-long _ (sym (c .before .check2 .ensures) ∙ c .if2 .left)
+
+slice-aggregate-receive : tie.Need-slice-aggregate-receive
+slice-aggregate-receive c = part-count _ (sym (c .before .before .check2 .ensures) ∙ c .before .if2 .left)
 
 receive-requires : tie.Need-receive-requires
-receive-requires c κs = search needs
-
-keep-requires : tie.Need-keep-requires
-keep-requires c κs =
-    let b8 = c .before .before .before .before .before .before .before .before in
-    checked-length (now (b8 .before .before .before .args .bytes))
-    (sym (c .before .before .before .before .before .check2 .ensures) ∙ c .before .before .before .before .if2 .left)
+receive-requires c κs = part-checked _ (sym (c .before .before .check2 .ensures) ∙ c .before .if2 .left)
 
 same-length-2 : tie.Need-same-length-2
 same-length-2 c = search needs
 
 returns-3 : tie.Need-returns-3
 returns-3 c =
-    let b8 = c .before .before .before .before .before .before .before .before in
-    let x = b8 .before .before .before .before .before .before .args in
+    let x = c .before .before .before .before .before .before .before .before .before .before .before .args in
+    let l = now (x .bytes) in
     let s : Coordinator → Step = λ k. receiveOf tree k (x .me) (now (x .message)) in
-    let n = b8 .before .before .before .check .ensures in
-    let t = ne-eqb (checkOf (now (x .message))) 1 (λ z. b8 .before .before .if1 .left (n ∙ z)) in
-    let e = sym (b8 .check2 .ensures) ∙ c .before .before .before .before .before .before .before .if2 .left in
-    let r = c .before .before .before .before .receive .ensures ∙ ap s (c .before .before .before .before .before .read .ensures) in
-    let w = c .before .before .keep .ensures in (
-      w .0 ∙ taken-called s (now (x .bytes)) e _ r ∙ long-answer (x .me) (now (x .message)) (now (x .bytes)) t,
-      w .1 ∙ taken-record s (now (x .bytes)) e _ r,
-    )
+    let n = c .before .before .before .before .before .before .before .before .check .ensures in
+    let t = ne-eqb (checkOf (now (x .message))) 1 (λ z. c .before .before .before .before .before .before .before .if1 .left (n ∙ z)) in
+    let e = sym (c .before .before .before .before .before .check2 .ensures) ∙ c .before .before .before .before .if2 .left in
+    let w = c .before .before .receive .ensures in
+    (part-called l e s _ (w .0) ∙ long-answer (x .me) (now (x .message)) l t, part-record l e s _ (w .1))
 
 pub receive-spec : {M : Type 1} → statement M
 receive-spec =
@@ -87,8 +81,8 @@ receive-spec =
     failed-requires-2
     same-length
     returns-2
-    read-requires
+    slice-relend-prefix-receive
+    slice-aggregate-receive
     receive-requires
-    keep-requires
     same-length-2
     returns-3)
