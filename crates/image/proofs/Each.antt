@@ -1,5 +1,5 @@
 -- `each n p` says p of every number below n, and nothing else. By induction on n.
-use mathlib.Core.Path.{_≡_, refl, ap, subst}
+use mathlib.Core.Path.{_≡_, refl, sym, ap, _∙_, subst}
 use mathlib.Core.Bool.{Bool, true, false, _&&_}
 use mathlib.Core.Logic.{_⊎_, inl, inr, ⊎-elim}
 use Prim.Native.Nat.{ℕ, zero, suc, _+_, _<_, _≤_}
@@ -42,3 +42,24 @@ module _ (p : ℕ → Bool) where
   pub each-more : (n : ℕ) → each (n + 1) p ≡ (each n p && p n)
   unfolding each
   each-more n = ap (λ (k : ℕ). each k p) (add-one n)
+
+  -- one number fails
+  pub each-fails : (n i : ℕ) → i < n → p i ≡ false → each n p ≡ false
+  each-fails n i h e = by (each n p) refl
+    where
+      by : (b : Bool) → each n p ≡ b → b ≡ false
+      by true q = absurd (subst T e (each-at n (subst T (sym q) tt) i h))
+      by false q = refl
+
+-- two tests at once
+pub each-both : (p q : ℕ → Bool) (n : ℕ) → each n (λ i. p i && q i) ≡ (each n p && each n q)
+unfolding each
+each-both p q zero = refl
+each-both p q (suc n) = ap (λ (b : Bool). b && (p n && q n)) (each-both p q n) ∙ by (each n p) (each n q) (p n) (q n)
+  where
+    by : (a b c d : Bool) → ((a && b) && (c && d)) ≡ ((a && c) && (b && d))
+    by true true true d = refl
+    by true true false d = refl
+    by true false true d = refl
+    by true false false d = refl
+    by false b c d = refl

@@ -14,9 +14,10 @@ use Rattle.image.specs.Layout.{serialField, stateField, stampField, hold
 use Rattle.image.specs.Valid.{listed, held, nobody}
 use Rattle.image.specs.Change.{withSerial, withState, withOwner, free, unlist}
 use Rattle.image.proofs.Each.{same-or-not}
-use Rattle.image.proofs.Lens.{apart, together, length-with, of-with, of-with-item, of-with-apart}
+use Rattle.image.proofs.Lens.{apart, together, length-with, of-with, of-with-item, of-with-apart, bytes-with}
 use Rattle.image.proofs.Sound.{Sound, OwnerSound}
-use Rattle.image.proofs.Whole.{free-none, unlist-apart, unlist-no-reader, unlist-no-writer, keeps-free}
+use Rattle.octets.proofs.Laws.{Bytes}
+use Rattle.image.proofs.Whole.{free-same, unlist-same, free-none, unlist-apart, unlist-no-reader, unlist-no-writer, keeps-free}
 
 -- o holds no copy and is in no list
 pub record Idle (l : List ℕ) (o : ℕ) : Type 0 where
@@ -35,6 +36,13 @@ module _ (l : List ℕ) (o : ℕ) (s : Sound l) (small : o < owners) where
 
   pub not-writing : (state l o ≡ listed → ⊥) → (t : ℕ) → t < shape .objects → T (contains (writers l t) o) → ⊥
   not-writing ne t k c = ne (s .clauses .copies-sound t k .writing o c .1)
+
+  -- so there is nothing to free, or to strike
+  pub free-unless-held : Bytes l → (state l o ≡ held → ⊥) → free l o ≡ l
+  free-unless-held b ne = free-same l o b (not-holding ne)
+
+  pub unlist-unless-listed : Bytes l → (state l o ≡ listed → ⊥) → unlist l o ≡ l
+  unlist-unless-listed b ne = unlist-same l o b (omega arith) (not-reading ne) (not-writing ne)
 
   -- over or refused
   pub idle-by-state : (state l o ≡ listed → ⊥) → (state l o ≡ held → ⊥) → Idle l o
@@ -135,6 +143,17 @@ owner-other l o n st sp =
     other-then o l b (withOwner l o n st sp)
     (other-then o l a b (with-other (serialField shape) l o n tt tt tt tt tt tt tt tt) (with-other (stateField shape) a o st tt tt tt tt tt tt tt tt))
     (with-other (stampField shape) b o sp tt tt tt tt tt tt tt tt)
+
+-- an owner that was in no list is in none once its serial, state and stamp are new
+pub unlist-new : (l : List ℕ) (o n st sp : ℕ) → Bytes l → o < owners → Idle l o → unlist (withOwner l o n st sp) o ≡ withOwner l o n st sp
+unlist-new l o n st sp b h idle =
+    let e = owner-other l o n st sp in
+    let a = withSerial l o n in
+    unlist-same (withOwner l o n st sp) o
+    (bytes-with (stampField shape) (withState a o st) o sp (bytes-with (stateField shape) a o st (bytes-with (serialField shape) l o n b)))
+    (omega arith)
+    (λ t k c. idle .reads t k (subst (λ (m : ℕ). T (contains m o)) (e .readings t) c))
+    (λ t k c. idle .writes t k (subst (λ (m : ℕ). T (contains m o)) (e .writings t) c))
 
 -- what is read of the owner then
 module _ (l : List ℕ) (o n st sp : ℕ) (fit : imageSize shape ≤ length l) (small : o < owners) where

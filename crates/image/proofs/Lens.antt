@@ -9,11 +9,11 @@ use native.Mathlib.Numerals.{add-one}
 use native.Mathlib.Omega.{arith}
 use lib.Dec.{T, eqb, leb, eqb→eq, eqb-refl, leb→le, lit<}
 use lib.ListN.{length, getD, set}
-use lib.Seq.{getD-set-same, getD-set-other, set-out}
+use lib.Seq.{getD-set-same, getD-set-other, set-out, set-comm}
 use borrow.Author.Tests.{lt-ltb, le-ltb}
 use Rattle.mask.proofs.Tests.{and-both, and-left, and-right, or-cases}
 use Rattle.octets.specs.Octets.{get, put}
-use Rattle.octets.proofs.Laws.{length-put, get-put, get-put-other, put-put, get-out, put-out, get-small, Bytes}
+use Rattle.octets.proofs.Laws.{length-put, get-put, get-put-other, put-put, put-get, get-out, put-out, get-small, Bytes}
 use Rattle.image.specs.declared.Field.{Field}
 use Rattle.image.specs.Field.{place, fieldOf, withField, changed, changedAll}
 use Rattle.image.proofs.Each.{lt-or-le, same-or-not}
@@ -138,10 +138,11 @@ same-items b w i j of wf og wg hf hg o =
     (lt-or-le i j))
     (lt-or-le j i)
 
--- another field is as it was, at every item
-pub of-with-apart : (f g : Field) (l : List ℕ) (i j v : ℕ) → T (apart f g) → fieldOf g (withField f l i v) j ≡ fieldOf g l j
-of-with-apart f g l i j v t =
-    elsewhere f g l i j v (λ p q.
+-- where two fields that share no byte stand, at any two items
+far : (f g : Field) (i j : ℕ) → T (apart f g) → i < f .items → j < g .items
+    → (g .base + g .stride * j + g .offset + g .width ≤ f .base + f .stride * i + f .offset)
+    ⊎ (f .base + f .stride * i + f .offset + f .width ≤ g .base + g .stride * j + g .offset)
+far f g i j t p q =
     let hf = leb→le (f .offset + f .width) (f .stride) (and-left (inside f) (inside g) both) in
     let hg = leb→le (g .offset + g .width) (g .stride) (and-right (inside f) (inside g) both) in
     or-cases _ (leb (ends f) (g .base) || leb (ends g) (f .base)) (beside f g)
@@ -160,10 +161,62 @@ of-with-apart f g l i j v t =
     (and-right (eqb (f .base) (g .base) && eqb (f .stride) (g .stride)) _ a) in
     ⊎-elim (λ b. inl (omega arith)) (λ b. inr (omega arith))
     (same-items (f .base) (g .stride) i j (f .offset) (f .width) (g .offset) (g .width) (omega arith) hg o))
-    (and-right (inside f && inside g) _ t))
+    (and-right (inside f && inside g) _ t)
   where
     both : T (inside f && inside g)
     both = and-left (inside f && inside g) (leb (ends f) (g .base) || leb (ends g) (f .base) || beside f g) t
+
+-- another field is as it was, at every item
+pub of-with-apart : (f g : Field) (l : List ℕ) (i j v : ℕ) → T (apart f g) → fieldOf g (withField f l i v) j ≡ fieldOf g l j
+of-with-apart f g l i j v t = elsewhere f g l i j v (far f g i j t)
+
+-- ---- writes that share no byte go in either order
+set-put : (k : ℕ) (l : List ℕ) (i v j a : ℕ) → (j < i) ⊎ (i + k ≤ j) → put k (set l j a) i v ≡ set (put k l i v) j a
+unfolding put
+set-put zero l i v j a h = refl
+set-put (suc k) l i v j a h =
+    let ne : j ≡ i → ⊥ = λ e. ⊎-elim (λ (p : j < i). omega arith) (λ p. omega arith) h in
+    ap (λ (m : List ℕ). put k m (i + 1) (v / 256)) (set-comm l j i a (v % 256) ne)
+    ∙ set-put k (set l i (v % 256)) (i + 1) (v / 256) j a (⊎-elim (λ (p : j < i). inl (omega arith)) (λ p. inr (omega arith)) h)
+
+put-comm : (k n : ℕ) (l : List ℕ) (i v j w : ℕ) → (j + k ≤ i) ⊎ (i + n ≤ j) → put k (put n l i v) j w ≡ put n (put k l j w) i v
+unfolding put
+put-comm k zero l i v j w h = refl
+put-comm k (suc n) l i v j w h =
+    put-comm k n (set l i (v % 256)) (i + 1) (v / 256) j w (⊎-elim (λ (p : j + k ≤ i). inl (omega arith)) (λ p. inr (omega arith)) h)
+    ∙ ap (λ (m : List ℕ). put n m (i + 1) (v / 256))
+    (set-put k l j w i (v % 256) (⊎-elim (λ (p : j + k ≤ i). inr (omega arith)) (λ p. inl (omega arith)) h))
+
+with-comm : (f g : Field) (l : List ℕ) (i j v w : ℕ) → T (apart f g)
+    → withField g (withField f l i v) j w ≡ withField f (withField g l j w) i v
+with-comm f g l i j v w t =
+    ⊎-elim
+    (λ (p : i < f .items). ⊎-elim
+    (λ (q : j < g .items).
+    with-in g (withField f l i v) j w q ∙ ap (λ (m : List ℕ). put (g .width) m (g .base + g .stride * j + g .offset) w) (with-in f l i v p)
+    ∙ put-comm (g .width) (f .width) l (f .base + f .stride * i + f .offset) v (g .base + g .stride * j + g .offset) w (far f g i j t p q)
+    ∙ sym (with-in f (withField g l j w) i v p
+    ∙ ap (λ (m : List ℕ). put (f .width) m (f .base + f .stride * i + f .offset) v) (with-in g l j w q)))
+    (λ q. with-out g (withField f l i v) j w q ∙ sym (ap (λ (m : List ℕ). withField f m i v) (with-out g l j w q)))
+    (lt-or-le j (g .items)))
+    (λ p. ap (λ (m : List ℕ). withField g m j w) (with-out f l i v p) ∙ sym (with-out f (withField g l j w) i v p))
+    (lt-or-le i (f .items))
+
+-- so do changes
+changed-comm : (f h : Field) (g k : ℕ → ℕ) (l : List ℕ) (i j : ℕ) → T (apart f h) → T (apart h f)
+    → changed f g (changed h k l j) i ≡ changed h k (changed f g l i) j
+changed-comm f h g k l i j a b =
+    let x = g (fieldOf f l i) in
+    ap (λ (y : ℕ). withField f (changed h k l j) i (g y)) (of-with-apart h f l j i (k (fieldOf h l j)) b)
+    ∙ with-comm h f l j i (k (fieldOf h l j)) x b
+    ∙ ap (λ (y : ℕ). withField h (withField f l i x) j (k y)) (sym (of-with-apart f h l i j x a))
+
+pub all-comm : (f h : Field) (g k : ℕ → ℕ) (n : ℕ) (l : List ℕ) (i : ℕ) → T (apart f h) → T (apart h f)
+    → changed f g (changedAll h k n l) i ≡ changedAll h k n (changed f g l i)
+unfolding changedAll
+all-comm f h g k zero l i a b = refl
+all-comm f h g k (suc n) l i a b =
+    changed-comm f h g k (changedAll h k n l) i n a b ∙ ap (λ (m : List ℕ). changed h k m n) (all-comm f h g k n l i a b)
 
 -- ---- bytes stay bytes
 bytes-set : (l : List ℕ) (i v : ℕ) → v < 256 → Bytes l → Bytes (set l i v)
@@ -185,6 +238,11 @@ pub bytes-with : (f : Field) (l : List ℕ) (i v : ℕ) → Bytes l → Bytes (w
 unfolding withField
 bytes-with f l i v b = bytes-put (f .width) l (place f (length l) i) v b
 
+-- a field written as it was changes nothing
+pub with-same : (f : Field) (l : List ℕ) (i : ℕ) → Bytes l → withField f l i (fieldOf f l i) ≡ l
+unfolding fieldOf withField
+with-same f l i b = put-get (f .width) l (place f (length l) i) b
+
 -- a field of bytes is below its width's bound
 pub of-small : (f : Field) (l : List ℕ) (i : ℕ) → Bytes l → fieldOf f l i < 256 ^ f .width
 unfolding fieldOf
@@ -201,6 +259,14 @@ module _ (f : Field) (g : ℕ → ℕ) where
   unfolding changedAll
   bytes-all zero l b = b
   bytes-all (suc n) l b = bytes-with f (changedAll f g n l) n (g (fieldOf f (changedAll f g n l) n)) (bytes-all n l b)
+
+  -- nothing changes where g leaves each field as it is
+  pub all-same : (n : ℕ) (l : List ℕ) → Bytes l → ((j : ℕ) → j < n → g (fieldOf f l j) ≡ fieldOf f l j) → changedAll f g n l ≡ l
+  unfolding changedAll
+  all-same zero l b h = refl
+  all-same (suc n) l b h =
+      ap (λ (m : List ℕ). changed f g m n) (all-same n l b (λ j k. h j (omega arith)))
+      ∙ ap (withField f l n) (h n (omega arith)) ∙ with-same f l n b
 
   -- one item more, as a loop counts
   pub all-more : (n : ℕ) (l : List ℕ) → changedAll f g (n + 1) l ≡ changed f g (changedAll f g n l) n

@@ -1,6 +1,6 @@
 -- A mask that marks the numbers below n that pass a test, and how it grows with n. By comparing each number with n.
 use mathlib.Core.Path.{_≡_, refl, sym, ap, _∙_}
-use mathlib.Core.Bool.{Bool, true, false, _&&_, _||_}
+use mathlib.Core.Bool.{Bool, true, false, cond, _&&_, _||_}
 use Prim.Native.Nat.{ℕ, _+_, _^_, _<_, _%_}
 use native.Mathlib.Nat.{zero-div}
 use native.Mathlib.Omega.{arith}
@@ -25,7 +25,7 @@ module _ (p : ℕ → Bool) where
   marks-none k = contains-none k ∙ sym (ap (λ (b : Bool). b && p k) (le-ltb k 0 (omega arith)))
 
   -- n passes: it joins
-  pub marks-more : (m n : ℕ) → n < 16 → p n ≡ true → Marks m n p → Marks (joined m (only n)) (n + 1) p
+  marks-more : (m n : ℕ) → n < 16 → p n ≡ true → Marks m n p → Marks (joined m (only n)) (n + 1) p
   marks-more m n h t f k =
       contains-joined m (only n) k ∙ ap (λ (b : Bool). b || contains (only n) k) (f k) ∙ ap (λ (b : Bool). (ltb k n && p k) || b) (contains-only n k h)
       ∙ compared (((ltb k n && p k) || eqb n k) ≡ (ltb k (n + 1) && p k)) k n
@@ -42,7 +42,7 @@ module _ (p : ℕ → Bool) where
       any false = refl
 
   -- n does not pass: the mask stays
-  pub marks-same : (m n : ℕ) → p n ≡ false → Marks m n p → Marks m (n + 1) p
+  marks-same : (m n : ℕ) → p n ≡ false → Marks m n p → Marks m (n + 1) p
   marks-same m n t f k =
       f k
       ∙ compared ((ltb k n && p k) ≡ (ltb k (n + 1) && p k)) k n
@@ -55,3 +55,11 @@ module _ (p : ℕ → Bool) where
       none true false = refl
       none false true = refl
       none false false = refl
+
+  -- whichever it does
+  pub marks-next : (m n : ℕ) → n < 16 → Marks m n p → Marks (cond (p n) (joined m (only n)) m) (n + 1) p
+  marks-next m n h f = by (p n) refl
+    where
+      by : (b : Bool) → p n ≡ b → Marks (cond b (joined m (only n)) m) (n + 1) p
+      by true e = marks-more m n h e f
+      by false e = marks-same m n e f

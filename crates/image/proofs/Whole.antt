@@ -1,6 +1,6 @@
 -- The two changes of every copy: what each field is after `free` and `unlist`, that they keep a sound image sound, and that nothing of the owner is left.
 use mathlib.Core.Path.{_≡_, refl, sym, ap, _∙_, subst}
-use mathlib.Core.Bool.{Bool, true, false, not, cond}
+use mathlib.Core.Bool.{Bool, true, false, not, cond, _&&_}
 use mathlib.Core.List.{List}
 use mathlib.Core.Logic.{inl, ⊎-elim}
 use Prim.Native.Nat.{ℕ, _^_, _<_, _≤_}
@@ -8,9 +8,9 @@ use native.Mathlib.Omega.{arith}
 use lib.Bits.{bitAnd, and-le-l, xor-lt}
 use lib.Dec.{T, eqb, eqb-refl, lit<, T-not}
 use lib.ListN.{length}
-use borrow.Author.Tests.{eq-eqb}
-use Rattle.mask.specs.Mask.{contains, only}
-use Rattle.mask.proofs.Laws.{contains-minus}
+use borrow.Author.Tests.{eq-eqb, ne-eqb, eqb-true, eqb-false}
+use Rattle.mask.specs.Mask.{bit, contains, only}
+use Rattle.mask.proofs.Laws.{bit-lt, contains-minus, ext}
 use Rattle.mask.proofs.Tests.{and-right}
 use Rattle.octets.proofs.Laws.{Bytes}
 use Rattle.image.specs.declared.Field.{Field}
@@ -19,7 +19,7 @@ use Rattle.image.specs.Layout.{shape, owners, imageSize, objectCount, ow
 use Rattle.image.specs.Layout.{serialField, stateField, stampField, holder, readers, writers, state}
 use Rattle.image.specs.Valid.{nobody}
 use Rattle.image.specs.Change.{freeing, leaving, free, leave, unlist}
-use Rattle.image.proofs.Lens.{apart, inside, Holds, length-all, bytes-all, all-apart, all-here}
+use Rattle.image.proofs.Lens.{apart, inside, Holds, length-all, bytes-all, all-same, all-apart, all-here}
 use Rattle.image.proofs.Marks.{contains-only}
 use Rattle.image.proofs.Sound.{Sound, CopySound, HolderSound, ListSound, low-bits}
 use Rattle.image.proofs.Keep.{SameOwners, sound-copies, all-owners, list-less}
@@ -110,6 +110,43 @@ module _ (l : List ℕ) (o : ℕ) where
         states = λ i p. unlist-apart (stateField shape) p tt tt i;
         stamps = λ i p. unlist-apart (stampField shape) p tt tt i;
       }
+
+-- ---- where o is in no list, or holds nothing, they change nothing
+-- a mask without o stays as it is
+same-bit : (x y : ℕ) → x < 2 → y < 2 → eqb x 1 ≡ eqb y 1 → x ≡ y
+same-bit x y hx hy e = by (eqb x 1) refl
+  where
+    by : (b : Bool) → eqb x 1 ≡ b → x ≡ y
+    by true p = eqb-true x 1 p ∙ sym (eqb-true y 1 (sym e ∙ p))
+    by false p = let u = eqb-false x 1 p in let w = eqb-false y 1 (sym e ∙ p) in omega arith
+
+not-there : (o m : ℕ) → o < 16 → (T (contains m o) → ⊥) → leaving o m ≡ m
+not-there o m h out =
+    ext (leaving o m) m (λ i. same-bit (bit (leaving o m) i) (bit m i) (bit-lt (leaving o m) i) (bit-lt m i)
+    (contains-minus m (only o) i ∙ ap (λ (b : Bool). contains m i && not b) (contains-only o i h) ∙ by i (contains m i) refl (eqb o i) refl))
+  where
+    by : (i : ℕ) (a : Bool) → contains m i ≡ a → (b : Bool) → eqb o i ≡ b → (a && not b) ≡ a
+    by i true p true q = absurd (out (subst (λ (k : ℕ). T (contains m k)) (sym (eqb-true o i q)) (subst T (sym p) tt)))
+    by i true p false q = refl
+    by i false p true q = refl
+    by i false p false q = refl
+
+module _ (l : List ℕ) (o : ℕ) (b : Bytes l) where
+  pub free-same : ((t : ℕ) → t < shape .objects → holder l t ≡ o → ⊥) → free l o ≡ l
+  unfolding free
+  free-same out =
+      all-same (holderField shape) (freeing o) (shape .objects) l b
+      (λ t k. ap (λ (x : Bool). cond x nobody (holder l t)) (ne-eqb (holder l t) o (out t k)))
+
+  leave-same : (f : Field) → o < 16 → ((t : ℕ) → t < f .items → T (contains (fieldOf f l t) o) → ⊥) → leave f l o ≡ l
+  unfolding leave
+  leave-same f h out = all-same f (leaving o) (f .items) l b (λ t k. not-there o (fieldOf f l t) h (out t k))
+
+  pub unlist-same : o < 16 → ((t : ℕ) → t < shape .objects → T (contains (readers l t) o) → ⊥)
+      → ((t : ℕ) → t < shape .objects → T (contains (writers l t) o) → ⊥) → unlist l o ≡ l
+  unfolding unlist
+  unlist-same h r w =
+      ap (λ (m : List ℕ). leave (writersField shape) m o) (leave-same (readersField shape) h r) ∙ leave-same (writersField shape) h w
 
 -- ---- both keep a sound image sound, and leave nothing of the owner
 freed-sound : (states : ℕ → ℕ) (o h : ℕ) → HolderSound states h → HolderSound states (freeing o h)

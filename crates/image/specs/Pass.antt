@@ -1,11 +1,15 @@
--- What the check computes in one pass over the copies, from the masks of the owners in states 1 and 2; proofs/Sound.antt shows that it is the clauses.
-use mathlib.Core.Bool.{Bool, _&&_, _||_}
+-- What the private functions compute in passing. The check: in one pass over the owners the masks of those in states 1 and 2, and from them in one pass over
+-- the copies what proofs/Sound.antt shows to be the clauses. A strike: both lists of one object at once.
+use mathlib.Core.Path.{_≡_}
+use mathlib.Core.Bool.{Bool, cond, _&&_, _||_}
 use mathlib.Core.List.{List}
 use Prim.Native.Nat.{ℕ}
-use lib.Dec.{eqb}
-use Rattle.mask.specs.Mask.{contains, joined, within}
-use Rattle.image.specs.Layout.{holder, readers, writers, serial, state, stamp}
-use Rattle.image.specs.Valid.{nobody, stateOk, serialOk}
+use lib.Dec.{eqb, ltb}
+use Rattle.mask.specs.Mask.{contains, only, joined, minus, within}
+use Rattle.image.specs.declared.Walk.{Walk}
+use Rattle.image.specs.Field.{changed}
+use Rattle.image.specs.Layout.{shape, owners, readersField, writersField, holder, readers, writers, serial, state, stamp}
+use Rattle.image.specs.Valid.{listed, held, nobody, each, stateOk, serialOk}
 
 -- the holder is nobody or in the mask
 abbrev pub holderFits : ℕ → ℕ → Bool
@@ -18,3 +22,21 @@ copyFits inListed inHeld l t = holderFits inHeld (holder l t) && within (joined 
 -- what is asked of owner o alone
 abbrev pub ownerFits : List ℕ → ℕ → Bool
 ownerFits l o = stateOk (state l o) && serialOk (serial l o) (state l o) (stamp l o)
+
+-- the mask m with owner o, where it is here
+abbrev pub marked : ℕ → ℕ → Bool → ℕ
+marked m o here = cond here (joined m (only o)) m
+
+-- the mask has the owners in a state, and no other bit
+abbrev pub InState : List ℕ → ℕ → ℕ → Type 0
+InState l st m = (o : ℕ) → contains m o ≡ (ltb o owners && eqb (state l o) st)
+
+-- what a walk over the owners finds
+pub record Walked (l : List ℕ) (w : Walk) : Type 0 where
+  pub each-fits : w .ok ≡ each owners (ownerFits l)
+  pub in-listed : InState l listed (w .listed)
+  pub in-held : InState l held (w .held)
+
+-- the owners of a mask leave both lists of object t
+abbrev pub struck : ℕ → List ℕ → ℕ → List ℕ
+struck own l t = changed (writersField shape) (λ m. minus m own) (changed (readersField shape) (λ m. minus m own) l t) t

@@ -1,10 +1,11 @@
 // What a replica changes in an image beside single fields: all of it made blank, the lists of an object, and what an owner holds or is listed in.
 ghost use mathlib.Core.Path.{_≡_};
 ghost use lib.ListN.{length, replicate};
-ghost use Rattle.image.specs.Layout.{shape};
+ghost use Rattle.image.specs.Layout.{shape, holderField};
 ghost use Rattle.image.specs.Field.{Near, changed};
 ghost use Rattle.image.specs.Blank.{counted, unheld, blank, blankNumber};
-ghost use Rattle.image.specs.Change.{listing, addReader, addWriter, freeing, free, leave, unlist};
+ghost use Rattle.image.specs.Change.{listing, addReader, addWriter, freeing, free, unlist};
+ghost use Rattle.image.specs.Pass.{struck};
 use crate::Field;
 use crate::NOBODY;
 use crate::OBJECT_COUNT;
@@ -18,7 +19,11 @@ use crate::fields::get_u16;
 use crate::fields::put_u8;
 use crate::fields::put_u16;
 use crate::read::holder;
+use crate::read::readers;
+use crate::read::writers;
 use crate::write::set_holder;
+use crate::write::set_readers;
+use crate::write::set_writers;
 
 // Every byte becomes 0.
 fn zero(image: &mut [u8])
@@ -88,11 +93,13 @@ pub fn add_writer(image: &mut [u8], t: u8, o: u8)
     add(image, WRITERS, t, o);
 }
 
-// A holder once owner o has let go.
-fn freed(o: u8, h: u8) -> u8
-    ensures { λ r. ⌜ r ≡ freeing o h ⌝ }
+// Owner o lets go of the copy of object t, if it holds it.
+fn free_one(image: &mut [u8], t: u8, o: u8)
+    ensures { λ r. ⌜ now (image .exit) ≡ changed (holderField shape) (freeing o) (now (image .entry)) t ⌝ }
 {
-    if h == o { NOBODY } else { h }
+    if holder(image, t) == o {
+        set_holder(image, t, NOBODY);
+    }
 }
 
 // Frees every copy that owner o holds. Ruled out: the copies of other owners freed; only the first of o's copies freed.
@@ -101,31 +108,29 @@ pub fn free(image: &mut [u8], o: u8)
 {
     let mut t: u8 = 0;
     while t < OBJECTS {
-        let h = freed(o, holder(image, t));
-        set_holder(image, t, h);
+        free_one(image, t, o);
         t = t + 1;
     }
 }
 
-// Owner o leaves the list f of every item.
-fn leave(image: &mut [u8], f: Field, o: u8)
-    requires { ⌜ Near f × (f .width ≡ 2) ⌝ }
-    ensures { λ r. ⌜ now (image .exit) ≡ leave f (now (image .entry)) o ⌝ }
+// The owners of the mask `own` leave both lists of object t.
+fn strike(image: &mut [u8], t: u8, own: u16)
+    ensures { λ r. ⌜ now (image .exit) ≡ struck own (now (image .entry)) t ⌝ }
 {
-    let own = mask::single(o);
-    let items = f.items;
-    let mut t: u8 = 0;
-    while t < items {
-        let m = mask::without(get_u16(image, f, t), own);
-        put_u16(image, f, t, m);
-        t = t + 1;
-    }
+    let r = mask::without(readers(image, t), own);
+    set_readers(image, t, r);
+    let w = mask::without(writers(image, t), own);
+    set_writers(image, t, w);
 }
 
 // Owner o leaves all readers and writers. Ruled out: the whole lists emptied; o left among the writers.
 pub fn unlist(image: &mut [u8], o: u8)
     ensures { λ r. ⌜ now (image .exit) ≡ unlist (now (image .entry)) o ⌝ }
 {
-    leave(image, READERS, o);
-    leave(image, WRITERS, o);
+    let own = mask::single(o);
+    let mut t: u8 = 0;
+    while t < OBJECTS {
+        strike(image, t, own);
+        t = t + 1;
+    }
 }

@@ -47,6 +47,13 @@ pub struct Owner {
     pub stamp: u32,
 }
 
+// What a walk over the owners finds: whether each alone is in order, and the masks of those in states 1 and 2.
+struct Walk {
+    ok: bool,
+    listed: u16,
+    held: u16,
+}
+
 // How many objects and owners there are.
 pub const OBJECTS: u8 = 64;
 

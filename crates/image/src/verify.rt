@@ -1,12 +1,9 @@
 // Which bytes are an image.
 ghost use mathlib.Core.Path.{_≡_};
 ghost use mathlib.Core.Bool.{_&&_};
-ghost use Prim.Native.Nat.{ℕ};
-ghost use lib.Dec.{eqb, ltb};
-ghost use Rattle.mask.specs.Mask.{contains};
-ghost use Rattle.image.specs.Layout.{shape, owners, state};
+ghost use Rattle.image.specs.Layout.{shape};
 ghost use Rattle.image.specs.Valid.{each, countsOk, stateOk, serialOk, valid, check};
-ghost use Rattle.image.specs.Pass.{holderFits, copyFits, ownerFits};
+ghost use Rattle.image.specs.Pass.{holderFits, copyFits, marked, Walked};
 use crate::HELD;
 use crate::LISTED;
 use crate::NOBODY;
@@ -18,11 +15,11 @@ use crate::OWNERS;
 use crate::Owner;
 use crate::REFUSED;
 use crate::SIZE;
+use crate::Walk;
 use crate::fields::get_u8;
 use crate::read::holder;
 use crate::read::owner_of;
 use crate::read::readers;
-use crate::read::state;
 use crate::read::writers;
 use numbers::both;
 
@@ -47,32 +44,33 @@ fn owner_ok(w: Owner) -> bool
     }
 }
 
-// The same of every owner.
-fn owners_ok(image: &[u8]) -> bool
-    ensures { λ r. ⌜ r ≡ each owners (ownerFits (now (image .entry))) ⌝ }
+// The mask m with owner o, where it is `here`.
+fn mark(m: u16, o: u8, here: bool) -> u16
+    ensures { λ r. ⌜ r ≡ marked m o here ⌝ }
 {
-    let mut ok = true;
-    let mut o: u8 = 0;
-    while o < OWNERS {
-        ok = both(ok, owner_ok(owner_of(image, o)));
-        o = o + 1;
+    if here {
+        mask::join(m, mask::single(o))
+    } else {
+        m
     }
-    ok
 }
 
-// The mask of the owners in a state.
-fn in_state(image: &[u8], s: u8) -> u16
-    ensures { λ r. ⌜ ((o : ℕ) → contains r o ≡ (ltb o owners && eqb (state (now (image .entry)) o) s)) ⌝ }
+// One walk over the owners: whether each alone is in order, and the masks of those in states 1 and 2.
+fn walk(image: &[u8]) -> Walk
+    ensures { λ r. ⌜ Walked (now (image .entry)) r ⌝ }
 {
-    let mut m: u16 = 0;
+    let mut ok = true;
+    let mut listed: u16 = 0;
+    let mut held: u16 = 0;
     let mut o: u8 = 0;
     while o < OWNERS {
-        if state(image, o) == s {
-            m = mask::join(m, mask::single(o));
-        }
+        let w = owner_of(image, o);
+        ok = both(ok, owner_ok(w));
+        listed = mark(listed, o, w.state == LISTED);
+        held = mark(held, o, w.state == HELD);
         o = o + 1;
     }
-    m
+    Walk { ok, listed, held }
 }
 
 // The holder is nobody, or in the mask.
@@ -86,38 +84,29 @@ fn holder_ok(held: u16, h: u8) -> bool
     }
 }
 
-// The holder of object t is in one mask, and its lists are within the other.
-fn copy_ok(image: &[u8], listed: u16, held: u16, t: u8) -> bool
-    ensures { λ r. ⌜ r ≡ copyFits listed held (now (image .entry)) t ⌝ }
-{
-    let lists = mask::join(readers(image, t), writers(image, t));
-    both(
-        holder_ok(held, holder(image, t)),
-        mask::subset(lists, listed),
-    )
-}
-
-// The same of every object.
+// Every holder is in one mask, and every list is within the other: the lists are joined, and looked at once.
 fn copies_ok(image: &[u8], listed: u16, held: u16) -> bool
     ensures { λ r. ⌜ r ≡ each (shape .objects) (copyFits listed held (now (image .entry))) ⌝ }
 {
-    let mut ok = true;
+    let mut lists: u16 = 0;
     let mut t: u8 = 0;
     while t < OBJECTS {
-        ok = both(ok, copy_ok(image, listed, held, t));
+        if !holder_ok(held, holder(image, t)) {
+            return false;
+        }
+        lists = mask::join(lists, mask::join(readers(image, t), writers(image, t)));
         t = t + 1;
     }
-    ok
+    mask::subset(lists, listed)
 }
 
 // Every clause holds.
 fn is_valid(image: &[u8]) -> bool
     ensures { λ r. ⌜ r ≡ valid shape (now (image .entry)) ⌝ }
 {
-    let own = both(counts_ok(image), owners_ok(image));
-    let listed = in_state(image, LISTED);
-    let held = in_state(image, HELD);
-    both(own, copies_ok(image, listed, held))
+    let w = walk(image);
+    let own = both(counts_ok(image), w.ok);
+    both(own, copies_ok(image, w.listed, w.held))
 }
 
 // The number of an image: 1 another length, 2 a clause is broken, 0 neither.

@@ -3,11 +3,11 @@ use native.Mathlib.Omega.{arith}
 use Prim.Native.Nat.{_-_, _≤_}
 use mathlib.Core.Path.{_≡_, refl, sym, _∙_}
 use lib.ListN.{length}
+use denote.Ref.{now}
 use Rattle.image.specs.Field.{changedAll}
 use Rattle.image.specs.Layout.{shape, holderField}
-use Rattle.image.proofs.Lens.{all-more}
-use denote.Ref.{now}
 use Rattle.image.specs.Change.{freeing, free}
+use Rattle.image.proofs.Lens.{all-more}
 use borrow.Author.Needs.{needs}
 use Rattle.image.proofs.change.free.Statement.{statement}
 use Rattle.image.proofs.change.free.Tie as tie
@@ -23,14 +23,8 @@ loop-holds : tie.Need-loop-holds Inv-loop μ-loop
 unfolding changedAll
 loop-holds c = (omega arith, refl, refl)
 
-holder-requires : tie.Need-holder-requires Inv-loop μ-loop
-holder-requires c κs = search needs
-
-freed-requires : tie.Need-freed-requires Inv-loop μ-loop
-freed-requires c κs = search needs
-
-set-holder-requires : tie.Need-set-holder-requires Inv-loop μ-loop
-set-holder-requires c κs = search needs
+free-one-requires : tie.Need-free-one-requires Inv-loop μ-loop
+free-one-requires c κs = search needs
 
 add-t : tie.Need-add-t Inv-loop μ-loop
 add-t c = search needs
@@ -40,14 +34,12 @@ loop-less c = search needs
 
 loop-again : tie.Need-loop-again Inv-loop μ-loop
 loop-again c =
-    let l = c .before .before .before .before .before .before .before .before .loop in
-    let k = c .before .before .set-holder in
-    let x = c .before .before .before .before .before .before .before .before .before .before .args in
-    let new = c .before .before .before .before .freed in
-    let old = c .before .before .before .before .before .holder in (
+    let l = c .before .before .before .before .before .loop in
+    let k = c .before .before .free-one in
+    let x = c .before .before .before .before .before .before .before .args in (
       omega arith,
       k .kept .0 ∙ l .inv .1,
-      rw (k .ensures, new .ensures, old .ensures, l .inv .2) (sym (all-more (holderField shape) (freeing (x .o)) (l .t) (now (x .image)))),
+      rw (k .ensures, l .inv .2) (sym (all-more (holderField shape) (freeing (x .o)) (l .t) (now (x .image)))),
     )
 
 same-length : tie.Need-same-length Inv-loop μ-loop
@@ -67,9 +59,7 @@ free-spec =
     Inv-loop
     μ-loop
     loop-holds
-    holder-requires
-    freed-requires
-    set-holder-requires
+    free-one-requires
     add-t
     loop-less
     loop-again
