@@ -16,6 +16,7 @@ use Rattle.octets.specs.Octets.{get, put}
 use Rattle.octets.proofs.Laws.{length-put, get-put, get-put-other, put-put, put-get, get-out, put-out, get-small, Bytes}
 use Rattle.image.specs.declared.Field.{Field}
 use Rattle.image.specs.Field.{place, fieldOf, withField, changed, changedAll}
+use Rattle.image.specs.Pass.{Here}
 use Rattle.image.proofs.Each.{lt-or-le, same-or-not}
 
 -- ---- where fields stand
@@ -44,6 +45,10 @@ Holds f l = ends f ≤ length l
 -- an item ends where the next one starts, or before
 row : (w i j : ℕ) → i < j → w * i + w ≤ w * j
 row w i j h = let k : suc i ≤ j = omega arith in omega (arith, mul-suc w i, mul-le-mul-left {m = suc i} {n = j} w k)
+
+-- the bytes of an item that is there are there
+pub place-here : (f : Field) (n i : ℕ) → Here f n i → place f n i + f .width ≤ n
+place-here f n i h = simp (lt-ltb i (f .items) (h .1)) (omega (arith, h .2, h .3, row (f .stride) i (f .items) (h .1)))
 
 module _ (f : Field) (l : List ℕ) (i : ℕ) where
   of-in : i < f .items → fieldOf f l i ≡ get (f .width) l (f .base + f .stride * i + f .offset)

@@ -3,7 +3,7 @@ use mathlib.Core.Path.{_≡_, refl, sym, ap, _∙_, subst}
 use mathlib.Core.Bool.{Bool, true, false, not, cond, _&&_}
 use mathlib.Core.List.{List}
 use mathlib.Core.Logic.{inl, ⊎-elim}
-use Prim.Native.Nat.{ℕ, _^_, _<_, _≤_}
+use Prim.Native.Nat.{ℕ, _+_, _^_, _<_, _≤_}
 use native.Mathlib.Omega.{arith}
 use lib.Bits.{bitAnd, and-le-l, xor-lt}
 use lib.Dec.{T, eqb, eqb-refl, lit<, T-not}
@@ -14,12 +14,13 @@ use Rattle.mask.proofs.Laws.{bit-lt, contains-minus, ext}
 use Rattle.mask.proofs.Tests.{and-right}
 use Rattle.octets.proofs.Laws.{Bytes}
 use Rattle.image.specs.declared.Field.{Field}
-use Rattle.image.specs.Field.{fieldOf}
+use Rattle.image.specs.Field.{fieldOf, changed, changedAll}
 use Rattle.image.specs.Layout.{shape, owners, imageSize, objectCount, ownerCount, holderField, readersField, writersField}
 use Rattle.image.specs.Layout.{serialField, stateField, stampField, holder, readers, writers, state}
 use Rattle.image.specs.Valid.{nobody}
 use Rattle.image.specs.Change.{freeing, leaving, free, leave, unlist}
-use Rattle.image.proofs.Lens.{apart, inside, Holds, length-all, bytes-all, all-same, all-apart, all-here}
+use Rattle.image.specs.Pass.{struck}
+use Rattle.image.proofs.Lens.{apart, inside, Holds, length-all, bytes-all, all-same, all-more, all-comm, all-apart, all-here}
 use Rattle.image.proofs.Marks.{contains-only}
 use Rattle.image.proofs.Sound.{Sound, CopySound, HolderSound, ListSound, low-bits}
 use Rattle.image.proofs.Keep.{SameOwners, sound-copies, all-owners, list-less}
@@ -110,6 +111,18 @@ module _ (l : List ℕ) (o : ℕ) where
         states = λ i p. unlist-apart (stateField shape) p tt tt i;
         stamps = λ i p. unlist-apart (stampField shape) p tt tt i;
       }
+
+-- ---- the two sweeps as one: readers and writers share no byte
+abbrev pub strucks : ℕ → ℕ → List ℕ → List ℕ
+strucks o t l = changedAll (writersField shape) (leaving o) t (changedAll (readersField shape) (leaving o) t l)
+
+pub struck-next : (l : List ℕ) (o t : ℕ) → struck (only o) (strucks o t l) t ≡ strucks o (t + 1) l
+struck-next l o t =
+    let one = readersField shape in
+    let two = writersField shape in
+    let g = leaving o in
+    ap (λ (m : List ℕ). changed two g m t) (all-comm one two g g t (changedAll one g t l) t tt tt)
+    ∙ sym (all-more two g t (changedAll one g (t + 1) l) ∙ ap (λ (m : List ℕ). changed two g (changedAll two g t m) t) (all-more one g t l))
 
 -- ---- where o is in no list, or holds nothing, they change nothing
 -- a mask without o stays as it is

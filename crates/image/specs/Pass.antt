@@ -1,13 +1,15 @@
 -- What the private functions compute in passing. The check: in one pass over the owners the masks of those in states 1 and 2, and from them in one pass over
 -- the copies what proofs/Sound.antt shows to be the clauses. A strike: both lists of one object at once.
+-- A field that is there: what its place asks.
 use mathlib.Core.Path.{_≡_}
 use mathlib.Core.Bool.{Bool, cond, _&&_, _||_}
 use mathlib.Core.List.{List}
-use Prim.Native.Nat.{ℕ}
+use Prim.Native.Nat.{ℕ, _+_, _*_, _<_, _≤_}
 use lib.Dec.{eqb, ltb}
 use Rattle.mask.specs.Mask.{contains, only, joined, minus, within}
+use Rattle.image.specs.declared.Field.{Field}
 use Rattle.image.specs.declared.Walk.{Walk}
-use Rattle.image.specs.Field.{changed}
+use Rattle.image.specs.Field.{Near, changed}
 use Rattle.image.specs.Layout.{shape, owners, readersField, writersField, holder, readers, writers, serial, state, stamp}
 use Rattle.image.specs.Valid.{listed, held, nobody, each, stateOk, serialOk}
 
@@ -40,3 +42,7 @@ pub record Walked (l : List ℕ) (w : Walk) : Type 0 where
 -- the owners of a mask leave both lists of object t
 abbrev pub struck : ℕ → List ℕ → ℕ → List ℕ
 struck own l t = changed (writersField shape) (λ m. minus m own) (changed (readersField shape) (λ m. minus m own) l t) t
+
+-- item i is there, and n bytes have every item of the field: then its bytes are read and written without a test
+abbrev pub Here : Field → ℕ → ℕ → Type 0
+Here f n i = Near f × (i < f .items) × (f .offset + f .width ≤ f .stride) × (f .base + f .stride * f .items ≤ n)

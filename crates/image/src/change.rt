@@ -1,12 +1,14 @@
 // What a replica changes in an image beside single fields: all of it made blank, the lists of an object, and what an owner holds or is listed in.
 ghost use mathlib.Core.Path.{_≡_};
+ghost use Prim.Native.Nat.{_<_};
 ghost use lib.ListN.{length, replicate};
-ghost use Rattle.image.specs.Layout.{shape, holderField};
+ghost use Rattle.image.specs.Layout.{shape, imageSize, holderField};
 ghost use Rattle.image.specs.Field.{Near, changed};
 ghost use Rattle.image.specs.Blank.{counted, unheld, blank, blankNumber};
 ghost use Rattle.image.specs.Change.{listing, addReader, addWriter, freeing, free, unlist};
 ghost use Rattle.image.specs.Pass.{struck};
 use crate::Field;
+use crate::HOLDER;
 use crate::NOBODY;
 use crate::OBJECT_COUNT;
 use crate::OBJECTS;
@@ -16,6 +18,10 @@ use crate::READERS;
 use crate::SIZE;
 use crate::WRITERS;
 use crate::fields::get_u16;
+use crate::fields::here_u8;
+use crate::fields::here_u16;
+use crate::fields::put_here_u8;
+use crate::fields::put_here_u16;
 use crate::fields::put_u8;
 use crate::fields::put_u16;
 use crate::read::holder;
@@ -102,8 +108,8 @@ fn free_one(image: &mut [u8], t: u8, o: u8)
     }
 }
 
-// Frees every copy that owner o holds. Ruled out: the copies of other owners freed; only the first of o's copies freed.
-pub fn free(image: &mut [u8], o: u8)
+// Owner o lets go of every copy, in bytes of any length.
+fn free_any(image: &mut [u8], o: u8)
     ensures { λ r. ⌜ now (image .exit) ≡ free (now (image .entry)) o ⌝ }
 {
     let mut t: u8 = 0;
@@ -113,8 +119,40 @@ pub fn free(image: &mut [u8], o: u8)
     }
 }
 
+// The same in bytes of an image's length, where no place is tested.
+fn free_here(image: &mut [u8], t: u8, o: u8)
+    requires { ⌜ (t < shape .objects) × (length (now image) ≡ imageSize shape) ⌝ }
+    ensures { λ r. ⌜ now (image .exit) ≡ changed (holderField shape) (freeing o) (now (image .entry)) t ⌝ }
+{
+    if here_u8(image, HOLDER, t) == o {
+        put_here_u8(image, HOLDER, t, NOBODY);
+    }
+}
+
+fn free_all(image: &mut [u8], o: u8)
+    requires { ⌜ length (now image) ≡ imageSize shape ⌝ }
+    ensures { λ r. ⌜ now (image .exit) ≡ free (now (image .entry)) o ⌝ }
+{
+    let mut t: u8 = 0;
+    while t < OBJECTS {
+        free_here(image, t, o);
+        t = t + 1;
+    }
+}
+
+// Frees every copy that owner o holds. Ruled out: the copies of other owners freed; only the first of o's copies freed.
+pub fn free(image: &mut [u8], o: u8)
+    ensures { λ r. ⌜ now (image .exit) ≡ free (now (image .entry)) o ⌝ }
+{
+    if image.len() == SIZE {
+        free_all(image, o);
+    } else {
+        free_any(image, o);
+    }
+}
+
 // The owners of the mask `own` leave both lists of object t.
-fn strike(image: &mut [u8], t: u8, own: u16)
+fn strike_one(image: &mut [u8], t: u8, own: u16)
     ensures { λ r. ⌜ now (image .exit) ≡ struck own (now (image .entry)) t ⌝ }
 {
     let r = mask::without(readers(image, t), own);
@@ -123,14 +161,48 @@ fn strike(image: &mut [u8], t: u8, own: u16)
     set_writers(image, t, w);
 }
 
-// Owner o leaves all readers and writers. Ruled out: the whole lists emptied; o left among the writers.
-pub fn unlist(image: &mut [u8], o: u8)
+// Owner o leaves all lists, in bytes of any length.
+fn strike_any(image: &mut [u8], o: u8)
     ensures { λ r. ⌜ now (image .exit) ≡ unlist (now (image .entry)) o ⌝ }
 {
     let own = mask::single(o);
     let mut t: u8 = 0;
     while t < OBJECTS {
-        strike(image, t, own);
+        strike_one(image, t, own);
         t = t + 1;
+    }
+}
+
+// The same in bytes of an image's length, where no place is tested.
+fn strike_here(image: &mut [u8], t: u8, own: u16)
+    requires { ⌜ (t < shape .objects) × (length (now image) ≡ imageSize shape) ⌝ }
+    ensures { λ r. ⌜ now (image .exit) ≡ struck own (now (image .entry)) t ⌝ }
+{
+    let r = mask::without(here_u16(image, READERS, t), own);
+    put_here_u16(image, READERS, t, r);
+    let w = mask::without(here_u16(image, WRITERS, t), own);
+    put_here_u16(image, WRITERS, t, w);
+}
+
+fn strike_all(image: &mut [u8], o: u8)
+    requires { ⌜ length (now image) ≡ imageSize shape ⌝ }
+    ensures { λ r. ⌜ now (image .exit) ≡ unlist (now (image .entry)) o ⌝ }
+{
+    let own = mask::single(o);
+    let mut t: u8 = 0;
+    while t < OBJECTS {
+        strike_here(image, t, own);
+        t = t + 1;
+    }
+}
+
+// Owner o leaves all readers and writers. Ruled out: the whole lists emptied; o left among the writers.
+pub fn unlist(image: &mut [u8], o: u8)
+    ensures { λ r. ⌜ now (image .exit) ≡ unlist (now (image .entry)) o ⌝ }
+{
+    if image.len() == SIZE {
+        strike_all(image, o);
+    } else {
+        strike_any(image, o);
     }
 }

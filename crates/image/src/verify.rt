@@ -1,10 +1,12 @@
 // Which bytes are an image.
 ghost use mathlib.Core.Path.{_≡_};
 ghost use mathlib.Core.Bool.{_&&_};
-ghost use Rattle.image.specs.Layout.{shape};
+ghost use lib.ListN.{length};
+ghost use Rattle.image.specs.Layout.{shape, imageSize};
 ghost use Rattle.image.specs.Valid.{each, countsOk, stateOk, serialOk, valid, check};
 ghost use Rattle.image.specs.Pass.{holderFits, copyFits, marked, Walked};
 use crate::HELD;
+use crate::HOLDER;
 use crate::LISTED;
 use crate::NOBODY;
 use crate::OBJECT_COUNT;
@@ -13,14 +15,15 @@ use crate::OVER;
 use crate::OWNER_COUNT;
 use crate::OWNERS;
 use crate::Owner;
+use crate::READERS;
 use crate::REFUSED;
 use crate::SIZE;
+use crate::WRITERS;
 use crate::Walk;
 use crate::fields::get_u8;
-use crate::read::holder;
+use crate::fields::here_u8;
+use crate::fields::here_u16;
 use crate::read::owner_of;
-use crate::read::readers;
-use crate::read::writers;
 use numbers::both;
 
 // The two counts are 64 and 13.
@@ -86,15 +89,18 @@ fn holder_ok(held: u16, h: u8) -> bool
 
 // Every holder is in one mask, and every list is within the other: the lists are joined, and looked at once.
 fn copies_ok(image: &[u8], listed: u16, held: u16) -> bool
+    requires { ⌜ length (now image) ≡ imageSize shape ⌝ }
     ensures { λ r. ⌜ r ≡ each (shape .objects) (copyFits listed held (now (image .entry))) ⌝ }
 {
     let mut lists: u16 = 0;
     let mut t: u8 = 0;
     while t < OBJECTS {
-        if !holder_ok(held, holder(image, t)) {
+        if !holder_ok(held, here_u8(image, HOLDER, t)) {
             return false;
         }
-        lists = mask::join(lists, mask::join(readers(image, t), writers(image, t)));
+        let r = here_u16(image, READERS, t);
+        let w = here_u16(image, WRITERS, t);
+        lists = mask::join(lists, mask::join(r, w));
         t = t + 1;
     }
     mask::subset(lists, listed)
@@ -102,6 +108,7 @@ fn copies_ok(image: &[u8], listed: u16, held: u16) -> bool
 
 // Every clause holds.
 fn is_valid(image: &[u8]) -> bool
+    requires { ⌜ length (now image) ≡ imageSize shape ⌝ }
     ensures { λ r. ⌜ r ≡ valid shape (now (image .entry)) ⌝ }
 {
     let w = walk(image);

@@ -42,8 +42,8 @@ loop-holds : tie.Need-loop-holds Inv-loop μ-loop
 unfolding each
 loop-holds c = (omega arith, refl, refl)
 
-holder-requires : tie.Need-holder-requires Inv-loop μ-loop
-holder-requires c κs = search needs
+here-u8-requires : tie.Need-here-u8-requires Inv-loop μ-loop
+here-u8-requires c κs = search needs
 
 holder-ok-requires : tie.Need-holder-ok-requires Inv-loop μ-loop
 holder-ok-requires c κs = search needs
@@ -53,15 +53,15 @@ returns c =
     let l = c .before .before .before .before .loop in
     let x = c .before .before .before .before .before .before .args in
     let e : fit (x .held) (now (x .image)) (l .t) ≡ false =
-    ap (holderFits (x .held)) (sym (c .before .before .holder .ensures)) ∙ sym (c .before .holder-ok .ensures) ∙ unless _ (c .if1 .taken) in
+    ap (holderFits (x .held)) (sym (c .before .before .here-u8 .ensures)) ∙ sym (c .before .holder-ok .ensures) ∙ unless _ (c .if1 .taken) in
     let q = inside (x .listed) (now (x .image)) (l .t) in
     sym (each-fails (copyFits (x .listed) (x .held) (now (x .image))) (shape .objects) (l .t) (omega arith) (ap (λ (b : Bool). b && q) e))
 
-readers-requires : tie.Need-readers-requires Inv-loop μ-loop
-readers-requires c κs = search needs
+here-u16-requires : tie.Need-here-u16-requires Inv-loop μ-loop
+here-u16-requires c κs = search needs
 
-writers-requires : tie.Need-writers-requires Inv-loop μ-loop
-writers-requires c κs = search needs
+here-u16-requires-2 : tie.Need-here-u16-requires-2 Inv-loop μ-loop
+here-u16-requires-2 c κs = search needs
 
 join-requires : tie.Need-join-requires Inv-loop μ-loop
 join-requires c κs = search needs
@@ -82,11 +82,11 @@ loop-again c =
     let p = fit (x .held) (now (x .image)) in
     let q = inside (x .listed) (now (x .image)) in
     let e : p (l .t) ≡ true =
-    ap (holderFits (x .held)) (sym (c .before .before .before .before .before .before .holder .ensures)) ∙ sym (c .before .before .before .before .before .holder-ok .ensures) ∙ indeed _ (c .before .before .before .before .if1 .left) in (
+    ap (holderFits (x .held)) (sym (c .before .before .before .before .before .before .here-u8 .ensures)) ∙ sym (c .before .before .before .before .before .holder-ok .ensures) ∙ indeed _ (c .before .before .before .before .if1 .left) in (
       omega arith,
       each-more p (l .t) ∙ rw (l .inv .1, e),
-      rw (c .join2 .ensures, c .before .join .ensures, c .before .before .writers .ensures, c .before .before .before .readers .ensures)
-          (within-joined (l .lists) _ (x .listed) ∙ ap (λ (b : Bool). b && q (l .t)) (l .inv .2) ∙ sym (each-more q (l .t))),
+      rw (c .join2 .ensures, c .before .join .ensures, c .before .before .here-u162 .ensures, c .before .before .before .here-u16 .ensures)
+          (within-joined (l .lists) (joined (readers (now (x .image)) (l .t)) (writers (now (x .image)) (l .t))) (x .listed) ∙ ap (λ (b : Bool). b && q (l .t)) (l .inv .2) ∙ sym (each-more q (l .t))),
     )
 
 subset-requires : tie.Need-subset-requires Inv-loop μ-loop
@@ -110,11 +110,11 @@ copies-ok-spec =
     Inv-loop
     μ-loop
     loop-holds
-    holder-requires
+    here-u8-requires
     holder-ok-requires
     returns
-    readers-requires
-    writers-requires
+    here-u16-requires
+    here-u16-requires-2
     join-requires
     join-requires-2
     add-t

@@ -1,4 +1,4 @@
--- `image::change::free`: the holders of the objects passed are freed.
+-- `image::change::free_any`: the holders of the objects passed are freed.
 use native.Mathlib.Omega.{arith}
 use Prim.Native.Nat.{_-_, _≤_}
 use mathlib.Core.Path.{_≡_, refl, sym, _∙_}
@@ -9,8 +9,8 @@ use Rattle.image.specs.Layout.{shape, holderField}
 use Rattle.image.specs.Change.{freeing, free}
 use Rattle.image.proofs.Lens.{all-more}
 use borrow.Author.Needs.{needs}
-use Rattle.image.proofs.change.free.Statement.{statement}
-use Rattle.image.proofs.change.free.Tie as tie
+use Rattle.image.proofs.change.free_any.Statement.{statement}
+use Rattle.image.proofs.change.free_any.Tie as tie
 
 abbrev Inv-loop : tie.InvT-loop
 Inv-loop image₀ o t₀ image t =
@@ -52,8 +52,8 @@ returns c =
     let e : l .t ≡ shape .objects = omega arith in
     rw e at (l .inv .2)
 
-pub free-spec : {M : Type 1} → statement M
-free-spec =
+pub free-any-spec : {M : Type 1} → statement M
+free-any-spec =
     tie.close
     (tie.spec
     Inv-loop

@@ -1,7 +1,7 @@
--- `image::change::strike`: first the readers, then the writers.
+-- `image::change::strike_one`: first the readers, then the writers.
 use borrow.Author.Needs.{needs}
-use Rattle.image.proofs.change.strike.Statement.{statement}
-use Rattle.image.proofs.change.strike.Tie as tie
+use Rattle.image.proofs.change.strike_one.Statement.{statement}
+use Rattle.image.proofs.change.strike_one.Tie as tie
 
 readers-requires : tie.Need-readers-requires
 readers-requires c κs = search needs
@@ -34,8 +34,8 @@ returns c = rw (
   c .before .before .before .before .before .before .before .before .before .before .before .before .readers .ensures,
 )
 
-pub strike-spec : {M : Type 1} → statement M
-strike-spec =
+pub strike-one-spec : {M : Type 1} → statement M
+strike-one-spec =
     tie.close
     (tie.spec
     readers-requires
