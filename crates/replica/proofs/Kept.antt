@@ -21,8 +21,9 @@ use Rattle.image.proofs.Each.{same-or-not}
 use Rattle.image.proofs.Lens.{of-with, of-with-apart}
 use Rattle.image.proofs.Sound.{Sound, OwnerSound, check-sound, sound-check}
 use Rattle.image.proofs.Keep.{keeps-value, keeps-version, keeps-holder, keeps-reader, keeps-writer}
-use Rattle.image.proofs.Whole.{length-unlist, unlist-apart, keeps-free, keeps-unlist}
-use Rattle.image.proofs.Idle.{Idle, idle-by-state, idle-unlisted, idle-released, keeps-state, keeps-owner, state-of}
+use Rattle.image.proofs.Whole.{bytes-free, free-apart, length-unlist, unlist-apart, keeps-free, keeps-unlist}
+use Rattle.image.proofs.Idle.{Idle, free-unless-held, unlist-unless-listed, idle-by-state, idle-unlisted, idle-released}
+use Rattle.image.proofs.Idle.{unlist-new, keeps-state, keeps-owner, state-of}
 use Rattle.replica.specs.Standing.{aboveOf, standing, active, entered}
 use Rattle.replica.specs.Judge.{votesNo}
 use Rattle.replica.specs.Steps.{joins, wanted, fetchImage, holdingOne, holding, leaves}
@@ -97,6 +98,19 @@ module _ (l : List ℕ) (o : ℕ) (s : Sound l) (small : o < owners) where
       keeps-state (unlist f o) o u small (idle-released l o s small) 0
       (ended (serial (unlist f o) o) (state (unlist f o) o) (stamp (unlist f o) o) (u .clauses .owners-sound o small))
 
+-- the same with less: a held owner is in no list, and another holds nothing
+module _ (l : List ℕ) (o : ℕ) (s : Sound l) (small : o < owners) (b : Bytes l) where
+  pub release-held : state l o ≡ 2 → released l o ≡ withState (free l o) o 0
+  unfolding released leaves
+  release-held e =
+      let k : state (free l o) o ≡ 2 = free-apart l o (stateField shape) o tt ∙ e in
+      ap (λ (m : List ℕ). withState m o 0)
+      (unlist-unless-listed (free l o) o (keeps-free l o s) small (bytes-free l o b) (λ f. let z : ⊥ = omega arith in z))
+
+  pub release-other : (state l o ≡ 2 → ⊥) → released l o ≡ leaves l o 0
+  unfolding released
+  release-other ne = ap (λ (m : List ℕ). leaves m o 0) (free-unless-held l o s small b ne)
+
 -- copies held by an owner in state 2
 pub keeps-holding : (l : List ℕ) (o : ℕ) (es : List Entry) → o < owners → Sound l → state l o ≡ 2 → Sound (holding l o es)
 unfolding holding
@@ -125,18 +139,33 @@ on-true : (P : List ℕ → Type 0) (t : Bool) (x y : List ℕ) → (t ≡ true 
 on-true P true x y f g = f refl
 on-true P false x y f g = g refl
 
-module _ (l : List ℕ) (m : Message) (s : Sound l) (small : m .owner < owners) (here : 1 ≤ m .serial) (at : 1 ≤ m .stamp) (f : Fits m) where
+module _ (l : List ℕ) (m : Message) (s : Sound l) (small : m .owner < owners) where
   idle-fresh : standing l m ≡ 4 → Idle l (m .owner)
   idle-fresh e =
       let z = fresh-state l m (s .clauses .owners-sound (m .owner) small .small) e in
       idle-by-state l (m .owner) s small (λ q. let w : ⊥ = omega arith in w) (λ q. let w : ⊥ = omega arith in w)
 
+  -- one that was not listed before is in no list once it is
+  pub unlist-entered : Bytes l → active l m ≡ true → eqb (standing l m) 1 ≡ false → unlist (entered l m) (m .owner) ≡ entered l m
+  unfolding active entered
+  unlist-entered b a n =
+      or-split (unlist (entered l m) (m .owner) ≡ entered l m) (eqb (standing l m) 1) (eqb (standing l m) 4)
+      (λ e. absurd (subst T (sym e ∙ n) tt))
+      (λ e. simp e (unlist-new l (m .owner) (m .serial) 1 (m .stamp) b small (idle-fresh (eqb-true (standing l m) 4 e))))
+      a
+
+-- a commit writes, an abort does not: sound either way
+pub keeps-decided : (l : List ℕ) (m : Message) → Sound l → Sound (decided l m)
+unfolding decided
+keeps-decided l m s = on-true Sound (eqb (wordOf m) 1) _ _ (λ t. keeps-applied l (m .entries) s) (λ t. s)
+
+module _ (l : List ℕ) (m : Message) (s : Sound l) (small : m .owner < owners) (here : 1 ≤ m .serial) (at : 1 ≤ m .stamp) (f : Fits m) where
   begun : (st : ℕ) → st ≤ 3 → OwnerSound (m .serial) st (m .stamp)
   begun st h = record { small = h; named = inr (λ q. let w : ⊥ = omega arith in w, λ q. let w : ⊥ = omega arith in w) }
 
   keeps-begun : (st : ℕ) → st ≤ 3 → standing l m ≡ 4 → Sound (withOwner l (m .owner) (m .serial) st (m .stamp))
   keeps-begun st h e =
-      keeps-owner l (m .owner) s small (idle-fresh e) (m .serial) st (m .stamp) (omega (arith, f .serial)) (omega (arith, f .stamp)) (begun st h)
+      keeps-owner l (m .owner) s small (idle-fresh l m s small e) (m .serial) st (m .stamp) (omega (arith, f .serial)) (omega (arith, f .stamp)) (begun st h)
 
   pub keeps-entered : active l m ≡ true → Sound (entered l m) × (state (entered l m) (m .owner) ≡ 1)
   unfolding active entered
@@ -177,11 +206,11 @@ module _ (l : List ℕ) (m : Message) (s : Sound l) (small : m .owner < owners) 
       (λ e. s)
 
   keeps-outcome : Sound (outcomeImage l m)
-  unfolding outcomeImage decided
+  unfolding outcomeImage
   keeps-outcome =
       either-way Sound (eqb (standing l m) 0) _ _ s
       (on-true Sound (eqb (standing l m) 4) _ _ (λ e. keeps-begun 0 (omega arith) (eqb-true (standing l m) 4 e))
-      (λ e. keeps-release (decided l m) (m .owner) (on-true Sound (eqb (wordOf m) 1) _ _ (λ t. keeps-applied l (m .entries) s) (λ t. s)) small))
+      (λ e. keeps-release (decided l m) (m .owner) (keeps-decided l m s) small))
 
   pub keeps-step : (me : ℕ) → Sound (step l me m .image)
   unfolding step

@@ -19,6 +19,7 @@ use Rattle.image.specs.Valid.{check, checkAs, valid}
 use Rattle.image.proofs.Sound.{Sound, check-sound}
 use Rattle.replica.specs.Standing.{aboveOf, standing, active}
 use Rattle.replica.specs.Steps.{fetchImage, askImage, outcomeImage}
+use Rattle.replica.specs.Given.{Clear}
 use Rattle.replica.specs.Receive.{outcomeEarly, wrongTurn, refusals, refusal, Delivered, step}
 use Rattle.replica.proofs.Spoken.{false-true, named-of}
 use Rattle.replica.proofs.Delivered.{cleared, past, or-neither}
@@ -53,6 +54,11 @@ clear size l me b e =
     let t = past (wrongTurn l (decode b)) 4 _ (s .1) in
     let n = or-neither (ltb size 128) lengths (a .0) in
     (whole-image l (or-neither (eqb (check l) 1) (eqb (checkOf b) 1) (n .1) .0) (d .0), t .0)
+
+pub clear-is : (size : ℕ) (l : List ℕ) (me : ℕ) (b : List ℕ) → refusal size l me b ≡ 0 → Clear l (decode b)
+clear-is size l me b e =
+    let k = cleared size l me b e in
+    (clear size l me b e .0, ltb-true (decode b .owner) 13 (named-of me (decode b) (k .node) (k .formed) .owner))
 
 -- the refusals of `receive` are passed
 pub taken : (size : ℕ) (l : List ℕ) (me : ℕ) (b : List ℕ) → Bytes b → refusal size l me b ≡ 0 → Taken l (decode b)

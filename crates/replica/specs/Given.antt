@@ -3,13 +3,15 @@
 use mathlib.Core.Path.{_≡_}
 use mathlib.Core.Bool.{Bool, true, _||_}
 use mathlib.Core.List.{List}
-use Prim.Native.Nat.{ℕ}
+use Prim.Native.Nat.{ℕ, _<_}
 use lib.Dec.{eqb, ltb}
 use Rattle.wire.specs.declared.Entry.{Entry}
 use Rattle.wire.specs.declared.Written.{Written}
 use Rattle.wire.specs.Message.{Message}
 use Rattle.wire.specs.Formed.{every}
 use Rattle.wire.specs.Write.{writtenOf, bufferAfter}
+use Rattle.image.specs.Layout.{owners}
+use Rattle.image.specs.Valid.{check}
 use Rattle.replica.specs.Steps.{Answer, silent, says}
 
 unfoldable pub writtenAs : ℕ → Answer → Written
@@ -26,3 +28,7 @@ raisable e = eqb (e .mode) 0 || ltb (e .version) 4294967295
 
 abbrev pub Raisable : Message → Type 0
 Raisable m = every raisable (m .entries) ≡ true
+
+-- what the steps ask, and a delivery that nothing refuses has: a valid image, and an owner that is one
+abbrev pub Clear : List ℕ → Message → Type 0
+Clear l m = (check l ≡ 0) × (m .owner < owners)

@@ -2,8 +2,12 @@
 ghost use mathlib.Core.Path.{_≡_};
 ghost use Rattle.wire.specs.Decode.{decode};
 ghost use Rattle.replica.specs.Steps.{joins, holdingOne, holding, leaves, appliedOne, applied, decided, released, outcomeImage};
-ghost use Rattle.replica.specs.Given.{raisable, Raisable};
-ghost use mathlib.Core.Bool.{true};
+ghost use Rattle.replica.specs.Given.{raisable, Raisable, Clear};
+ghost use mathlib.Core.Bool.{true, false};
+ghost use Prim.Native.Nat.{_<_};
+ghost use Rattle.image.specs.Layout.{owners};
+ghost use Rattle.image.specs.Valid.{check};
+ghost use Rattle.image.specs.Change.{unlist};
 use crate::FRESH;
 use crate::standing::standing;
 
@@ -41,11 +45,16 @@ pub(crate) fn hold(image: &mut [u8], message: &[u8])
     }
 }
 
-// The owner o leaves all lists, and has this state.
-pub(crate) fn leave(image: &mut [u8], o: u8, state: u8)
+// The owner o leaves all lists, and has this state. Where it is in none, there is nothing to leave.
+pub(crate) fn leave(image: &mut [u8], o: u8, state: u8, listed: bool)
+    requires { ⌜ (listed ≡ false → unlist (now image) o ≡ now image) ⌝ }
     ensures { λ r. ⌜ now (image .exit) ≡ leaves (now (image .entry)) o state ⌝ }
 {
-    image::unlist(image, o);
+    if listed {
+        image::unlist(image, o);
+        image::set_state(image, o, state);
+        return;
+    }
     image::set_state(image, o, state);
 }
 
@@ -84,17 +93,23 @@ fn decide(image: &mut [u8], message: &[u8])
     }
 }
 
-// The owner o lets go of everything, and is over.
+// The owner o lets go of everything, and is over. In a valid image only a held owner holds copies, and only a listed one is in lists.
 fn release(image: &mut [u8], o: u8)
+    requires { ⌜ (check (now image) ≡ 0) × (o < owners) ⌝ }
     ensures { λ r. ⌜ now (image .exit) ≡ released (now (image .entry)) o ⌝ }
 {
-    image::free(image, o);
-    leave(image, o, image::OVER);
+    let state = image::state(image, o);
+    if state == image::HELD {
+        image::free(image, o);
+        image::set_state(image, o, image::OVER);
+        return;
+    }
+    leave(image, o, image::OVER, state == image::LISTED);
 }
 
 // An outcome: late, early, or of the transaction that is here.
 pub(crate) fn settle(image: &mut [u8], message: &[u8])
-    requires { ⌜ Raisable (decode (now message)) ⌝ }
+    requires { ⌜ Raisable (decode (now message)) × Clear (now image) (decode (now message)) ⌝ }
     ensures { λ r. ⌜ now (image .exit) ≡ outcomeImage (now (image .entry)) (decode (now (message .entry))) ⌝ }
 {
     let s = standing(image, message);

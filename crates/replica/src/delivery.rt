@@ -2,7 +2,7 @@
 ghost use mathlib.Core.Path.{_≡_};
 ghost use lib.ListN.{length};
 ghost use Rattle.wire.specs.Decode.{kindOf, decode, longest};
-ghost use Rattle.replica.specs.Given.{writtenAs, filledBy, Raisable};
+ghost use Rattle.replica.specs.Given.{writtenAs, filledBy, Raisable, Clear};
 ghost use Rattle.replica.specs.Receive.{outcomeEarly, wrongTurn, refusal, step, deliver, receivedOf, bufferOf, spoken, speaks};
 use crate::EARLY;
 use crate::Received;
@@ -66,7 +66,7 @@ fn refusal(image: &[u8], me: u8, message: &[u8], size: usize) -> u8
 
 // The step of a message's kind.
 fn perform(image: &mut [u8], me: u8, message: &[u8], answer: &mut [u8]) -> wire::Written
-    requires { ⌜ (kindOf (now message) ≡ 5 → Raisable (decode (now message))) ⌝ }
+    requires { ⌜ (kindOf (now message) ≡ 5 → Raisable (decode (now message))) × Clear (now image) (decode (now message)) ⌝ }
     ensures number { λ r. ⌜ r ≡ writtenAs (length (now (answer .entry))) (step (now (image .entry)) me (decode (now (message .entry))) .answer) ⌝ }
     ensures image { λ r. ⌜ now (image .exit) ≡ step (now (image .entry)) me (decode (now (message .entry))) .image ⌝ }
     ensures buffer { λ r. ⌜ now (answer .exit) ≡ filledBy (step (now (image .entry)) me (decode (now (message .entry))) .answer) (now (answer .entry)) ⌝ }

@@ -96,6 +96,9 @@ fn older_in(image: &[u8], rivals: u16, o: u8, r: u8) -> bool
 fn older_among(image: &[u8], rivals: u16, o: u8) -> bool
     ensures { λ r. ⌜ r ≡ olderAmong (now (image .entry)) rivals o ⌝ }
 {
+    if rivals == 0 {
+        return false;
+    }
     let mut found = false;
     let mut r: u8 = 0;
     while r < image::OWNERS {
@@ -105,12 +108,12 @@ fn older_among(image: &[u8], rivals: u16, o: u8) -> bool
     found
 }
 
-// The vote is no.
-pub(crate) fn votes_no(image: &[u8], message: &[u8]) -> bool
+// The vote is no, given the rivals.
+pub(crate) fn votes_no(image: &[u8], message: &[u8], rivals: u16) -> bool
+    requires { ⌜ rivals ≡ rivalsOf (now image) (decode (now message)) ⌝ }
     ensures { λ r. ⌜ r ≡ votesNo (now (image .entry)) (decode (now (message .entry))) ⌝ }
 {
     let barred = either(held_by_another(image, message), newer_here(image, message));
-    let rivals = rivals_of(image, message);
     either(barred, older_among(image, rivals, wire::owner(message)))
 }
 
@@ -129,6 +132,9 @@ fn named(image: &[u8], rivals: u16, o: u8) -> u32
 pub(crate) fn serials_of(image: &[u8], rivals: u16) -> [u32; 13]
     ensures { λ r. ⌜ r ≡ serialsOf (now (image .entry)) rivals ⌝ }
 {
+    if rivals == 0 {
+        return [0u32; 13];
+    }
     let mut serials = [0u32; 13];
     let mut o: u8 = 0;
     while o < image::OWNERS {

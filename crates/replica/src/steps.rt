@@ -4,7 +4,9 @@ ghost use lib.ListN.{length};
 ghost use Rattle.wire.specs.Decode.{decode};
 ghost use Rattle.replica.specs.Steps.{copyHere, fetchImage, fetchAnswer, judgedImage, judgedAnswer, askImage, askAnswer};
 ghost use Rattle.replica.specs.Steps.{outcomeImage, outcomeAnswer};
-ghost use Rattle.replica.specs.Given.{writtenAs, filledBy, Raisable};
+ghost use mathlib.Core.Bool.{false};
+ghost use Rattle.image.specs.Change.{unlist};
+ghost use Rattle.replica.specs.Given.{writtenAs, filledBy, Raisable, Clear};
 use crate::answer::say_copy;
 use crate::answer::say_done;
 use crate::answer::say_vote;
@@ -47,34 +49,37 @@ pub(crate) fn fetch(image: &mut [u8], me: u8, message: &[u8], answer: &mut [u8])
     silence()
 }
 
-// A listed ask: a no leaves it refused; a yes holds what it writes and names the rivals. Either way the owner leaves all lists.
-fn judge(image: &mut [u8], me: u8, message: &[u8], answer: &mut [u8]) -> wire::Written
+// A listed ask: a no leaves it refused; a yes holds what it writes and names the rivals. Either way the owner leaves all lists, if it was `listed` before.
+fn judge(image: &mut [u8], me: u8, message: &[u8], answer: &mut [u8], listed: bool) -> wire::Written
+    requires { ⌜ (listed ≡ false → unlist (now image) (decode (now message) .owner) ≡ now image) ⌝ }
     ensures number { λ r. ⌜ r ≡ writtenAs (length (now (answer .entry))) (judgedAnswer me (now (image .entry)) (decode (now (message .entry)))) ⌝ }
     ensures image { λ r. ⌜ now (image .exit) ≡ judgedImage (now (image .entry)) (decode (now (message .entry))) ⌝ }
     ensures buffer { λ r. ⌜ now (answer .exit) ≡ filledBy (judgedAnswer me (now (image .entry)) (decode (now (message .entry)))) (now (answer .entry)) ⌝ }
 {
     let o = wire::owner(message);
-    if votes_no(image, message) {
-        leave(image, o, image::REFUSED);
+    let rivals = rivals_of(image, message);
+    if votes_no(image, message, rivals) {
+        leave(image, o, image::REFUSED, listed);
         return say_vote(answer, me, message, [0; 13], 0);
     }
-    let serials = serials_of(image, rivals_of(image, message));
-    leave(image, o, image::HELD);
+    let serials = serials_of(image, rivals);
+    leave(image, o, image::HELD, listed);
     hold(image, message);
     say_vote(answer, me, message, serials, 1)
 }
 
 // An ask: listed is judged; held answers yes and refused no again, naming no rivals.
 pub(crate) fn ask(image: &mut [u8], me: u8, message: &[u8], answer: &mut [u8]) -> wire::Written
+    requires { ⌜ Clear (now image) (decode (now message)) ⌝ }
     ensures number { λ r. ⌜ r ≡ writtenAs (length (now (answer .entry))) (askAnswer me (now (image .entry)) (decode (now (message .entry)))) ⌝ }
     ensures image { λ r. ⌜ now (image .exit) ≡ askImage (now (image .entry)) (decode (now (message .entry))) ⌝ }
     ensures buffer { λ r. ⌜ now (answer .exit) ≡ filledBy (askAnswer me (now (image .entry)) (decode (now (message .entry)))) (now (answer .entry)) ⌝ }
 {
+    let s = standing(image, message);
     if is_active(image, message) {
         enter(image, message);
-        return judge(image, me, message, answer);
+        return judge(image, me, message, answer, s == image::LISTED);
     }
-    let s = standing(image, message);
     if s == image::HELD {
         return say_vote(answer, me, message, [0u32; 13], 1);
     }
@@ -86,7 +91,7 @@ pub(crate) fn ask(image: &mut [u8], me: u8, message: &[u8], answer: &mut [u8]) -
 
 // An outcome: always answered with done.
 pub(crate) fn outcome(image: &mut [u8], me: u8, message: &[u8], answer: &mut [u8]) -> wire::Written
-    requires { ⌜ Raisable (decode (now message)) ⌝ }
+    requires { ⌜ Raisable (decode (now message)) × Clear (now image) (decode (now message)) ⌝ }
     ensures number { λ r. ⌜ r ≡ writtenAs (length (now (answer .entry))) (outcomeAnswer me (decode (now (message .entry)))) ⌝ }
     ensures image { λ r. ⌜ now (image .exit) ≡ outcomeImage (now (image .entry)) (decode (now (message .entry))) ⌝ }
     ensures buffer { λ r. ⌜ now (answer .exit) ≡ filledBy (outcomeAnswer me (decode (now (message .entry)))) (now (answer .entry)) ⌝ }

@@ -1,4 +1,4 @@
--- `replica::change::leave`: the lists, then the state.
+-- `replica::change::leave`: the lists, if it is in any, then the state.
 use Rattle.replica.specs.Steps.{leaves}
 use borrow.Author.Needs.{needs}
 use Rattle.replica.proofs.change.leave.Statement.{statement}
@@ -17,5 +17,24 @@ returns : tie.Need-returns
 unfolding leaves
 returns c = rw (c .before .before .set-state .ensures, c .before .before .before .before .before .before .unlist .ensures)
 
+set-state-requires-2 : tie.Need-set-state-requires-2
+set-state-requires-2 c κs = search needs
+
+same-length-2 : tie.Need-same-length-2
+same-length-2 c = search needs
+
+returns-2 : tie.Need-returns-2
+unfolding leaves
+returns-2 c = rw (c .before .before .set-state2 .ensures, c .before .before .before .before .before .before .pre (c .before .before .before .before .if1 .left))
+
 pub leave-spec : {M : Type 1} → statement M
-leave-spec = tie.close (tie.spec unlist-requires set-state-requires same-length returns)
+leave-spec =
+    tie.close
+    (tie.spec
+    unlist-requires
+    set-state-requires
+    same-length
+    returns
+    set-state-requires-2
+    same-length-2
+    returns-2)

@@ -1,21 +1,62 @@
--- `replica::change::release`: what is held, then the rest.
-use Rattle.replica.specs.Steps.{released}
+-- `replica::change::release`: by the owner's state, what it can hold or be listed in.
+use native.Mathlib.Omega.{arith}
+use mathlib.Core.Path.{sym, _∙_}
+use borrow.Author.Tests.{eqb-false}
+use denote.Ref.{now}
+use Rattle.image.proofs.Sound.{check-sound}
+use Rattle.image.proofs.Idle.{unlist-unless-listed}
+use Rattle.replica.proofs.Kept.{release-held, release-other}
 use borrow.Author.Needs.{needs}
 use Rattle.replica.proofs.change.release.Statement.{statement}
 use Rattle.replica.proofs.change.release.Tie as tie
 
+state-requires : tie.Need-state-requires
+state-requires c κs = search needs
+
 free-requires : tie.Need-free-requires
 free-requires c κs = search needs
 
-leave-requires : tie.Need-leave-requires
-leave-requires c κs = search needs
+set-state-requires : tie.Need-set-state-requires
+set-state-requires c κs = search needs
 
 same-length : tie.Need-same-length
 same-length c = search needs
 
 returns : tie.Need-returns
-unfolding released
-returns c = rw (c .before .before .leave .ensures, c .before .before .before .before .before .before .free .ensures)
+returns c =
+    let x = c .before .before .before .before .before .before .before .before .before .before .before .before .args in
+    let p = c .before .before .before .before .before .before .before .before .before .before .before .before .pre in
+    rw (c .before .before .set-state .ensures, c .before .before .before .before .before .before .free .ensures)
+    (sym (release-held (now (x .image)) (x .o) (check-sound (now (x .image)) (p .0)) (p .1) (λ j. omega (arith, c .before .before .before .before .before .before .before .before .before .before .before .slice-known .given j))
+    (sym (c .before .before .before .before .before .before .before .before .before .state .ensures) ∙ c .before .before .before .before .before .before .before .before .if1 .taken)))
+
+leave-requires : tie.Need-leave-requires
+leave-requires c κs =
+    let x = c .before .before .before .before .before .args in
+    let p = c .before .before .before .before .before .pre in
+    λ e. unlist-unless-listed (now (x .image)) (x .o) (check-sound (now (x .image)) (p .0)) (p .1) (λ j. omega (arith, c .before .before .before .before .slice-known .given j))
+    (λ q. eqb-false _ 1 e (c .before .before .state .ensures ∙ q))
+
+same-length-2 : tie.Need-same-length-2
+same-length-2 c = search needs
+
+returns-2 : tie.Need-returns-2
+returns-2 c =
+    let x = c .before .before .before .before .before .before .before .before .args in
+    let p = c .before .before .before .before .before .before .before .before .pre in
+    c .before .before .leave .ensures
+    ∙ sym (release-other (now (x .image)) (x .o) (check-sound (now (x .image)) (p .0)) (p .1) (λ j. omega (arith, c .before .before .before .before .before .before .before .slice-known .given j))
+    (λ q. c .before .before .before .before .if1 .left (c .before .before .before .before .before .state .ensures ∙ q)))
 
 pub release-spec : {M : Type 1} → statement M
-release-spec = tie.close (tie.spec free-requires leave-requires same-length returns)
+release-spec =
+    tie.close
+    (tie.spec
+    state-requires
+    free-requires
+    set-state-requires
+    same-length
+    returns
+    leave-requires
+    same-length-2
+    returns-2)

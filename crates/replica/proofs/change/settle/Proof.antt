@@ -2,7 +2,10 @@
 use mathlib.Core.Path.{_≡_, refl, sym, ap, _∙_}
 use borrow.Author.Tests.{eq-eqb, ne-eqb}
 use Rattle.wire.specs.Decode.{decode}
-use Rattle.replica.specs.Steps.{outcomeImage}
+use Rattle.replica.specs.Steps.{decided, outcomeImage}
+use denote.Ref.{now}
+use Rattle.image.proofs.Sound.{check-sound, sound-check}
+use Rattle.replica.proofs.Kept.{keeps-decided}
 use borrow.Author.Needs.{needs}
 use Rattle.replica.proofs.change.settle.Statement.{statement}
 use Rattle.replica.proofs.change.settle.Tie as tie
@@ -60,7 +63,12 @@ decide-requires : tie.Need-decide-requires
 decide-requires c κs = search needs
 
 release-requires : tie.Need-release-requires
-release-requires c κs = search needs
+unfolding decode
+release-requires c κs =
+    let p = c .before .before .before .before .before .before .before .before .before .before .before .before .pre .1 in
+    let l = now (c .before .before .before .before .before .before .before .before .before .before .before .before .args .image) in
+    let m = decode (now (c .before .before .before .before .before .before .before .before .before .before .before .before .args .message)) in
+    (rw (c .before .before .before .decide .ensures) (sound-check (decided l m) (keeps-decided l m (check-sound l (p .0)))), rw (c .before .before .before .before .before .before .before .owner .ensures) (p .1))
 
 same-length-3 : tie.Need-same-length-3
 same-length-3 c = search needs

@@ -23,8 +23,9 @@ ask-requires : tie.Need-ask-requires
 ask-requires c κs = search needs
 
 outcome-requires : tie.Need-outcome-requires
-outcome-requires c κs = c .before .before .before .before .before .before .before .pre (sym (c .before .before .before .kind .ensures)
-    ∙ c .before .before .match .keys3)
+outcome-requires c κs =
+    let p = c .before .before .before .before .before .before .before .pre in
+    (p .0 (sym (c .before .before .before .kind .ensures) ∙ c .before .before .match .keys3), p .1)
 
 silence-requires : tie.Need-silence-requires
 silence-requires c κs = search needs

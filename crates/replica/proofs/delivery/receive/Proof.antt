@@ -3,6 +3,7 @@ use mathlib.Core.Path.{_≡_, refl, sym, ap, _∙_}
 use denote.Ref.{now}
 use Rattle.replica.specs.Receive.{lengthOf, filled}
 use Rattle.replica.proofs.Delivered.{refused-is, received-is, image-is, buffer-is, raises-is}
+use Rattle.replica.proofs.Taken.{clear-is}
 use borrow.Author.Needs.{needs}
 use Rattle.replica.proofs.delivery.receive.Statement.{statement}
 use Rattle.replica.proofs.delivery.receive.Tie as tie
@@ -24,7 +25,7 @@ perform-requires : tie.Need-perform-requires
 perform-requires c κs =
     let x = c .before .before .before .before .before .before .before .before .args in
     let e = sym (c .before .before .before .refusal .ensures) ∙ c .before .before .if1 .left in
-    raises-is (now (x .image)) (x .me) (now (x .message)) (now (x .answer)) e
+    (raises-is (now (x .image)) (x .me) (now (x .message)) (now (x .answer)) e, clear-is _ (now (x .image)) (x .me) (now (x .message)) e)
 
 same-length-2 : tie.Need-same-length-2
 same-length-2 c = search needs

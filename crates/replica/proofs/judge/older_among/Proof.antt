@@ -16,6 +16,10 @@ Inv-loop image rivals o found₀ r₀ found r = (r ≤ owners) × (found ≡ som
 abbrev μ-loop : tie.MeasureT-loop
 μ-loop image rivals o found₀ r₀ found r = owners - r
 
+returns : tie.Need-returns Inv-loop μ-loop
+unfolding olderAmong someBelow
+returns c = rw (c .if1 .taken)
+
 loop-holds : tie.Need-loop-holds Inv-loop μ-loop
 unfolding someBelow
 loop-holds c = (omega arith, refl)
@@ -35,12 +39,12 @@ loop-less c = search needs
 loop-again : tie.Need-loop-again Inv-loop μ-loop
 loop-again c =
     let l = c .before .before .before .loop in
-    let x = c .before .before .before .before .before .args in
+    let x = c .before .before .before .before .before .before .args in
     (omega arith, rw (c .either .ensures, c .before .older-in .ensures, l .inv .1) (sym (some-more (olderIn (now (x .image)) (x .rivals) (x .o)) (l .r))))
 
-returns : tie.Need-returns Inv-loop μ-loop
+returns-2 : tie.Need-returns-2 Inv-loop μ-loop
 unfolding olderAmong
-returns c =
+returns-2 c =
     let l = c .before .loop in
     let e : l .r ≡ owners = omega arith in
     rw e at (l .inv .1)
@@ -51,10 +55,11 @@ older-among-spec =
     (tie.spec
     Inv-loop
     μ-loop
+    returns
     loop-holds
     older-in-requires
     either-requires
     add-r
     loop-less
     loop-again
-    returns)
+    returns-2)

@@ -17,6 +17,10 @@ Inv-loop image rivals serials₀ o₀ serials o = (o ≤ owners) × (length seri
 abbrev μ-loop : tie.MeasureT-loop
 μ-loop image rivals serials₀ o₀ serials o = owners - o
 
+returns : tie.Need-returns Inv-loop μ-loop
+unfolding serialsOf namedBelow
+returns c = rw (c .if1 .taken)
+
 loop-holds : tie.Need-loop-holds Inv-loop μ-loop
 unfolding namedBelow
 loop-holds c = (omega arith, refl, refl)
@@ -42,12 +46,12 @@ loop-less c = search needs
 loop-again : tie.Need-loop-again Inv-loop μ-loop
 loop-again c =
     let l = c .before .before .loop in
-    let x = c .before .before .before .before .args in
+    let x = c .before .before .before .before .before .args in
     (omega arith, simp length-set (l .inv .1), rw (c .named .ensures, l .inv .2) (sym (named-more (now (x .image)) (x .rivals) (l .o))))
 
-returns : tie.Need-returns Inv-loop μ-loop
+returns-2 : tie.Need-returns-2 Inv-loop μ-loop
 unfolding serialsOf
-returns c =
+returns-2 c =
     let l = c .before .loop in
     let e : l .o ≡ owners = omega arith in
     rw e at (l .inv .2)
@@ -58,6 +62,7 @@ serials-of-spec =
     (tie.spec
     Inv-loop
     μ-loop
+    returns
     loop-holds
     cast-k
     named-requires
@@ -66,4 +71,4 @@ serials-of-spec =
     add-o
     loop-less
     loop-again
-    returns)
+    returns-2)

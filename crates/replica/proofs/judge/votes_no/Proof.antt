@@ -14,9 +14,6 @@ newer-here-requires c κs = search needs
 either-requires : tie.Need-either-requires
 either-requires c κs = search needs
 
-rivals-of-requires : tie.Need-rivals-of-requires
-rivals-of-requires c κs = search needs
-
 owner-requires : tie.Need-owner-requires
 owner-requires c κs = search needs
 
@@ -28,17 +25,15 @@ either-requires-2 c κs = search needs
 
 returns : tie.Need-returns
 unfolding votesNo decode
-returns c =
-    let o = c .before .before in
-    rw (
-      c .either2 .ensures,
-      o .before .before .either .ensures,
-      o .before .before .before .before .held-by-another .ensures,
-      o .before .before .before .newer-here .ensures,
-      c .before .older-among .ensures,
-      o .before .rivals-of .ensures,
-      o .owner .ensures,
-    )
+returns c = rw (
+  c .either2 .ensures,
+  c .before .before .before .either .ensures,
+  c .before .before .before .before .before .held-by-another .ensures,
+  c .before .before .before .before .newer-here .ensures,
+  c .before .older-among .ensures,
+  c .before .before .before .before .before .before .before .before .pre,
+  c .before .before .owner .ensures,
+)
 
 pub votes-no-spec : {M : Type 1} → statement M
 votes-no-spec =
@@ -47,7 +42,6 @@ votes-no-spec =
     held-by-another-requires
     newer-here-requires
     either-requires
-    rivals-of-requires
     owner-requires
     older-among-requires
     either-requires-2

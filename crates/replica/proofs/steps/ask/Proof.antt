@@ -1,14 +1,21 @@
 -- `replica::steps::ask`: judged, or the vote again, or nothing.
-
-use mathlib.Core.Path.{_≡_, refl, sym, ap, _∙_}
+use native.Mathlib.Omega.{arith}
+use mathlib.Core.Path.{_≡_, sym, ap, _∙_}
 use borrow.Author.Tests.{eq-eqb, ne-eqb}
 use Prim.Native.Nat.{ℕ}
 use lib.Dec.{eqb}
+use denote.Ref.{now}
+use Rattle.wire.specs.Decode.{decode}
+use Rattle.image.proofs.Sound.{check-sound}
 use Rattle.replica.specs.Given.{writtenAs, filledBy}
 use Rattle.replica.specs.Steps.{askImage, askAnswer}
+use Rattle.replica.proofs.Kept.{unlist-entered}
 use borrow.Author.Needs.{needs}
 use Rattle.replica.proofs.steps.ask.Statement.{statement}
 use Rattle.replica.proofs.steps.ask.Tie as tie
+
+standing-requires : tie.Need-standing-requires
+standing-requires c κs = search needs
 
 is-active-requires : tie.Need-is-active-requires
 is-active-requires c κs = search needs
@@ -17,7 +24,13 @@ enter-requires : tie.Need-enter-requires
 enter-requires c κs = search needs
 
 judge-requires : tie.Need-judge-requires
-judge-requires c κs = search needs
+judge-requires c κs =
+    let x = c .before .before .before .before .before .before .before .before .before .before .before .before .before .before .args in
+    let p = c .before .before .before .before .before .before .before .before .before .before .before .before .before .before .pre in
+    let l = now (x .image) in
+    λ n. rw (c .before .before .before .before .enter .ensures)
+    (unlist-entered l (decode (now (x .message))) (check-sound l (p .0)) (p .1) (λ j. omega (arith, c .before .before .before .before .before .before .before .before .before .before .before .before .before .slice-known .given j))
+    (sym (c .before .before .before .before .before .before .before .is-active .ensures) ∙ c .before .before .before .before .before .before .if1 .taken) (ap (λ (k : ℕ). eqb k 1) (sym (c .before .before .before .before .before .before .before .before .before .standing .ensures)) ∙ n))
 
 same-length : tie.Need-same-length
 same-length c = search needs
@@ -30,12 +43,8 @@ unfolding askImage askAnswer
 returns c =
     let e = c .before .before .before .before .before .before .before .before .before .enter .ensures in
     let j = c .before .before .before .before .judge .ensures in
-    let t = sym (c .before .before .before .before .before .before .before .before .before .before .before .before .is-active .ensures)
-    ∙ c .before .before .before .before .before .before .before .before .before .before .before .if1 .taken in
+    let t = sym (c .before .before .before .before .before .before .before .before .before .before .before .before .is-active .ensures) ∙ c .before .before .before .before .before .before .before .before .before .before .before .if1 .taken in
     (simp t (rw (j .0, e)), (simp t (rw (j .1 .0, e)), simp t (rw (j .1 .1, e))))
-
-standing-requires : tie.Need-standing-requires
-standing-requires c κs = search needs
 
 say-vote-requires : tie.Need-say-vote-requires
 say-vote-requires c κs = search needs
@@ -49,9 +58,8 @@ same-length-4 c = search needs
 returns-2 : tie.Need-returns-2
 unfolding writtenAs filledBy askImage askAnswer
 returns-2 c =
-    let t = sym (c .before .before .before .before .before .before .before .before .is-active .ensures)
-    ∙ c .before .before .before .before .before .before .before .if1 .left in
-    let s = c .before .before .before .before .before .standing .ensures in
+    let t = sym (c .before .before .before .before .before .before .is-active .ensures) ∙ c .before .before .before .before .before .if1 .left in
+    let s = c .before .before .before .before .before .before .before .before .standing .ensures in
     let u = eq-eqb _ 2 (c .before .before .before .before .if2 .taken) in
     let v = c .before .before .say-vote .ensures in
     (simp t (rw (← s) (simp u (v .0))), (simp t, simp t (rw (← s) (simp u (v .1)))))
@@ -68,9 +76,8 @@ same-length-6 c = search needs
 returns-3 : tie.Need-returns-3
 unfolding writtenAs filledBy askImage askAnswer
 returns-3 c =
-    let t = sym (c .before .before .before .before .before .before .before .before .before .is-active .ensures)
-    ∙ c .before .before .before .before .before .before .before .before .if1 .left in
-    let s = c .before .before .before .before .before .before .standing .ensures in
+    let t = sym (c .before .before .before .before .before .before .before .is-active .ensures) ∙ c .before .before .before .before .before .before .if1 .left in
+    let s = c .before .before .before .before .before .before .before .before .before .standing .ensures in
     let n = ne-eqb _ 2 (c .before .before .before .before .before .if2 .left) in
     let u = eq-eqb _ 3 (c .before .before .before .before .if3 .taken) in
     let v = c .before .before .say-vote2 .ensures in
@@ -85,8 +92,8 @@ same-length-7 c = search needs
 returns-4 : tie.Need-returns-4
 unfolding writtenAs filledBy askImage askAnswer
 returns-4 c =
-    let t = sym (c .before .before .before .before .before .before .is-active .ensures) ∙ c .before .before .before .before .before .if1 .left in
-    let s = c .before .before .before .standing .ensures in
+    let t = sym (c .before .before .before .before .is-active .ensures) ∙ c .before .before .before .if1 .left in
+    let s = c .before .before .before .before .before .before .standing .ensures in
     let n = ne-eqb _ 2 (c .before .before .if2 .left) in
     let u = ne-eqb _ 3 (c .before .if3 .left) in
     (simp t (rw (← s) (simp (n, u) (c .silence .ensures))), (simp t, simp t (rw (← s) (simp (n, u)))))
@@ -95,13 +102,13 @@ pub ask-spec : {M : Type 1} → statement M
 ask-spec =
     tie.close
     (tie.spec
+    standing-requires
     is-active-requires
     enter-requires
     judge-requires
     same-length
     same-length-2
     returns
-    standing-requires
     say-vote-requires
     same-length-3
     same-length-4

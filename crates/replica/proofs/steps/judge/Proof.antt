@@ -1,5 +1,5 @@
 -- `replica::steps::judge`: a no, or a yes.
-use mathlib.Core.Path.{_≡_, refl, sym, ap, _∙_}
+use mathlib.Core.Path.{sym, _∙_}
 use Rattle.wire.specs.Decode.{decode}
 use Rattle.replica.specs.Given.{writtenAs, filledBy}
 use Rattle.replica.specs.Steps.{judgedImage, judgedAnswer}
@@ -10,11 +10,15 @@ use Rattle.replica.proofs.steps.judge.Tie as tie
 owner-requires : tie.Need-owner-requires
 owner-requires c κs = search needs
 
+rivals-of-requires : tie.Need-rivals-of-requires
+rivals-of-requires c κs = search needs
+
 votes-no-requires : tie.Need-votes-no-requires
 votes-no-requires c κs = search needs
 
 leave-requires : tie.Need-leave-requires
-leave-requires c κs = search needs
+unfolding decode
+leave-requires c κs = λ n. rw (c .before .before .before .before .before .before .owner .ensures) (c .before .before .before .before .before .before .before .before .before .before .pre n)
 
 say-vote-requires : tie.Need-say-vote-requires
 say-vote-requires c κs = search needs
@@ -28,23 +32,17 @@ same-length-2 c = search needs
 returns : tie.Need-returns
 unfolding writtenAs filledBy judgedImage judgedAnswer decode
 returns c =
-    let z = c .before .before .before .before .before .before .before .before in
-    let t = sym (z .before .votes-no .ensures) ∙ z .if1 .taken in (
+    let t = sym (c .before .before .before .before .before .before .before .before .before .votes-no .ensures) ∙ c .before .before .before .before .before .before .before .before .if1 .taken in (
       simp t (c .before .before .say-vote .ensures .0),
-      (
-        simp t (rw (c .before .before .before .before .before .before .leave .ensures, z .before .before .before .owner .ensures)),
-        simp t (c .before .before .say-vote .ensures .1),
-      ),
+      (simp t (rw (c .before .before .before .before .before .before .leave .ensures, c .before .before .before .before .before .before .before .before .before .before .before .before .before .owner .ensures)), simp t (c .before .before .say-vote .ensures .1)),
     )
-
-rivals-of-requires : tie.Need-rivals-of-requires
-rivals-of-requires c κs = search needs
 
 serials-of-requires : tie.Need-serials-of-requires
 serials-of-requires c κs = search needs
 
 leave-requires-2 : tie.Need-leave-requires-2
-leave-requires-2 c κs = search needs
+unfolding decode
+leave-requires-2 c κs = λ n. rw (c .before .before .before .before .before .before .before .before .owner .ensures) (c .before .before .before .before .before .before .before .before .before .before .before .before .pre n)
 
 hold-requires : tie.Need-hold-requires
 hold-requires c κs = search needs
@@ -61,18 +59,12 @@ same-length-4 c = search needs
 returns-2 : tie.Need-returns-2
 unfolding writtenAs filledBy judgedImage judgedAnswer decode
 returns-2 c =
-    let s = c .before .before .before .before .before .before .before .before .before .before .before .before in
-    let z = s .before .before .before in
     let w = c .before .before .say-vote2 in
-    let t = sym (z .before .votes-no .ensures) ∙ z .if1 .left in (
-      simp t (rw (w .ensures .0, s .serials-of .ensures, s .before .rivals-of .ensures)),
+    let t = sym (c .before .before .before .before .before .before .before .before .before .before .before .before .before .before .before .votes-no .ensures) ∙ c .before .before .before .before .before .before .before .before .before .before .before .before .before .before .if1 .left in (
+      simp t (rw (w .ensures .0, c .before .before .before .before .before .before .before .before .before .before .before .before .serials-of .ensures, c .before .before .before .before .before .before .before .before .before .before .before .before .before .before .before .before .before .rivals-of .ensures)),
       (
-        simp t (rw (
-          c .before .before .before .before .before .before .hold .ensures,
-          c .before .before .before .before .before .before .before .before .before .before .leave2 .ensures,
-          z .before .before .before .owner .ensures,
-        )),
-        simp t (rw (w .ensures .1, s .serials-of .ensures, s .before .rivals-of .ensures)),
+        simp t (rw (c .before .before .before .before .before .before .hold .ensures, c .before .before .before .before .before .before .before .before .before .before .leave2 .ensures, c .before .before .before .before .before .before .before .before .before .before .before .before .before .before .before .before .before .before .before .owner .ensures)),
+        simp t (rw (w .ensures .1, c .before .before .before .before .before .before .before .before .before .before .before .before .serials-of .ensures, c .before .before .before .before .before .before .before .before .before .before .before .before .before .before .before .before .before .rivals-of .ensures)),
       ),
     )
 
@@ -81,13 +73,13 @@ judge-spec =
     tie.close
     (tie.spec
     owner-requires
+    rivals-of-requires
     votes-no-requires
     leave-requires
     say-vote-requires
     same-length
     same-length-2
     returns
-    rivals-of-requires
     serials-of-requires
     leave-requires-2
     hold-requires
