@@ -62,6 +62,18 @@ or-false : (a : Bool) → (a || false) ≡ a
 or-false true = refl
 or-false false = refl
 
+-- one test or the other
+pub some-either : (p q : Entry → Bool) (es : List Entry) → some (λ e. p e || q e) es ≡ (some p es || some q es)
+unfolding some
+some-either p q [] = refl
+some-either p q (e ∷ es) = ap (_||_ (p e || q e)) (some-either p q es) ∙ by (p e) (q e) (some p es) (some q es)
+  where
+    by : (a b c d : Bool) → ((a || b) || (c || d)) ≡ ((a || c) || (b || d))
+    by true b c d = refl
+    by false true true d = refl
+    by false true false d = refl
+    by false false c d = refl
+
 module _ (p : Entry → Bool) (b : List ℕ) where
   pub some-again : (i : ℕ) (found more : Bool) (e : Entry) (whole : Bool) → e ≡ entryOf b i → more ≡ (found || p e) → i < entryCount b
       → (found || some p (rest b i)) ≡ whole → (more || some p (rest b (i + 1))) ≡ whole

@@ -1,9 +1,9 @@
 // How a listed ask is judged, and which rivals a yes names.
 ghost use mathlib.Core.Path.{_≡_};
-ghost use mathlib.Core.Bool.{_||_};
 ghost use Rattle.wire.specs.Decode.{decode};
-ghost use Rattle.replica.specs.Judge.{otherHolds, heldByAnother, newer, newerHere, rivalsAt, rivalsOf, olderIn, olderAmong, votesNo};
-ghost use Rattle.replica.specs.Judge.{named, serialsOf};
+ghost use Rattle.replica.specs.Judge.{otherHolds, newer, rivalsAt, olderIn, olderAmong, named, serialsOf};
+ghost use Rattle.replica.specs.Given.{barred, Weighs};
+use crate::Weighed;
 use numbers::both;
 use numbers::either;
 
@@ -15,22 +15,6 @@ fn other_holds(image: &[u8], o: u8, e: wire::Entry) -> bool
     both(h != image::NOBODY, h != o)
 }
 
-// The same of some entry.
-fn held_by_another(image: &[u8], message: &[u8]) -> bool
-    ensures { λ r. ⌜ r ≡ heldByAnother (now (image .entry)) (decode (now (message .entry))) ⌝ }
-{
-    let o = wire::owner(message);
-    let n = wire::entries(message);
-    let mut found = false;
-    let mut i: usize = 0;
-    while i < n {
-        let e = wire::nth_entry(message, i);
-        found = either(found, other_holds(image, o, e));
-        i = i + 1;
-    }
-    found
-}
-
 // The copy here has a higher version than the entry.
 fn is_newer(image: &[u8], e: wire::Entry) -> bool
     ensures { λ r. ⌜ r ≡ newer (now (image .entry)) e ⌝ }
@@ -38,19 +22,11 @@ fn is_newer(image: &[u8], e: wire::Entry) -> bool
     e.version < image::version(image, e.object)
 }
 
-// The same of some entry.
-fn newer_here(image: &[u8], message: &[u8]) -> bool
-    ensures { λ r. ⌜ r ≡ newerHere (now (image .entry)) (decode (now (message .entry))) ⌝ }
+// Either of the two.
+fn bars(image: &[u8], o: u8, e: wire::Entry) -> bool
+    ensures { λ r. ⌜ r ≡ barred (now (image .entry)) o e ⌝ }
 {
-    let n = wire::entries(message);
-    let mut found = false;
-    let mut i: usize = 0;
-    while i < n {
-        let e = wire::nth_entry(message, i);
-        found = either(found, is_newer(image, e));
-        i = i + 1;
-    }
-    found
+    either(other_holds(image, o, e), is_newer(image, e))
 }
 
 // The rivals at an entry: only at equal versions, a read's the writers, a write's readers and writers.
@@ -68,19 +44,23 @@ fn rivals_at(image: &[u8], e: wire::Entry) -> u16
     }
 }
 
-// The rivals of an ask as a mask, never the owner.
-pub(crate) fn rivals_of(image: &[u8], message: &[u8]) -> u16
-    ensures { λ r. ⌜ r ≡ rivalsOf (now (image .entry)) (decode (now (message .entry))) ⌝ }
+// One pass over an ask's entries: whether one of them bars a yes, and the rivals as a mask, never the owner.
+pub(crate) fn weigh(image: &[u8], message: &[u8]) -> Weighed
+    ensures { λ r. ⌜ Weighs (now (image .entry)) (decode (now (message .entry))) r ⌝ }
 {
+    let o = wire::owner(message);
     let n = wire::entries(message);
+    let mut barred = false;
     let mut found: u16 = 0;
     let mut i: usize = 0;
     while i < n {
         let e = wire::nth_entry(message, i);
+        barred = either(barred, bars(image, o, e));
         found = mask::join(found, rivals_at(image, e));
         i = i + 1;
     }
-    mask::without(found, mask::single(wire::owner(message)))
+    let rivals = mask::without(found, mask::single(o));
+    Weighed { barred, rivals }
 }
 
 // Owner r is among the rivals and older than owner o, by the stored stamps.
@@ -93,7 +73,7 @@ fn older_in(image: &[u8], rivals: u16, o: u8, r: u8) -> bool
 }
 
 // The same of some owner.
-fn older_among(image: &[u8], rivals: u16, o: u8) -> bool
+pub(crate) fn older_among(image: &[u8], rivals: u16, o: u8) -> bool
     ensures { λ r. ⌜ r ≡ olderAmong (now (image .entry)) rivals o ⌝ }
 {
     if rivals == 0 {
@@ -106,15 +86,6 @@ fn older_among(image: &[u8], rivals: u16, o: u8) -> bool
         r = r + 1;
     }
     found
-}
-
-// The vote is no, given the rivals.
-pub(crate) fn votes_no(image: &[u8], message: &[u8], rivals: u16) -> bool
-    requires { ⌜ rivals ≡ rivalsOf (now image) (decode (now message)) ⌝ }
-    ensures { λ r. ⌜ r ≡ votesNo (now (image .entry)) (decode (now (message .entry))) ⌝ }
-{
-    let barred = either(held_by_another(image, message), newer_here(image, message));
-    either(barred, older_among(image, rivals, wire::owner(message)))
 }
 
 // The serial under which owner o is named: its last one here if it is a rival, else 0.

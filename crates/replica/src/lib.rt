@@ -16,6 +16,12 @@ pub struct Received {
     pub length: u8,
 }
 
+// What an ask's entries meet here: whether one of them bars a yes, and the rivals as a mask.
+struct Weighed {
+    barred: bool,
+    rivals: u16,
+}
+
 // Beside the states of an owner: a serial above the last, when that one is over, and when it is not.
 const FRESH: u8 = 4;
 

@@ -15,12 +15,13 @@ use crate::change::hold;
 use crate::change::join_list;
 use crate::change::leave;
 use crate::change::settle;
-use crate::judge::rivals_of;
+use crate::judge::older_among;
 use crate::judge::serials_of;
-use crate::judge::votes_no;
+use crate::judge::weigh;
 use crate::standing::enter;
 use crate::standing::is_active;
 use crate::standing::standing;
+use numbers::either;
 
 // The copy here of the entry's object, with the entry's mode.
 fn copy_here(image: &[u8], e: wire::Entry) -> wire::Entry
@@ -57,8 +58,9 @@ fn judge(image: &mut [u8], me: u8, message: &[u8], answer: &mut [u8], listed: bo
     ensures buffer { λ r. ⌜ now (answer .exit) ≡ filledBy (judgedAnswer me (now (image .entry)) (decode (now (message .entry)))) (now (answer .entry)) ⌝ }
 {
     let o = wire::owner(message);
-    let rivals = rivals_of(image, message);
-    if votes_no(image, message, rivals) {
+    let w = weigh(image, message);
+    let rivals = w.rivals;
+    if either(w.barred, older_among(image, rivals, o)) {
         leave(image, o, image::REFUSED, listed);
         return say_vote(answer, me, message, [0; 13], 0);
     }

@@ -1,24 +1,39 @@
 -- `replica::steps::judge`: a no, or a yes.
-use mathlib.Core.Path.{sym, _∙_}
-use Rattle.wire.specs.Decode.{decode}
-use Rattle.replica.specs.Given.{writtenAs, filledBy}
+use mathlib.Core.Path.{_≡_, sym, _∙_}
+use mathlib.Core.Bool.{Bool, _||_}
+use mathlib.Core.List.{List}
+use Prim.Native.Nat.{ℕ}
+use denote.Ref.{now}
+use Rattle.wire.specs.Decode.{ownerOf, decode}
+use Rattle.replica.specs.declared.Weighed.{Weighed}
+use Rattle.replica.specs.Judge.{olderAmong, votesNo}
+use Rattle.replica.specs.Given.{writtenAs, filledBy, Weighs}
 use Rattle.replica.specs.Steps.{judgedImage, judgedAnswer}
 use borrow.Author.Needs.{needs}
 use Rattle.replica.proofs.steps.judge.Statement.{statement}
 use Rattle.replica.proofs.steps.judge.Tie as tie
 
+-- what was weighed, and whether a rival is older, make the vote
+voted : (l b : List ℕ) (w : Weighed) (o : ℕ) (r old : Bool) → Weighs l (decode b) w → o ≡ ownerOf b → old ≡ olderAmong l (w .rivals) o
+    → r ≡ (w .barred || old) → r ≡ votesNo l (decode b)
+unfolding votesNo decode
+voted l b w o r old k e f g = rw (g, k .bars, f, k .rivals, e)
+
 owner-requires : tie.Need-owner-requires
 owner-requires c κs = search needs
 
-rivals-of-requires : tie.Need-rivals-of-requires
-rivals-of-requires c κs = search needs
+weigh-requires : tie.Need-weigh-requires
+weigh-requires c κs = search needs
 
-votes-no-requires : tie.Need-votes-no-requires
-votes-no-requires c κs = search needs
+older-among-requires : tie.Need-older-among-requires
+older-among-requires c κs = search needs
+
+either-requires : tie.Need-either-requires
+either-requires c κs = search needs
 
 leave-requires : tie.Need-leave-requires
 unfolding decode
-leave-requires c κs = λ n. rw (c .before .before .before .before .before .before .owner .ensures) (c .before .before .before .before .before .before .before .before .before .before .pre n)
+leave-requires c κs = λ n. rw (c .before .before .before .before .before .before .before .owner .ensures) (c .before .before .before .before .before .before .before .before .before .before .before .pre n)
 
 say-vote-requires : tie.Need-say-vote-requires
 say-vote-requires c κs = search needs
@@ -32,9 +47,13 @@ same-length-2 c = search needs
 returns : tie.Need-returns
 unfolding writtenAs filledBy judgedImage judgedAnswer decode
 returns c =
-    let t = sym (c .before .before .before .before .before .before .before .before .before .votes-no .ensures) ∙ c .before .before .before .before .before .before .before .before .if1 .taken in (
+    let x = c .before .before .before .before .before .before .before .before .before .before .before .before .before .before .before .before .before .before .args in
+    let w = c .before .before .before .before .before .before .before .before .before .before .before .before .weigh in
+    let v = voted (now (x .image)) (now (x .message)) (w .result) (c .before .before .before .before .before .before .before .before .before .before .before .before .before .before .owner .result) (c .before .before .before .before .before .before .before .before .before .either .result) (c .before .before .before .before .before .before .before .before .before .before .older-among .result) (w .ensures)
+    (c .before .before .before .before .before .before .before .before .before .before .before .before .before .before .owner .ensures) (c .before .before .before .before .before .before .before .before .before .before .older-among .ensures) (c .before .before .before .before .before .before .before .before .before .either .ensures) in
+    let t = sym v ∙ c .before .before .before .before .before .before .before .before .if1 .taken in (
       simp t (c .before .before .say-vote .ensures .0),
-      (simp t (rw (c .before .before .before .before .before .before .leave .ensures, c .before .before .before .before .before .before .before .before .before .before .before .before .before .owner .ensures)), simp t (c .before .before .say-vote .ensures .1)),
+      (simp t (rw (c .before .before .before .before .before .before .leave .ensures, c .before .before .before .before .before .before .before .before .before .before .before .before .before .before .owner .ensures)), simp t (c .before .before .say-vote .ensures .1)),
     )
 
 serials-of-requires : tie.Need-serials-of-requires
@@ -42,7 +61,7 @@ serials-of-requires c κs = search needs
 
 leave-requires-2 : tie.Need-leave-requires-2
 unfolding decode
-leave-requires-2 c κs = λ n. rw (c .before .before .before .before .before .before .before .before .owner .ensures) (c .before .before .before .before .before .before .before .before .before .before .before .before .pre n)
+leave-requires-2 c κs = λ n. rw (c .before .before .before .before .before .before .before .before .before .owner .ensures) (c .before .before .before .before .before .before .before .before .before .before .before .before .before .pre n)
 
 hold-requires : tie.Need-hold-requires
 hold-requires c κs = search needs
@@ -59,12 +78,15 @@ same-length-4 c = search needs
 returns-2 : tie.Need-returns-2
 unfolding writtenAs filledBy judgedImage judgedAnswer decode
 returns-2 c =
-    let w = c .before .before .say-vote2 in
-    let t = sym (c .before .before .before .before .before .before .before .before .before .before .before .before .before .before .before .votes-no .ensures) ∙ c .before .before .before .before .before .before .before .before .before .before .before .before .before .before .if1 .left in (
-      simp t (rw (w .ensures .0, c .before .before .before .before .before .before .before .before .before .before .before .before .serials-of .ensures, c .before .before .before .before .before .before .before .before .before .before .before .before .before .before .before .before .before .rivals-of .ensures)),
+    let x = c .before .before .before .before .before .before .before .before .before .before .before .before .before .before .before .before .before .before .before .before .before .before .before .before .args in
+    let w = c .before .before .before .before .before .before .before .before .before .before .before .before .before .before .before .before .before .before .weigh in
+    let v = voted (now (x .image)) (now (x .message)) (w .result) (c .before .before .before .before .before .before .before .before .before .before .before .before .before .before .before .before .before .before .before .before .owner .result) (c .before .before .before .before .before .before .before .before .before .before .before .before .before .before .before .either .result) (c .before .before .before .before .before .before .before .before .before .before .before .before .before .before .before .before .older-among .result) (w .ensures)
+    (c .before .before .before .before .before .before .before .before .before .before .before .before .before .before .before .before .before .before .before .before .owner .ensures) (c .before .before .before .before .before .before .before .before .before .before .before .before .before .before .before .before .older-among .ensures) (c .before .before .before .before .before .before .before .before .before .before .before .before .before .before .before .either .ensures) in
+    let t = sym v ∙ c .before .before .before .before .before .before .before .before .before .before .before .before .before .before .if1 .left in (
+      simp t (rw (c .before .before .say-vote2 .ensures .0, c .before .before .before .before .before .before .before .before .before .before .before .before .serials-of .ensures, w .ensures .rivals)),
       (
-        simp t (rw (c .before .before .before .before .before .before .hold .ensures, c .before .before .before .before .before .before .before .before .before .before .leave2 .ensures, c .before .before .before .before .before .before .before .before .before .before .before .before .before .before .before .before .before .before .before .owner .ensures)),
-        simp t (rw (w .ensures .1, c .before .before .before .before .before .before .before .before .before .before .before .before .serials-of .ensures, c .before .before .before .before .before .before .before .before .before .before .before .before .before .before .before .before .before .rivals-of .ensures)),
+        simp t (rw (c .before .before .before .before .before .before .hold .ensures, c .before .before .before .before .before .before .before .before .before .before .leave2 .ensures, c .before .before .before .before .before .before .before .before .before .before .before .before .before .before .before .before .before .before .before .before .owner .ensures)),
+        simp t (rw (c .before .before .say-vote2 .ensures .1, c .before .before .before .before .before .before .before .before .before .before .before .before .serials-of .ensures, w .ensures .rivals)),
       ),
     )
 
@@ -73,8 +95,9 @@ judge-spec =
     tie.close
     (tie.spec
     owner-requires
-    rivals-of-requires
-    votes-no-requires
+    weigh-requires
+    older-among-requires
+    either-requires
     leave-requires
     say-vote-requires
     same-length
