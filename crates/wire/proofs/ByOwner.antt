@@ -1,7 +1,7 @@
 -- Rivals given by owner: one owner at a time.
 use mathlib.Core.Path.{_≡_, refl, sym, ap, ap₂, _∙_}
 use mathlib.Core.Bool.{Bool, true, false, cond}
-use mathlib.Core.List.{List, [], _∷_, _++_, append-assoc, append-nil}
+use mathlib.Core.List.{List, [], _∷_, _++_, append-assoc}
 use Prim.Native.Nat.{ℕ, zero, suc, _+_, _*_, _≤_, _<_}
 use native.Mathlib.Omega.{arith}
 use native.Mathlib.Numerals.{add-one}
@@ -9,12 +9,11 @@ use lib.Dec.{eqb}
 use borrow.Author.Tests.{eq-eqb, ne-eqb}
 use lib.ListN.{length, getD, set, take, drop, replicate, length-append, drop-of-length-le}
 use lib.Seq.{sets, drop-cons}
-use Rattle.octets.specs.Octets.{put}
 use Rattle.wire.specs.declared.Rival.{Rival}
 use Rattle.wire.specs.Encode.{encodeEntry, encodeRival, encodeWord, together, section, encodeHeader, encode}
 use Rattle.wire.specs.Message.{Message}
 use Rattle.wire.specs.Write.{oneRival, rivalsBy}
-use Rattle.wire.proofs.Stores.{sets-then, rival-stores}
+use Rattle.wire.proofs.Stores.{sets-then}
 use Rattle.wire.proofs.RoundTrip.{length-entry, length-rival, length-together, length-header}
 
 -- at most one rival for an owner, whichever owner it is
@@ -59,11 +58,6 @@ one-none o s e = simp (eq-eqb s 0 e)
 
 pub one-some : (o s : ℕ) → (s ≡ 0 → ⊥) → oneRival o s ≡ record { owner = o; serial = s } ∷ []
 one-some o s f = simp (ne-eqb s 0 f)
-
--- one rival stored
-pub one-stores : (r : Rival) (l : List ℕ) (i : ℕ) → put 4 (set l i (r .owner)) (i + 1) (r .serial) ≡ sets l i (together encodeRival (r ∷ []))
-unfolding together
-one-stores r l i = rival-stores r l i ∙ ap (sets l i) (sym (append-nil (encodeRival r)))
 
 -- a section: its count, then its items
 pub section-stores : {A : Type 0} (enc : A → List ℕ) (xs : List A) (l : List ℕ) (i n : ℕ) → n ≡ length xs
@@ -113,21 +107,8 @@ words-length zero w h = refl
 words-length (suc zero) w h = refl
 words-length (suc (suc n)) w h = absurd (omega arith)
 
--- no serials, and one serial
+-- no serials
 pub rivals-none : (o n : ℕ) → rivalsBy o (replicate n 0) ≡ []
 unfolding rivalsBy
 rivals-none o zero = refl
 rivals-none o (suc n) = rivals-none (o + 1) n
-
-rivals-single : (o n i s : ℕ) → i < n → (s ≡ 0 → ⊥) → rivalsBy o (set (replicate n 0) i s) ≡ record { owner = o + i; serial = s } ∷ []
-unfolding rivalsBy
-rivals-single o zero i s h f = absurd (omega arith)
-rivals-single o (suc n) zero s h f =
-    let z : o ≡ o + 0 = omega arith in
-    ap₂ _++_ (one-some o s f) (rivals-none (o + 1) n) ∙ ap (λ (j : ℕ). record { owner = j; serial = s } ∷ []) z
-rivals-single o (suc n) (suc i) s h f =
-    let z : o + 1 + i ≡ o + suc i = omega arith in
-    rivals-single (o + 1) n i s (omega arith) f ∙ ap (λ (j : ℕ). record { owner = j; serial = s } ∷ []) z
-
-pub rivals-only : (n i s : ℕ) → i < n → (s ≡ 0 → ⊥) → rivalsBy 0 (set (replicate n 0) i s) ≡ record { owner = i; serial = s } ∷ []
-rivals-only n i s h f = let z : 0 + i ≡ i = omega arith in rivals-single 0 n i s h f ∙ ap (λ (j : ℕ). record { owner = j; serial = s } ∷ []) z

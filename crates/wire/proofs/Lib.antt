@@ -6,4 +6,4 @@ pub mod RoundTrip
 pub mod ByOwner
 pub mod Theorems
 pub mod Sending
-pub mod Given
+pub mod Votes

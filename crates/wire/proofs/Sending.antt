@@ -1,58 +1,107 @@
--- The three ways in which a writer ends, and that a composed message stands at the front of its buffer.
-use mathlib.Core.Path.{_≡_, sym, ap, _∙_}
-use mathlib.Core.Bool.{true, false}
-use mathlib.Core.List.{List, _++_}
-use Prim.Native.Nat.{ℕ, _+_, _≤_, _<_}
+-- The ends of a writer: what its fields refuse leaves the buffer alone, and what they allow is written to the front of it.
+use mathlib.Core.Path.{_≡_, refl, sym, ap, ap₂, _∙_}
+use mathlib.Core.Bool.{Bool, true, false, cond, _&&_, and-true}
+use mathlib.Core.List.{List, [], _∷_, _++_, append-assoc}
+use Prim.Native.Nat.{ℕ, _+_, _≤_}
 use native.Mathlib.Omega.{arith}
-use borrow.Author.Tests.{lt-ltb, le-ltb}
-use lib.ListN.{length, take, drop, replicate}
-use lib.Seq.{sets, sets-eq, take-at, length-sets}
+use lib.Dec.{eqb, ltb}
+use borrow.Author.Tests.{ltb-false, eq-eqb, ne-eqb}
+use lib.ListN.{length, getD, take, drop, take-append-drop}
+use lib.Seq.{sets, sets-eq, length-take-le, drop-append-le}
+use Rattle.wire.specs.declared.Entry.{Entry}
+use Rattle.wire.specs.declared.Head.{Head}
+use Rattle.wire.specs.declared.Rival.{Rival}
 use Rattle.wire.specs.Message.{Message}
-use Rattle.wire.specs.Formed.{wellFormed}
-use Rattle.wire.specs.Encode.{encode, sizeOf, Fits}
-use Rattle.wire.specs.Decode.{accepted}
-use Rattle.wire.specs.Write.{answer, writtenOf, bufferAfter}
+use Rattle.wire.specs.Formed.{countsOk, entryOk, rivalOk, wellFormed}
+use Rattle.wire.specs.Encode.{encode, sizeOf}
+use Rattle.wire.specs.Headed.{headed, headOk}
+use Rattle.wire.specs.Run.{run, objectOf, ownerIn}
+use Rattle.wire.specs.Write.{writeNumber, answer, writtenOf, bufferAfter}
+use Rattle.wire.proofs.Accepted.{formed-by, run-one}
 use Rattle.wire.proofs.RoundTrip.{length-encode}
-use Rattle.wire.proofs.Theorems.{encoded-accepted}
+use Rattle.wire.proofs.Theorems.{length-bounds}
 
--- ---- a buffer too short
-pub short-written : (size : ℕ) (m : Message) → size < 128 → answer 1 0 ≡ writtenOf size m
-unfolding writtenOf
-short-written size m h = simp (lt-ltb size 128 h)
+-- ---- what the fields say of a message: with entries alone, and with rivals alone
+pub entries-formed : (h : Head) (es : List Entry) (ws : List ℕ) (counted head listed inner r : Bool) → r ≡ (counted && inner) → inner ≡ (head && listed)
+    → counted ≡ countsOk (h .kind) (length es) 0 (length ws) (getD ws 0 0) → head ≡ headOk h → listed ≡ run objectOf (entryOk (h .kind)) 0 es
+    → r ≡ wellFormed (headed h es [] ws)
+unfolding run
+entries-formed h es ws counted head listed inner r x y p q s =
+    x ∙ ap₂ _&&_ p (y ∙ ap₂ _&&_ q (s ∙ sym (and-true _))) ∙ sym (formed-by h es [] ws)
 
-pub short-buffer : (m : Message) (l : List ℕ) → length l < 128 → l ≡ bufferAfter m l
-unfolding bufferAfter
-short-buffer m l h = simp (lt-ltb (length l) 128 h)
+pub rivals-formed : (h : Head) (rs : List Rival) (ws : List ℕ) (counted listed : Bool)
+    → counted ≡ countsOk (h .kind) 0 (length rs) (length ws) (getD ws 0 0)
+    → listed ≡ (headOk h && run ownerIn (rivalOk (h .kind) (h .owner) (h .to)) 0 rs) → (counted && listed) ≡ wellFormed (headed h [] rs ws)
+unfolding run
+rivals-formed h rs ws counted listed p q = ap₂ _&&_ p q ∙ sym (formed-by h [] rs ws)
 
--- ---- a message that is not well formed
-pub garbled-written : (size : ℕ) (m : Message) → 128 ≤ size → wellFormed m ≡ false → answer 3 0 ≡ writtenOf size m
-unfolding writtenOf
-garbled-written size m h e = simp (le-ltb size 128 h, e)
+-- one entry, one rival, nothing
+pub entry-formed : (h : Head) (e : Entry) (head one r : Bool) → countsOk (h .kind) 1 0 0 0 ≡ true → r ≡ (head && one) → head ≡ headOk h
+    → one ≡ entryOk (h .kind) e → r ≡ wellFormed (headed h (e ∷ []) [] [])
+entry-formed h e head one r k x p q =
+    entries-formed h (e ∷ []) [] true head one r r refl x (sym k) p (q ∙ sym (run-one objectOf (entryOk (h .kind)) e))
 
-pub garbled-buffer : (m : Message) (l : List ℕ) → 128 ≤ length l → wellFormed m ≡ false → l ≡ bufferAfter m l
-unfolding bufferAfter
-garbled-buffer m l h e = simp (le-ltb (length l) 128 h, e)
+pub rival-formed : (h : Head) (x : Rival) (head one r : Bool) → countsOk (h .kind) 0 1 0 0 ≡ true → r ≡ (head && one) → head ≡ headOk h
+    → one ≡ rivalOk (h .kind) (h .owner) (h .to) x → r ≡ wellFormed (headed h [] (x ∷ []) [])
+rival-formed h x head one r k e p q =
+    rivals-formed h (x ∷ []) [] true r (sym k) (e ∙ ap₂ _&&_ p (q ∙ sym (run-one ownerIn (rivalOk (h .kind) (h .owner) (h .to)) x)))
 
--- ---- a message written
-pub good-written : (size : ℕ) (m : Message) → 128 ≤ size → wellFormed m ≡ true → answer 0 (sizeOf m) ≡ writtenOf size m
-unfolding writtenOf
-good-written size m h e = simp (le-ltb size 128 h, e) (ap (answer 0) (sym (length-encode m)))
+pub nothing-formed : (h : Head) (head : Bool) → countsOk (h .kind) 0 0 0 0 ≡ true → head ≡ headOk h → head ≡ wellFormed (headed h [] [] [])
+unfolding run
+nothing-formed h head k p = rivals-formed h [] [] true head (sym k) (p ∙ sym (and-true (headOk h)))
 
-pub good-buffer : (m : Message) (l : List ℕ) → 128 ≤ length l → wellFormed m ≡ true → encode m ++ drop (sizeOf m) l ≡ bufferAfter m l
-unfolding bufferAfter
-good-buffer m l h e = simp (le-ltb (length l) 128 h, e) (ap (λ (k : ℕ). encode m ++ drop k l) (sym (length-encode m)))
+none-refuses : (a b : Bool) → _≡_ {A = ℕ} (cond a 1 (cond b 0 3)) 0 → (a ≡ false) × (b ≡ true)
+none-refuses true b e = absurd (let z : ⊥ = omega arith in z)
+none-refuses false true e = (refl, refl)
+none-refuses false false e = absurd (let z : ⊥ = omega arith in z)
 
--- ---- what was composed
-pub composed-length : (m : Message) → length (sets (replicate 128 0) 0 (encode m)) ≡ 128
-composed-length m = length-sets (replicate 128 0) 0 (encode m)
+-- a buffer that is not refused has room
+pub room : (l : List ℕ) (formed : Bool) (n : ℕ) → n ≡ cond (ltb (length l) 128) 1 (cond formed 0 3) → n ≡ 0 → 128 ≤ length l
+room l formed n e z = ltb-false (length l) 128 (none-refuses (ltb (length l) 128) formed (sym e ∙ z) .0)
 
-pub composed-front : (m : Message) (b : List ℕ) (n : ℕ) → b ≡ sets (replicate 128 0) 0 (encode m) → n ≡ sizeOf m → sizeOf m ≤ 128 → take n b ≡ encode m
-composed-front m b n e f h =
-    let z : List ℕ = replicate 128 0 in
-    let k : 0 + length (encode m) ≤ length z = omega (arith, length-encode m) in
-    ap (take n) (e ∙ sets-eq (encode m) z 0 k) ∙ take-at (encode m) _ n (length-encode m ∙ sym f)
+pub room-in-front : (l : List ℕ) (formed : Bool) (n : ℕ) → n ≡ cond (ltb (length l) 128) 1 (cond formed 0 3) → n ≡ 0 → length (take 128 l) ≡ 128
+room-in-front l formed n e z = length-take-le 128 l (room l formed n e z)
 
--- what the check says of it
-pub composed-formed : (m : Message) (b : List ℕ) (n : ℕ) → b ≡ sets (replicate 128 0) 0 (encode m) → n ≡ sizeOf m → sizeOf m ≤ 128 → Fits m
-    → accepted (take n b) ≡ wellFormed m
-composed-formed m b n e f h g = ap accepted (composed-front m b n e f h) ∙ encoded-accepted m g
+-- a message, a buffer, and the number that the writer found from the message's fields
+module _ (m : Message) (l : List ℕ) (formed : Bool) (n : ℕ) (f : formed ≡ wellFormed m) (e : n ≡ cond (ltb (length l) 128) 1 (cond formed 0 3)) where
+  number : n ≡ writeNumber (length l) m
+  number = e ∙ ap (λ (b : Bool). cond (ltb (length l) 128) 1 (cond b 0 3)) f
+
+  -- ---- refused
+  refuses : (n ≡ 0 → ⊥) → eqb (writeNumber (length l) m) 0 ≡ false
+  refuses g = ne-eqb _ 0 (λ z. g (number ∙ z))
+
+  pub refused-written : (n ≡ 0 → ⊥) → answer n 0 ≡ writtenOf (length l) m
+  unfolding writtenOf
+  refused-written g = ap₂ answer number (sym (ap (λ (b : Bool). cond b (length (encode m)) 0) (refuses g)))
+
+  pub refused-buffer : (n ≡ 0 → ⊥) → l ≡ bufferAfter m l
+  unfolding bufferAfter
+  refused-buffer g = sym (ap (λ (b : Bool). cond b (encode m ++ drop (length (encode m)) l) l) (refuses g))
+
+  -- ---- written
+  module _ (z : n ≡ 0) where
+    allowed : (ltb (length l) 128 ≡ false) × (wellFormed m ≡ true)
+    allowed = none-refuses (ltb (length l) 128) (wellFormed m) (sym number ∙ z)
+
+    allows : eqb (writeNumber (length l) m) 0 ≡ true
+    allows = eq-eqb _ 0 (sym number ∙ z)
+
+    pub good-written : (k : ℕ) → k ≡ sizeOf m → answer 0 k ≡ writtenOf (length l) m
+    unfolding writtenOf
+    good-written k s =
+        ap₂ answer (sym z ∙ number) (s ∙ sym (length-encode m) ∙ sym (ap (λ (b : Bool). cond b (length (encode m)) 0) allows))
+
+    -- the front of the buffer, lent and given back
+    pub good-buffer : (last : List ℕ) → last ≡ sets (take 128 l) 0 (encode m) → last ++ drop 128 l ≡ bufferAfter m l
+    unfolding bufferAfter
+    good-buffer last p =
+        let k = length (encode m) in
+        let h = room-in-front l formed n e z in
+        let s : 0 + k ≤ length (take 128 l) = omega (arith, length-bounds m (allowed .1) .1) in
+        let t : 0 + k ≡ k = omega arith in
+        ap (λ (x : List ℕ). x ++ drop 128 l) (p ∙ sets-eq (encode m) (take 128 l) 0 s)
+        ∙ append-assoc (encode m) (drop (0 + k) (take 128 l)) (drop 128 l)
+        ∙ ap (_++_ (encode m))
+        (sym (drop-append-le (0 + k) (take 128 l) (drop 128 l) s) ∙ ap₂ (λ (i : ℕ) (x : List ℕ). drop i x) t (take-append-drop 128 l))
+        ∙ sym (ap (λ (b : Bool). cond b (encode m ++ drop k l) l) allows)

@@ -118,7 +118,8 @@ encoded-checked m f e =
     simp (le-ltb (length (encode m)) 15 (b .0), le-ltb 128 (length (encode m)) (b .1), encoded-accepted m f ∙ e)
 
 -- bytes that are read fit the bytes that they have
-items-fit : {A : Type 0} (P : A → Type 0) (at : List ℕ → ℕ → A) (size : ℕ) (l : List ℕ) → ((i : ℕ) → P (at l i)) → (n i : ℕ) → All P (itemsFrom at size n l i)
+items-fit : {A : Type 0} (P : A → Type 0) (at : List ℕ → ℕ → A) (size : ℕ) (l : List ℕ) → ((i : ℕ) → P (at l i)) → (n i : ℕ) → All P
+    (itemsFrom at size n l i)
 unfolding itemsFrom
 items-fit P at size l f zero i = tt
 items-fit P at size l f (suc n) i = (f i, items-fit P at size l f n (i + size))

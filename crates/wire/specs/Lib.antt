@@ -7,4 +7,4 @@ pub mod Decode
 pub mod Items
 pub mod Run
 pub mod Write
-pub mod Compose
+pub mod Headed

@@ -38,6 +38,16 @@ pub struct Rival {
     pub serial: u32,
 }
 
+// The header of a message: kind, from, to, and the transaction that it speaks of.
+struct Head {
+    kind: u8,
+    from: u8,
+    to: u8,
+    owner: u8,
+    serial: u32,
+    stamp: u32,
+}
+
 // What a writer answers: a number, and how many bytes it filled.
 #[repr(C)]
 pub struct Written {

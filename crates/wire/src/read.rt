@@ -5,9 +5,11 @@ ghost use lib.ListN.{getD};
 ghost use Rattle.wire.specs.Decode.{kindOf, fromOf, toOf, ownerOf, serialOf, stampOf};
 ghost use Rattle.wire.specs.Decode.{entryCount, rivalCount, rivalsPlace, wordCount, wordsPlace, entryAt, rivalAt};
 ghost use Rattle.wire.specs.Items.{entryOf, rivalOf, wordOf};
+ghost use Rattle.wire.specs.Headed.{headOf};
 use crate::ENTRY;
 use crate::Entry;
 use crate::HEADER;
+use crate::Head;
 use crate::RIVAL;
 use crate::Rival;
 
@@ -46,6 +48,20 @@ pub fn stamp(s: &[u8]) -> u32
     ensures { λ r. ⌜ r ≡ stampOf (now (s .entry)) ⌝ }
 {
     octets::get_u32(s, 8)
+}
+
+// The header as one value.
+pub(crate) fn head(s: &[u8]) -> Head
+    ensures { λ r. ⌜ r ≡ headOf (now (s .entry)) ⌝ }
+{
+    Head {
+        kind: kind(s),
+        from: from(s),
+        to: to(s),
+        owner: owner(s),
+        serial: serial(s),
+        stamp: stamp(s),
+    }
 }
 
 // A byte as an index or a count.

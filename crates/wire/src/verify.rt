@@ -1,36 +1,37 @@
 // Which bytes are a message: the length, then everything else.
 ghost use mathlib.Core.Path.{_≡_};
 ghost use mathlib.Core.Bool.{not, _&&_, _||_};
+ghost use mathlib.Core.List.{[]};
 ghost use Prim.Native.Nat.{_+_, _<_};
 ghost use lib.Dec.{eqb, leb};
-ghost use Rattle.wire.specs.Formed.{countsOk, namesOk, directionOk, contentOk, entryOk, rivalOk};
+ghost use Rattle.wire.specs.Formed.{countsOk, directionOk, contentOk, entryOk, rivalOk};
 ghost use Rattle.wire.specs.Encode.{entrySize, rivalSize};
-ghost use Rattle.wire.specs.Decode.{entryAt, rivalAt, itemsFrom, entriesPlace, decode, accepted, checkOf};
+ghost use Rattle.wire.specs.Decode.{entryAt, rivalAt, itemsFrom, entriesPlace, accepted, checkOf};
+ghost use Rattle.wire.specs.Headed.{headed, headOk};
 ghost use Rattle.wire.specs.Run.{run, objectOf, ownerIn, fittingSections};
 use crate::ENTRY;
 use crate::Entry;
 use crate::HEADER;
+use crate::Head;
 use crate::LONGEST;
 use crate::RIVAL;
 use crate::Rival;
 use crate::SHORTEST;
 use crate::read::entries;
 use crate::read::entry_at;
-use crate::read::from;
+use crate::read::head;
 use crate::read::kind;
 use crate::read::owner;
 use crate::read::rival_at;
 use crate::read::rivals;
 use crate::read::rivals_place;
-use crate::read::serial;
-use crate::read::stamp;
 use crate::read::to;
 use crate::read::word;
 use crate::read::words;
 use numbers::both;
 
 // The counts of a vote: a no (word 0) names no rivals.
-fn vote_counts(entries: usize, rivals: usize, words: usize, word: u8) -> bool
+pub(crate) fn vote_counts(entries: usize, rivals: usize, words: usize, word: u8) -> bool
     ensures { λ r. ⌜ r ≡ countsOk 4 entries rivals words word ⌝ }
 {
     let rest = both(entries == 0, words == 1);
@@ -60,7 +61,7 @@ fn outcome_counts(entries: usize, rivals: usize, words: usize, word: u8) -> bool
 }
 
 // The kind decides the counts of entries, rivals and words.
-fn counts_ok(kind: u8, entries: usize, rivals: usize, words: usize, word: u8) -> bool
+pub(crate) fn counts_ok(kind: u8, entries: usize, rivals: usize, words: usize, word: u8) -> bool
     ensures { λ r. ⌜ r ≡ countsOk kind entries rivals words word ⌝ }
 {
     match kind {
@@ -104,12 +105,18 @@ fn content_ok(kind: u8, e: Entry) -> bool
     }
 }
 
+// An entry is well formed.
+pub(crate) fn entry_ok(kind: u8, e: Entry) -> bool
+    ensures { λ r. ⌜ r ≡ entryOk kind e ⌝ }
+{
+    both(e.object < 64, both(e.mode < 2, content_ok(kind, e)))
+}
+
 // One more entry: its object is at least lo, and it is well formed.
-fn entry_fits(ok: bool, kind: u8, lo: usize, e: Entry) -> bool
+pub(crate) fn entry_fits(ok: bool, kind: u8, lo: usize, e: Entry) -> bool
     ensures { λ r. ⌜ r ≡ (ok && (leb lo (e .object) && entryOk kind e)) ⌝ }
 {
-    let well = both(e.object < 64, both(e.mode < 2, content_ok(kind, e)));
-    both(ok, both(lo <= e.object as usize, well))
+    both(ok, both(lo <= e.object as usize, entry_ok(kind, e)))
 }
 
 // A yield goes to its rival's owner.
@@ -119,22 +126,31 @@ fn placed(kind: u8, rival: u8, to: u8) -> bool
     if kind == 7 { rival == to } else { true }
 }
 
-// One more rival: its owner is at least lo, and it is well formed.
-fn rival_fits(ok: bool, kind: u8, owner: u8, to: u8, lo: usize, r: Rival) -> bool
-    ensures { λ x. ⌜ x ≡ (ok && (leb lo (r .owner) && rivalOk kind owner to r)) ⌝ }
+// A rival is well formed.
+pub(crate) fn rival_ok(kind: u8, owner: u8, to: u8, r: Rival) -> bool
+    ensures { λ x. ⌜ x ≡ rivalOk kind owner to r ⌝ }
 {
-    let well = both(
+    both(
         r.owner < 13,
         both(
             r.owner != owner,
             both(1 <= r.serial, placed(kind, r.owner, to)),
         ),
-    );
-    both(ok, both(lo <= r.owner as usize, well))
+    )
+}
+
+// One more rival: its owner is at least lo, and it is well formed.
+fn rival_fits(ok: bool, kind: u8, owner: u8, to: u8, lo: usize, r: Rival) -> bool
+    ensures { λ x. ⌜ x ≡ (ok && (leb lo (r .owner) && rivalOk kind owner to r)) ⌝ }
+{
+    both(
+        ok,
+        both(lo <= r.owner as usize, rival_ok(kind, owner, to, r)),
+    )
 }
 
 // One above an item's key.
-fn above(key: u8) -> usize
+pub(crate) fn above(key: u8) -> usize
     ensures { λ r. ⌜ r ≡ key + 1 ⌝ }
 {
     key as usize + 1
@@ -178,27 +194,27 @@ fn rivals_ok(s: &[u8], kind: u8, owner: u8, to: u8, place: usize, n: usize) -> b
     ok
 }
 
-// The names of nodes, serial and stamp.
-fn names_ok(s: &[u8]) -> bool
-    ensures { λ r. ⌜ r ≡ namesOk (decode (now (s .entry))) ⌝ }
+// The names of nodes, serial and stamp; odd kinds come from the owner, even ones go to it.
+pub(crate) fn head_ok(h: Head) -> bool
+    ensures { λ r. ⌜ r ≡ headOk h ⌝ }
 {
-    both(
-        from(s) < 13,
+    let named = both(
+        h.from < 13,
         both(
-            to(s) < 13,
-            both(owner(s) < 13, both(1 <= serial(s), 1 <= stamp(s))),
+            h.to < 13,
+            both(h.owner < 13, both(1 <= h.serial, 1 <= h.stamp)),
         ),
-    )
+    );
+    both(named, directed(h))
 }
 
-// Odd kinds come from the owner, even ones go to it.
-fn direction_ok(s: &[u8]) -> bool
-    ensures { λ r. ⌜ r ≡ directionOk (decode (now (s .entry))) ⌝ }
+fn directed(h: Head) -> bool
+    ensures { λ r. ⌜ r ≡ directionOk (headed h [] [] []) ⌝ }
 {
-    if kind(s) % 2 == 1 {
-        from(s) == owner(s)
+    if h.kind % 2 == 1 {
+        h.from == h.owner
     } else {
-        to(s) == owner(s)
+        h.to == h.owner
     }
 }
 
@@ -224,7 +240,7 @@ pub(crate) fn is_accepted(s: &[u8]) -> bool
             entries_ok(s, kind(s), entries(s)),
             rivals_ok(s, kind(s), owner(s), to(s), rivals_place(s), rivals(s)),
         );
-        both(names_ok(s), both(direction_ok(s), listed))
+        both(head_ok(head(s)), listed)
     } else {
         false
     }

@@ -1,15 +1,17 @@
-// Messages written, one writer for each kind. A message is composed in a buffer of its own, checked as a received one is, and copied out.
+// Messages written, one writer for each kind. The fields decide whether a message is well formed; only then are its bytes put into the buffer.
 ghost use mathlib.Core.Path.{_≡_};
-ghost use mathlib.Core.List.{[], _∷_, _++_};
-ghost use Prim.Native.Nat.{_+_, _*_, _^_, _≤_, _<_, min};
-ghost use lib.ListN.{length, take, drop, set, replicate};
+ghost use mathlib.Core.Bool.{true, cond};
+ghost use mathlib.Core.List.{[], _∷_};
+ghost use Prim.Native.Nat.{_+_, _*_, _≤_, _<_, min};
+ghost use lib.Dec.{eqb, ltb};
+ghost use lib.ListN.{length, getD, take};
 ghost use lib.Seq.{sets};
+ghost use Rattle.wire.specs.Formed.{countsOk, entryOk};
 ghost use Rattle.wire.specs.Encode.{encodeEntry, encodeRival, encodeWord, together, section, encodeHeader, encode, sizeOf};
-ghost use Rattle.wire.specs.Encode.{All, EntryFits, RivalFits, Fits};
 ghost use Rattle.wire.specs.Write.{writtenOf, bufferAfter, oneRival, rivalsBy, fetchOf, copyOf, askOf, voteOf, outcomeOf, doneOf, yieldOf};
 ghost use Rattle.wire.specs.Write.{answer};
-ghost use Rattle.wire.specs.Items.{noEntry};
-ghost use Rattle.wire.specs.Compose.{messageOf};
+ghost use Rattle.wire.specs.Run.{run, objectOf};
+ghost use Rattle.wire.specs.Headed.{headed};
 use crate::ASK;
 use crate::COPY;
 use crate::DONE;
@@ -17,82 +19,94 @@ use crate::ENTRY;
 use crate::Entry;
 use crate::FETCH;
 use crate::HEADER;
+use crate::Head;
 use crate::LONGEST;
 use crate::OUTCOME;
 use crate::RIVAL;
+use crate::Rival;
+use crate::SHORTEST;
 use crate::VOTE;
 use crate::Written;
 use crate::YIELD;
-use crate::verify::is_accepted;
+use crate::verify::above;
+use crate::verify::counts_ok;
+use crate::verify::entry_fits;
+use crate::verify::entry_ok;
+use crate::verify::head_ok;
+use crate::verify::rival_ok;
+use crate::verify::vote_counts;
+use numbers::both;
 
-// A message in parts: the first count entries, the rivals' serials by owner (0 for none), and words (0 or 1) words.
-struct Parts {
-    kind: u8,
-    from: u8,
-    to: u8,
-    owner: u8,
-    serial: u32,
-    stamp: u32,
-    entries: [Entry; 8],
-    count: usize,
-    rivals: [u32; 13],
-    words: usize,
-    word: u8,
-}
-
-// An entry at a place.
-fn put_entry(out: &mut [u8], at: usize, e: Entry)
-    requires { ⌜ at < 8192 ⌝ }
-    ensures { λ r. ⌜ now (out .exit) ≡ sets (now (out .entry)) at (encodeEntry e) ⌝ }
-    ensures { λ r. ⌜ EntryFits e ⌝ }
+// The header at the front of a buffer.
+fn put_head(out: &mut [u8], h: Head)
+    ensures { λ r. ⌜ now (out .exit) ≡ sets (now (out .entry)) 0 (encodeHeader (headed h [] [] [])) ⌝ }
 {
-    octets::put_u8(out, at, e.object);
-    octets::put_u8(out, at + 1, e.mode);
-    octets::put_u32(out, at + 2, e.version);
-    octets::put_u64(out, at + 6, e.value);
+    octets::put_u8(out, 0, h.kind);
+    octets::put_u8(out, 1, h.from);
+    octets::put_u8(out, 2, h.to);
+    octets::put_u8(out, 3, h.owner);
+    octets::put_u32(out, 4, h.serial);
+    octets::put_u32(out, 8, h.stamp);
 }
 
-// The first n entries from a place on.
-fn put_entries(out: &mut [u8], at: usize, entries: [Entry; 8], n: usize)
-    requires { ⌜ (at < 4096) × (n ≤ 8) ⌝ }
-    ensures { λ r. ⌜ now (out .exit) ≡ sets (now (out .entry)) at (together encodeEntry (take n entries)) ⌝ }
-    ensures { λ r. ⌜ All EntryFits (take n entries) ⌝ }
+// An entry, and a rival, in a part of a buffer that has their size.
+fn put_entry(out: &mut [u8], e: Entry)
+    ensures { λ r. ⌜ now (out .exit) ≡ sets (now (out .entry)) 0 (encodeEntry e) ⌝ }
+{
+    octets::put_u8(out, 0, e.object);
+    octets::put_u8(out, 1, e.mode);
+    octets::put_u32(out, 2, e.version);
+    octets::put_u64(out, 6, e.value);
+}
+
+fn put_rival(out: &mut [u8], r: Rival)
+    ensures { λ x. ⌜ now (out .exit) ≡ sets (now (out .entry)) 0 (encodeRival r) ⌝ }
+{
+    octets::put_u8(out, 0, r.owner);
+    octets::put_u32(out, 1, r.serial);
+}
+
+// The first n entries behind their count.
+fn put_entries(out: &mut [u8], entries: [Entry; 8], n: usize)
+    requires { ⌜ (n ≤ 8) × (128 ≤ length (now out)) ⌝ }
+    ensures { λ r. ⌜ now (out .exit) ≡ sets (now (out .entry)) 13 (together encodeEntry (take n entries)) ⌝ }
+    ensures { λ r. ⌜ length (take n entries) ≡ n ⌝ }
 {
     let mut i = 0;
     while i < n {
         let e = entries[i];
-        put_entry(out, at + ENTRY * i, e);
+        let at = HEADER + 1 + ENTRY * i;
+        let end = at + ENTRY;
+        put_entry(&mut out[at..end], e);
         i += 1;
     }
 }
 
-// A rival at a place, unless the serial is 0; the next place.
-fn put_rival(out: &mut [u8], at: usize, owner: u8, serial: u32) -> usize
-    requires { ⌜ at < 8192 ⌝ }
-    ensures { λ r. ⌜ (r ≡ at + 5 * length (oneRival owner serial)) ⌝ }
+// An owner's rival at a place, unless the serial is 0; the next place.
+fn put_by_owner(out: &mut [u8], at: usize, owner: u8, serial: u32) -> usize
+    requires { ⌜ (at < 128) × (at + 5 ≤ length (now out)) ⌝ }
+    ensures { λ r. ⌜ r ≡ at + 5 * length (oneRival owner serial) ⌝ }
     ensures { λ r. ⌜ now (out .exit) ≡ sets (now (out .entry)) at (together encodeRival (oneRival owner serial)) ⌝ }
-    ensures { λ r. ⌜ All RivalFits (oneRival owner serial) ⌝ }
 {
     if serial == 0 {
         return at;
     }
-    octets::put_u8(out, at, owner);
-    octets::put_u32(out, at + 1, serial);
-    at + RIVAL
+    let end = at + RIVAL;
+    put_rival(&mut out[at..end], Rival { owner, serial });
+    end
 }
 
-// The rivals from a place on, by owner; the next place.
-fn put_rivals(out: &mut [u8], at: usize, serials: [u32; 13]) -> usize
-    requires { ⌜ at < 4096 ⌝ }
-    ensures { λ r. ⌜ r ≡ at + 5 * length (rivalsBy 0 serials) ⌝ }
-    ensures { λ r. ⌜ now (out .exit) ≡ sets (now (out .entry)) at (together encodeRival (rivalsBy 0 serials)) ⌝ }
-    ensures { λ r. ⌜ All RivalFits (rivalsBy 0 serials) ⌝ }
+// The rivals behind their count, by owner; the next place.
+fn put_rivals(out: &mut [u8], serials: [u32; 13]) -> usize
+    requires { ⌜ 128 ≤ length (now out) ⌝ }
+    ensures { λ r. ⌜ r ≡ 14 + 5 * length (rivalsBy 0 serials) ⌝ }
+    ensures { λ r. ⌜ now (out .exit) ≡ sets (now (out .entry)) 14 (together encodeRival (rivalsBy 0 serials)) ⌝ }
 {
     let mut i: u8 = 0;
-    let mut next = at;
+    let mut next = HEADER + 2;
     while i < 13 {
         let k = i as usize;
-        next = put_rival(out, next, i, serials[k]);
+        next = put_by_owner(out, next, i, serials[k]);
         i += 1;
     }
     next
@@ -119,29 +133,8 @@ fn count_rivals(serials: [u32; 13]) -> usize
     n
 }
 
-// The sections, each with its count; the next place.
-fn put_entry_section(out: &mut [u8], at: usize, entries: [Entry; 8], n: usize) -> usize
-    requires { ⌜ (at < 1024) × (n ≤ 8) ⌝ }
-    ensures { λ r. ⌜ (r ≡ at + 1 + 14 * length (take n entries)) × (r ≤ at + 113) ⌝ }
-    ensures { λ r. ⌜ now (out .exit) ≡ sets (now (out .entry)) at (section encodeEntry (take n entries)) ⌝ }
-    ensures { λ r. ⌜ All EntryFits (take n entries) ⌝ }
-{
-    octets::put_u8(out, at, n as u8);
-    put_entries(out, at + 1, entries, n);
-    at + 1 + ENTRY * n
-}
-
-fn put_rival_section(out: &mut [u8], at: usize, serials: [u32; 13]) -> usize
-    requires { ⌜ at < 1024 ⌝ }
-    ensures { λ r. ⌜ (r ≡ at + 1 + 5 * length (rivalsBy 0 serials)) × (r ≤ at + 66) ⌝ }
-    ensures { λ r. ⌜ now (out .exit) ≡ sets (now (out .entry)) at (section encodeRival (rivalsBy 0 serials)) ⌝ }
-    ensures { λ r. ⌜ All RivalFits (rivalsBy 0 serials) ⌝ }
-{
-    octets::put_u8(out, at, count_rivals(serials) as u8);
-    put_rivals(out, at + 1, serials)
-}
-
-fn put_word_section(out: &mut [u8], at: usize, words: usize, word: u8) -> usize
+// The words with their count; the message's length.
+fn put_words(out: &mut [u8], at: usize, words: usize, word: u8) -> usize
     requires { ⌜ (at < 1024) × (words ≤ 1) ⌝ }
     ensures { λ r. ⌜ r ≡ at + 1 + words ⌝ }
     ensures { λ r. ⌜ now (out .exit) ≡ sets (now (out .entry)) at (section encodeWord (take words (word ∷ []))) ⌝ }
@@ -154,93 +147,126 @@ fn put_word_section(out: &mut [u8], at: usize, words: usize, word: u8) -> usize
     at + 2
 }
 
-// The header: kind, from, to, owner, serial, stamp.
-fn put_header(out: &mut [u8], p: Parts)
-    ensures { λ r. ⌜ now (out .exit) ≡ sets (now (out .entry)) 0 (encodeHeader (messageOf p)) ⌝ }
-    ensures { λ r. ⌜ (p .serial < 256 ^ 4) × (p .stamp < 256 ^ 4) ⌝ }
+// Whole messages at the front of a buffer, by their sections: one entry; entries and words; rivals and a word; one rival; nothing.
+fn fill_entry(out: &mut [u8], h: Head, e: Entry)
+    requires { ⌜ 128 ≤ length (now out) ⌝ }
+    ensures { λ r. ⌜ now (out .exit) ≡ sets (now (out .entry)) 0 (encode (headed h (e ∷ []) [] [])) ⌝ }
 {
-    octets::put_u8(out, 0, p.kind);
-    octets::put_u8(out, 1, p.from);
-    octets::put_u8(out, 2, p.to);
-    octets::put_u8(out, 3, p.owner);
-    octets::put_u32(out, 4, p.serial);
-    octets::put_u32(out, 8, p.stamp);
+    put_head(out, h);
+    octets::put_u8(out, HEADER, 1);
+    put_entry(&mut out[13..27], e);
+    octets::put_u8(out, 27, 0);
+    octets::put_u8(out, 28, 0);
 }
 
-// The whole message at the front of a buffer; its length.
-fn compose(out: &mut [u8], p: Parts) -> usize
-    requires { ⌜ (p .count ≤ 8) × (p .words ≤ 1) ⌝ }
-    ensures { λ r. ⌜ r ≡ sizeOf (messageOf p) ⌝ }
-    ensures { λ r. ⌜ now (out .exit) ≡ sets (now (out .entry)) 0 (encode (messageOf p)) ⌝ }
-    ensures { λ r. ⌜ Fits (messageOf p) ⌝ }
+fn fill_entries(
+    out: &mut [u8],
+    h: Head,
+    entries: [Entry; 8],
+    n: usize,
+    words: usize,
+    word: u8,
+) -> usize
+    requires { ⌜ (n ≤ 8) × (words ≤ 1) × (128 ≤ length (now out)) ⌝ }
+    ensures { λ r. ⌜ r ≡ sizeOf (headed h (take n entries) [] (take words (word ∷ []))) ⌝ }
+    ensures { λ r. ⌜ now (out .exit) ≡ sets (now (out .entry)) 0 (encode (headed h (take n entries) [] (take words (word ∷ [])))) ⌝ }
 {
-    put_header(out, p);
-    let entries = p.entries;
-    let rivals = p.rivals;
-    let after_entries = put_entry_section(out, HEADER, entries, p.count);
-    let after_rivals = put_rival_section(out, after_entries, rivals);
-    put_word_section(out, after_rivals, p.words, p.word)
+    put_head(out, h);
+    octets::put_u8(out, HEADER, n as u8);
+    put_entries(out, entries, n);
+    let at = HEADER + 1 + ENTRY * n;
+    octets::put_u8(out, at, 0);
+    put_words(out, at + 1, words, word)
 }
 
-// Copies n bytes to the front of a buffer.
-fn copy_front(out: &mut [u8], from: &[u8], n: usize)
-    requires { ⌜ (n ≤ length (now out)) × (n ≤ length (now from)) ⌝ }
-    ensures { λ r. ⌜ now (out .exit) ≡ take n (now (from .entry)) ++ drop n (now (out .entry)) ⌝ }
+fn fill_rivals(out: &mut [u8], h: Head, serials: [u32; 13], count: usize, word: u8) -> usize
+    requires { ⌜ (count ≡ length (rivalsBy 0 serials)) × (count ≤ 13) × (128 ≤ length (now out)) ⌝ }
+    ensures { λ r. ⌜ r ≡ sizeOf (headed h [] (rivalsBy 0 serials) (word ∷ [])) ⌝ }
+    ensures { λ r. ⌜ now (out .exit) ≡ sets (now (out .entry)) 0 (encode (headed h [] (rivalsBy 0 serials) (word ∷ []))) ⌝ }
 {
+    put_head(out, h);
+    octets::put_u8(out, HEADER, 0);
+    octets::put_u8(out, HEADER + 1, count as u8);
+    let at = put_rivals(out, serials);
+    put_words(out, at, 1, word)
+}
+
+fn fill_rival(out: &mut [u8], h: Head, r: Rival)
+    requires { ⌜ 128 ≤ length (now out) ⌝ }
+    ensures { λ x. ⌜ now (out .exit) ≡ sets (now (out .entry)) 0 (encode (headed h [] (r ∷ []) [])) ⌝ }
+{
+    put_head(out, h);
+    octets::put_u8(out, HEADER, 0);
+    octets::put_u8(out, HEADER + 1, 1);
+    put_rival(&mut out[14..19], r);
+    octets::put_u8(out, 19, 0);
+}
+
+fn fill_nothing(out: &mut [u8], h: Head)
+    ensures { λ r. ⌜ now (out .exit) ≡ sets (now (out .entry)) 0 (encode (headed h [] [] [])) ⌝ }
+{
+    put_head(out, h);
+    octets::put_u8(out, HEADER, 0);
+    octets::put_u8(out, HEADER + 1, 0);
+    octets::put_u8(out, HEADER + 2, 0);
+}
+
+// What refuses a message: 1 a buffer that is too short, 3 fields that are not well formed, 0 nothing.
+fn refusal(size: usize, formed: bool) -> u8
+    ensures { λ r. ⌜ r ≡ cond (ltb size 128) 1 (cond formed 0 3) ⌝ }
+{
+    if size < LONGEST {
+        return numbers::LENGTH;
+    }
+    if formed { 0 } else { numbers::GARBLED }
+}
+
+// The answers of a writer: refused, and written.
+fn refused(number: u8) -> Written
+    ensures { λ r. ⌜ r ≡ answer number 0 ⌝ }
+{
+    Written { number, length: 0 }
+}
+
+fn written(length: usize) -> Written
+    requires { ⌜ length ≤ 128 ⌝ }
+    ensures { λ r. ⌜ r ≡ answer 0 length ⌝ }
+{
+    Written {
+        number: 0,
+        length: length as u8,
+    }
+}
+
+// Whether the owner is no rival of its own; an owner that is no node is refused by its name.
+fn no_rival(serials: [u32; 13], owner: u8) -> bool
+    ensures { λ r. ⌜ r ≡ eqb (getD serials owner 0) 0 ⌝ }
+    ensures { λ r. ⌜ length serials ≡ 13 ⌝ }
+{
+    if owner < 13 {
+        let i = owner as usize;
+        serials[i] == 0
+    } else {
+        true
+    }
+}
+
+// The first n entries ascend strictly, and each is well formed.
+fn array_ok(kind: u8, entries: [Entry; 8], n: usize) -> bool
+    requires { ⌜ n ≤ 8 ⌝ }
+    ensures { λ r. ⌜ r ≡ run objectOf (entryOk kind) 0 (take n entries) ⌝ }
+    ensures { λ r. ⌜ length (take n entries) ≡ n ⌝ }
+{
+    let mut ok = true;
+    let mut lo: usize = 0;
     let mut i = 0;
     while i < n {
-        out[i] = from[i];
+        let e = entries[i];
+        ok = entry_fits(ok, kind, lo, e);
+        lo = above(e.object);
         i += 1;
     }
-}
-
-// Composes, checks and copies out; on a refusal the buffer is untouched.
-fn send(out: &mut [u8], p: Parts) -> Written
-    requires { ⌜ (p .count ≤ 8) × (p .words ≤ 1) × (sizeOf (messageOf p) ≤ 128) ⌝ }
-    ensures { λ r. ⌜ r ≡ writtenOf (length (now (out .entry))) (messageOf p) ⌝ }
-    ensures { λ r. ⌜ now (out .exit) ≡ bufferAfter (messageOf p) (now (out .entry)) ⌝ }
-{
-    if out.len() < LONGEST {
-        return Written {
-            number: numbers::LENGTH,
-            length: 0,
-        };
-    }
-    let mut b = [0u8; 128];
-    let n = compose(&mut b, p);
-    if is_accepted(&b[..n]) {
-        copy_front(out, &b, n);
-        Written {
-            number: 0,
-            length: n as u8,
-        }
-    } else {
-        Written {
-            number: numbers::GARBLED,
-            length: 0,
-        }
-    }
-}
-
-// No entries, and no rivals.
-fn no_entries() -> [Entry; 8]
-    ensures { λ r. ⌜ r ≡ replicate 8 noEntry ⌝ }
-{
-    [Entry {
-        object: 0,
-        mode: 0,
-        version: 0,
-        value: 0,
-    }; 8]
-}
-
-// One entry.
-fn one_entry(e: Entry) -> [Entry; 8]
-    ensures { λ r. ⌜ r ≡ set (replicate 8 noEntry) 0 e ⌝ }
-{
-    let mut a = no_entries();
-    a[0] = e;
-    a
+    ok
 }
 
 // At most eight.
@@ -248,6 +274,45 @@ fn at_most_eight(n: usize) -> usize
     ensures { λ r. ⌜ r ≡ min n 8 ⌝ }
 {
     if n < 8 { n } else { 8 }
+}
+
+// The writers of the sections: what the fields refuse is not written, and the buffer is untouched.
+
+// One entry: fetch, copy.
+fn send_entry(out: &mut [u8], h: Head, e: Entry) -> Written
+    requires { ⌜ countsOk (h .kind) 1 0 0 0 ≡ true ⌝ }
+    ensures { λ r. ⌜ r ≡ writtenOf (length (now (out .entry))) (headed h (e ∷ []) [] []) ⌝ }
+    ensures { λ r. ⌜ now (out .exit) ≡ bufferAfter (headed h (e ∷ []) [] []) (now (out .entry)) ⌝ }
+{
+    let number = refusal(out.len(), both(head_ok(h), entry_ok(h.kind, e)));
+    if number != 0 {
+        return refused(number);
+    }
+    fill_entry(&mut out[..LONGEST], h, e);
+    written(29)
+}
+
+// Entries, and words (0 or 1) words: ask, outcome.
+fn send_entries(
+    out: &mut [u8],
+    h: Head,
+    entries: [Entry; 8],
+    n: usize,
+    words: usize,
+    word: u8,
+) -> Written
+    requires { ⌜ (n ≤ 8) × (words ≤ 1) × (getD (take words (word ∷ [])) 0 0 ≡ word) ⌝ }
+    ensures { λ r. ⌜ r ≡ writtenOf (length (now (out .entry))) (headed h (take n entries) [] (take words (word ∷ []))) ⌝ }
+    ensures { λ r. ⌜ now (out .exit) ≡ bufferAfter (headed h (take n entries) [] (take words (word ∷ []))) (now (out .entry)) ⌝ }
+{
+    let counted = counts_ok(h.kind, n, 0, words, word);
+    let formed = both(counted, both(head_ok(h), array_ok(h.kind, entries, n)));
+    let number = refusal(out.len(), formed);
+    if number != 0 {
+        return refused(number);
+    }
+    let length = fill_entries(&mut out[..LONGEST], h, entries, n, words, word);
+    written(length)
 }
 
 // The writers. Each rules out, among others: a buffer altered on a refusal; bytes behind the message altered; another node as the sender.
@@ -271,21 +336,15 @@ pub fn write_fetch(
         version: 0,
         value: 0,
     };
-    let entries = one_entry(e);
-    let p = Parts {
+    let h = Head {
         kind: FETCH,
         from: owner,
         to,
         owner,
         serial,
         stamp,
-        entries,
-        count: 1,
-        rivals: [0; 13],
-        words: 0,
-        word: 0,
     };
-    send(out, p)
+    send_entry(out, h, e)
 }
 
 // copy: a node answers the owner's fetch.
@@ -293,21 +352,15 @@ pub fn write_copy(out: &mut [u8], from: u8, owner: u8, serial: u32, stamp: u32, 
     ensures { λ r. ⌜ r ≡ writtenOf (length (now (out .entry))) (copyOf from owner serial stamp e) ⌝ }
     ensures { λ r. ⌜ now (out .exit) ≡ bufferAfter (copyOf from owner serial stamp e) (now (out .entry)) ⌝ }
 {
-    let entries = one_entry(e);
-    let p = Parts {
+    let h = Head {
         kind: COPY,
         from,
         to: owner,
         owner,
         serial,
         stamp,
-        entries,
-        count: 1,
-        rivals: [0; 13],
-        words: 0,
-        word: 0,
     };
-    send(out, p)
+    send_entry(out, h, e)
 }
 
 // ask: the owner asks a node for its vote on the first n entries.
@@ -323,21 +376,15 @@ pub fn write_ask(
     ensures { λ r. ⌜ r ≡ writtenOf (length (now (out .entry))) (askOf to owner serial stamp entries (min n 8)) ⌝ }
     ensures { λ r. ⌜ now (out .exit) ≡ bufferAfter (askOf to owner serial stamp entries (min n 8)) (now (out .entry)) ⌝ }
 {
-    let count = at_most_eight(n);
-    let p = Parts {
+    let h = Head {
         kind: ASK,
         from: owner,
         to,
         owner,
         serial,
         stamp,
-        entries,
-        count,
-        rivals: [0; 13],
-        words: 0,
-        word: 0,
     };
-    send(out, p)
+    send_entries(out, h, entries, at_most_eight(n), 0, 0)
 }
 
 // vote: a node answers the owner's ask, word 1 for yes with the rivals by owner, 0 for no.
@@ -353,21 +400,23 @@ pub fn write_vote(
     ensures { λ r. ⌜ r ≡ writtenOf (length (now (out .entry))) (voteOf from owner serial stamp rivals word) ⌝ }
     ensures { λ r. ⌜ now (out .exit) ≡ bufferAfter (voteOf from owner serial stamp rivals word) (now (out .entry)) ⌝ }
 {
-    let entries = no_entries();
-    let p = Parts {
+    let h = Head {
         kind: VOTE,
         from,
         to: owner,
         owner,
         serial,
         stamp,
-        entries,
-        count: 0,
-        rivals,
-        words: 1,
-        word,
     };
-    send(out, p)
+    let count = count_rivals(rivals);
+    let counted = vote_counts(0, count, 1, word);
+    let formed = both(counted, both(head_ok(h), no_rival(rivals, owner)));
+    let number = refusal(out.len(), formed);
+    if number != 0 {
+        return refused(number);
+    }
+    let length = fill_rivals(&mut out[..LONGEST], h, rivals, count, word);
+    written(length)
 }
 
 // outcome: the owner tells a node the outcome, word 1 for commit with the first n entries, 0 for abort with none.
@@ -384,21 +433,15 @@ pub fn write_outcome(
     ensures { λ r. ⌜ r ≡ writtenOf (length (now (out .entry))) (outcomeOf to owner serial stamp entries (min n 8) word) ⌝ }
     ensures { λ r. ⌜ now (out .exit) ≡ bufferAfter (outcomeOf to owner serial stamp entries (min n 8) word) (now (out .entry)) ⌝ }
 {
-    let count = at_most_eight(n);
-    let p = Parts {
+    let h = Head {
         kind: OUTCOME,
         from: owner,
         to,
         owner,
         serial,
         stamp,
-        entries,
-        count,
-        rivals: [0; 13],
-        words: 1,
-        word,
     };
-    send(out, p)
+    send_entries(out, h, entries, at_most_eight(n), 1, word)
 }
 
 // done: a node answers the owner's outcome.
@@ -406,47 +449,20 @@ pub fn write_done(out: &mut [u8], from: u8, owner: u8, serial: u32, stamp: u32) 
     ensures { λ r. ⌜ r ≡ writtenOf (length (now (out .entry))) (doneOf from owner serial stamp) ⌝ }
     ensures { λ r. ⌜ now (out .exit) ≡ bufferAfter (doneOf from owner serial stamp) (now (out .entry)) ⌝ }
 {
-    let entries = no_entries();
-    let p = Parts {
+    let h = Head {
         kind: DONE,
         from,
         to: owner,
         owner,
         serial,
         stamp,
-        entries,
-        count: 0,
-        rivals: [0; 13],
-        words: 0,
-        word: 0,
     };
-    send(out, p)
-}
-
-// What a writer answers where there is nothing to compose.
-fn refusal(size: usize) -> Written
-    ensures { λ r. ⌜ (size < 128 → r ≡ answer 1 0) × (128 ≤ size → r ≡ answer 3 0) ⌝ }
-{
-    if size < LONGEST {
-        return Written {
-            number: numbers::LENGTH,
-            length: 0,
-        };
+    let number = refusal(out.len(), head_ok(h));
+    if number != 0 {
+        return refused(number);
     }
-    Written {
-        number: numbers::GARBLED,
-        length: 0,
-    }
-}
-
-// The serials of one rival.
-fn one_rival(owner: usize, serial: u32) -> [u32; 13]
-    requires { ⌜ owner < 13 ⌝ }
-    ensures { λ r. ⌜ r ≡ set (replicate 13 0) owner serial ⌝ }
-{
-    let mut a = [0u32; 13];
-    a[owner] = serial;
-    a
+    fill_nothing(&mut out[..LONGEST], h);
+    written(SHORTEST)
 }
 
 // yield: the owner of a committed transaction tells a rival's owner to give way.
@@ -461,26 +477,25 @@ pub fn write_yield(
     ensures { λ r. ⌜ r ≡ writtenOf (length (now (out .entry))) (yieldOf rival owner serial stamp «rival_serial») ⌝ }
     ensures { λ r. ⌜ now (out .exit) ≡ bufferAfter (yieldOf rival owner serial stamp «rival_serial») (now (out .entry)) ⌝ }
 {
-    if 12 < rival {
-        return refusal(out.len());
-    }
-    if rival_serial == 0 {
-        return refusal(out.len());
-    }
-    let entries = no_entries();
-    let rivals = one_rival(rival as usize, rival_serial);
-    let p = Parts {
+    let h = Head {
         kind: YIELD,
         from: owner,
         to: rival,
         owner,
         serial,
         stamp,
-        entries,
-        count: 0,
-        rivals,
-        words: 0,
-        word: 0,
     };
-    send(out, p)
+    let r = Rival {
+        owner: rival,
+        serial: rival_serial,
+    };
+    let number = refusal(
+        out.len(),
+        both(head_ok(h), rival_ok(YIELD, owner, rival, r)),
+    );
+    if number != 0 {
+        return refused(number);
+    }
+    fill_rival(&mut out[..LONGEST], h, r);
+    written(20)
 }

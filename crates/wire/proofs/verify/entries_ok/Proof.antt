@@ -1,15 +1,17 @@
 -- `wire::verify::entries_ok`: what was good so far, and the rest from here, is the whole pass.
-use Prim.Native.Nat.{_+_, _*_, _≤_}
+use Prim.Native.Nat.{_+_, _-_, _*_, _≤_}
 use native.Mathlib.Omega.{arith}
 use mathlib.Core.Path.{_≡_, refl, sym, _∙_}
-use mathlib.Core.Bool.{_&&_, and-true}
+use mathlib.Core.Bool.{_&&_}
 use mathlib.Core.Path.{ap}
+use mathlib.Core.List.{_∷_}
+use Rattle.wire.specs.declared.Entry.{Entry}
 use borrow.Author.Needs.{needs}
 use denote.Ref.{now}
 use Rattle.wire.specs.Formed.{entryOk}
 use Rattle.wire.specs.Decode.{entryAt, itemsFrom}
 use Rattle.wire.specs.Run.{run, objectOf}
-use Rattle.wire.proofs.Accepted.{run-again, run-end}
+use Rattle.wire.proofs.Accepted.{items-step, items-end, run-again, run-end}
 use Rattle.wire.proofs.verify.entries_ok.Statement.{statement}
 use Rattle.wire.proofs.verify.entries_ok.Tie as tie
 
@@ -48,19 +50,18 @@ loop-less c = omega arith
 loop-again : tie.Need-loop-again Inv-loop μ-loop
 loop-again c =
     let l = c .before .before .before .before .loop in
-    let x = c .before .before .before .before .before .before .args in (
+    let x = c .before .before .before .before .before .before .args in
+    let step = items-step entryAt 14 (now (x .s)) (l .left) (l .at) (c .before .before .before .loop-test .taken)
+    ∙ ap (λ (y : Entry). y ∷ itemsFrom entryAt 14 (l .left - 1) (now (x .s)) (l .at + 14)) (sym (c .before .before .entry-at .ensures)) in (
       omega arith,
-      run-again entryAt 14 (now (x .s)) objectOf (entryOk (x .kind)) (l .lo) (l .left) (l .at) (l .ok) _ _ _ _ (c .before .before .entry-at .ensures)
-          (c .before .entry-fits .ensures) (c .above .ensures) (c .before .before .before .loop-test .taken) (l .inv .1),
+      run-again objectOf (entryOk (x .kind)) (l .lo) (l .ok) _ _ _ _ _ _ step (c .before .entry-fits .ensures) (c .above .ensures) (l .inv .1),
     )
 
 returns : tie.Need-returns Inv-loop μ-loop
 returns c =
     let l = c .before .loop in
     let x = c .before .before .before .args in
-    sym (and-true (l .ok)) ∙ ap (_&&_ (l .ok))
-    (sym (run-end entryAt 14 (now (x .s)) objectOf (entryOk (x .kind)) (l .lo) (l .left) (l .at) (c .loop-test .left)))
-    ∙ l .inv .1
+    run-end objectOf (entryOk (x .kind)) (l .lo) (l .ok) _ _ (items-end entryAt 14 (now (x .s)) (l .left) (l .at) (c .loop-test .left)) (l .inv .1)
 
 pub entries-ok-spec : {M : Type 1} → statement M
 entries-ok-spec =

@@ -1,7 +1,8 @@
 -- `wire::verify::is_accepted`: the parts in the definition's order.
-use mathlib.Core.Path.{sym, _∙_}
-use Rattle.wire.proofs.Accepted.{accepted-when, not-accepted}
+use mathlib.Core.Path.{sym, ap, _∙_}
 use denote.Ref.{now}
+use Rattle.wire.specs.Headed.{headOk}
+use Rattle.wire.proofs.Accepted.{accepted-when, not-accepted}
 use borrow.Author.Needs.{needs}
 use Rattle.wire.proofs.verify.is_accepted.Statement.{statement}
 use Rattle.wire.proofs.verify.is_accepted.Tie as tie
@@ -39,21 +40,18 @@ rivals-ok-requires c κs = search needs
 both-requires : tie.Need-both-requires
 both-requires c κs = search needs
 
-names-ok-requires : tie.Need-names-ok-requires
-names-ok-requires c κs = search needs
+head-requires : tie.Need-head-requires
+head-requires c κs = search needs
 
-direction-ok-requires : tie.Need-direction-ok-requires
-direction-ok-requires c κs = search needs
+head-ok-requires : tie.Need-head-ok-requires
+head-ok-requires c κs = search needs
 
 both-requires-2 : tie.Need-both-requires-2
 both-requires-2 c κs = search needs
 
-both-requires-3 : tie.Need-both-requires-3
-both-requires-3 c κs = search needs
-
 returns : tie.Need-returns
 returns c =
-    let b = c .before .before .before .before .before in
+    let b = c .before .before .before .before in
     let k = b .before .before .before .before .before in
     let d = k .before .before .before in
     let l = now (d .before .before .before .before .args .s) in
@@ -65,9 +63,9 @@ returns c =
       b .before .before .rivals-place .ensures .0,
       b .before .rivals .ensures .0,
     ) at (b .rivals-ok .ensures) in
-    simp (c .both3 .ensures, c .before .both2 .ensures, c .before .before .before .before .both .ensures)
-    (accepted-when l _ _ _ _ (sym (d .before .before .sized .ensures) ∙ d .before .if1 .taken) (c .before .before .before .names-ok .ensures)
-    (c .before .before .direction-ok .ensures) e r)
+    simp (c .both2 .ensures, c .before .before .before .both .ensures)
+    (accepted-when l _ _ _ (sym (d .before .before .sized .ensures) ∙ d .before .if1 .taken)
+    (c .before .head-ok .ensures ∙ ap headOk (c .before .before .head .ensures)) e r)
 
 returns-2 : tie.Need-returns-2
 returns-2 c = sym (not-accepted _ (sym (c .before .sized .ensures) ∙ c .if1 .left))
@@ -87,9 +85,8 @@ is-accepted-spec =
     rivals-requires
     rivals-ok-requires
     both-requires
-    names-ok-requires
-    direction-ok-requires
+    head-requires
+    head-ok-requires
     both-requires-2
-    both-requires-3
     returns
     returns-2)

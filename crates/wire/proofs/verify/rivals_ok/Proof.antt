@@ -1,22 +1,25 @@
 -- `wire::verify::rivals_ok`: what was good so far, and the rest from here, is the whole pass.
-use Prim.Native.Nat.{_+_, _*_, _≤_}
+use Prim.Native.Nat.{_+_, _-_, _*_, _≤_}
 use native.Mathlib.Omega.{arith}
 use mathlib.Core.Path.{_≡_, refl, sym, _∙_}
-use mathlib.Core.Bool.{_&&_, and-true}
+use mathlib.Core.Bool.{_&&_}
 use mathlib.Core.Path.{ap}
+use mathlib.Core.List.{_∷_}
+use Rattle.wire.specs.declared.Rival.{Rival}
 use borrow.Author.Needs.{needs}
 use denote.Ref.{now}
 use Rattle.wire.specs.Formed.{rivalOk}
 use Rattle.wire.specs.Decode.{rivalAt, itemsFrom}
 use Rattle.wire.specs.Run.{run, ownerIn}
-use Rattle.wire.proofs.Accepted.{run-again, run-end}
+use Rattle.wire.proofs.Accepted.{items-step, items-end, run-again, run-end}
 use Rattle.wire.proofs.verify.rivals_ok.Statement.{statement}
 use Rattle.wire.proofs.verify.rivals_ok.Tie as tie
 
 abbrev Inv-loop : tie.InvT-loop
 Inv-loop s kind owner to place n ok₀ lo₀ at₀ left₀ ok lo at left =
     (at + 5 * left ≤ place + 5 * n)
-    × ((ok && run ownerIn (rivalOk kind owner to) lo (itemsFrom rivalAt 5 left s at)) ≡ run ownerIn (rivalOk kind owner to) 0 (itemsFrom rivalAt 5 n s place))
+    × ((ok && run ownerIn (rivalOk kind owner to) lo (itemsFrom rivalAt 5 left s at)) ≡ run ownerIn (rivalOk kind owner to) 0
+    (itemsFrom rivalAt 5 n s place))
 
 abbrev μ-loop : tie.MeasureT-loop
 μ-loop s kind owner to place n ok₀ lo₀ at₀ left₀ ok lo at left = left
@@ -45,20 +48,20 @@ loop-less c = omega arith
 loop-again : tie.Need-loop-again Inv-loop μ-loop
 loop-again c =
     let l = c .before .before .before .before .loop in
-    let x = c .before .before .before .before .before .before .args in (
+    let x = c .before .before .before .before .before .before .args in
+    let step = items-step rivalAt 5 (now (x .s)) (l .left) (l .at) (c .before .before .before .loop-test .taken)
+    ∙ ap (λ (y : Rival). y ∷ itemsFrom rivalAt 5 (l .left - 1) (now (x .s)) (l .at + 5)) (sym (c .before .before .rival-at .ensures)) in (
       omega arith,
-      run-again rivalAt 5 (now (x .s)) ownerIn (rivalOk (x .kind) (x .owner) (x .to)) (l .lo) (l .left) (l .at)
-          (l .ok) _ _ _ _ (c .before .before .rival-at .ensures)
-          (c .before .rival-fits .ensures) (c .above .ensures) (c .before .before .before .loop-test .taken) (l .inv .1),
+      run-again ownerIn (rivalOk (x .kind) (x .owner) (x .to)) (l .lo) (l .ok) _ _ _ _ _ _ step (c .before .rival-fits .ensures) (c .above .ensures)
+          (l .inv .1),
     )
 
 returns : tie.Need-returns Inv-loop μ-loop
 returns c =
     let l = c .before .loop in
     let x = c .before .before .before .args in
-    sym (and-true (l .ok)) ∙ ap (_&&_ (l .ok))
-    (sym (run-end rivalAt 5 (now (x .s)) ownerIn (rivalOk (x .kind) (x .owner) (x .to)) (l .lo) (l .left) (l .at) (c .loop-test .left)))
-    ∙ l .inv .1
+    run-end ownerIn (rivalOk (x .kind) (x .owner) (x .to)) (l .lo) (l .ok) _ _ (items-end rivalAt 5 (now (x .s)) (l .left) (l .at) (c .loop-test .left))
+    (l .inv .1)
 
 pub rivals-ok-spec : {M : Type 1} → statement M
 rivals-ok-spec =

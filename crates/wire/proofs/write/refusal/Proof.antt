@@ -1,14 +1,16 @@
--- `wire::write::refusal`: by the size.
-use mathlib.Core.Path.{refl}
-use native.Mathlib.Omega.{arith}
+-- `wire::write::refusal`: the refusals in their order.
+use borrow.Author.Tests.{lt-ltb, le-ltb}
 use Rattle.wire.proofs.write.refusal.Statement.{statement}
 use Rattle.wire.proofs.write.refusal.Tie as tie
 
 returns : tie.Need-returns
-returns c = ((λ h. refl), λ h. absurd (omega arith))
+returns c = simp (lt-ltb _ 128 (c .if1 .taken))
 
 returns-2 : tie.Need-returns-2
-returns-2 c = ((λ h. absurd (omega arith)), λ h. refl)
+returns-2 c = simp (le-ltb _ 128 (c .before .if1 .left), c .if2 .taken)
+
+returns-3 : tie.Need-returns-3
+returns-3 c = simp (le-ltb _ 128 (c .before .if1 .left), c .if2 .left)
 
 pub refusal-spec : {M : Type 1} → statement M
-refusal-spec = tie.close (tie.spec returns returns-2)
+refusal-spec = tie.close (tie.spec returns returns-2 returns-3)

@@ -1,26 +1,19 @@
--- `wire::write::write_copy`: the parts are the message of its kind.
-use native.Mathlib.Omega.{arith}
-use mathlib.Core.Path.{ap}
-use lib.ListN.{length, length-take}
-use Rattle.wire.proofs.ByOwner.{rivals-none}
+-- `wire::write::write_copy`: one entry, of a kind that has one.
+use mathlib.Core.Path.{refl}
+use Rattle.wire.specs.Formed.{countsOk}
 use borrow.Author.Needs.{needs}
 use Rattle.wire.proofs.write.write_copy.Statement.{statement}
 use Rattle.wire.proofs.write.write_copy.Tie as tie
 
-one-entry-requires : tie.Need-one-entry-requires
-one-entry-requires c κs = search needs
-
-send-requires : tie.Need-send-requires
-send-requires c κs = (search needs, search needs, omega (arith, ap length (rivals-none 0 13), length-take 1 (c .before .one-entry .result)))
+send-entry-requires : tie.Need-send-entry-requires
+unfolding countsOk
+send-entry-requires c κs = refl
 
 same-length : tie.Need-same-length
 same-length c = search needs
 
 returns : tie.Need-returns
-returns c =
-    let s = c .before .before .send .ensures in
-    let e = c .before .before .before .before .one-entry .ensures in
-    (simp (e, rivals-none 0 13) at (s .0), simp (e, rivals-none 0 13) at (s .1))
+returns c = search needs
 
 pub write-copy-spec : {M : Type 1} → statement M
-write-copy-spec = tie.close (tie.spec one-entry-requires send-requires same-length returns)
+write-copy-spec = tie.close (tie.spec send-entry-requires same-length returns)

@@ -1,73 +1,95 @@
--- `wire::write::write_yield`: no rival is refused; one rival is the message of its kind.
+-- `wire::write::write_yield`: the ends of a writer (Sending).
+use mathlib.Core.Path.{_≡_, refl, sym, _∙_}
 use native.Mathlib.Omega.{arith}
-use mathlib.Core.Path.{ap, _∙_}
 use denote.Ref.{now}
-use lib.ListN.{length, length-take}
-use Rattle.wire.specs.Write.{rivalsBy, yieldOf}
-use Rattle.wire.proofs.ByOwner.{rivals-only}
-use Rattle.wire.proofs.Given.{yield-above, yield-zero, refused-written, refused-buffer}
+use Rattle.wire.specs.Message.{Message}
+use Rattle.wire.specs.Formed.{countsOk, wellFormed}
+use Rattle.wire.specs.Write.{yieldOf}
+use Rattle.wire.proofs.Sending.{room, room-in-front, refused-written, refused-buffer, good-written, good-buffer}
+use Rattle.wire.proofs.Sending.{rival-formed}
 use borrow.Author.Needs.{needs}
 use Rattle.wire.proofs.write.write_yield.Statement.{statement}
 use Rattle.wire.proofs.write.write_yield.Tie as tie
 
+head-ok-requires : tie.Need-head-ok-requires
+head-ok-requires c κs = search needs
+
+rival-ok-requires : tie.Need-rival-ok-requires
+rival-ok-requires c κs = search needs
+
+both-requires : tie.Need-both-requires
+both-requires c κs = search needs
+
 refusal-requires : tie.Need-refusal-requires
 refusal-requires c κs = search needs
 
+refused-requires : tie.Need-refused-requires
+refused-requires c κs = search needs
+
 returns : tie.Need-returns
+unfolding countsOk
 returns c =
-    let a = c .before .before .before .args in
-    let m = yieldOf (a .rival) (a .owner) (a .serial) (a .stamp) (a .rival-serial) in
-    let bad = yield-above (a .rival) (a .owner) (a .serial) (a .stamp) (a .rival-serial) (c .before .if1 .taken) in (
-      refused-written (length (now (a .out))) m (c .refusal .result) bad (c .refusal .ensures .0) (c .refusal .ensures .1),
-      refused-buffer m (now (a .out)) bad,
+    let g = c .before in
+    let a = g .before .before .before .before .before .before .args in
+    let l = now (a .out) in
+    let x = g .before .refusal in
+    let m : Message = yieldOf (a .rival) (a .owner) (a .serial) (a .stamp) (a .rival-serial) in
+    let f : g .before .before .both .result ≡ wellFormed m = rival-formed _ _ _ _ _ refl (g .before .before .both .ensures)
+    (g .before .before .before .before .head-ok .ensures) (g .before .before .before .rival-ok .ensures) in (
+      c .refused .ensures ∙ refused-written m l (g .before .before .both .result) (x .result) f (x .ensures) (g .if1 .taken),
+      refused-buffer m l
+          (g .before .before .both .result) (x .result) f (x .ensures) (g .if1 .taken),
     )
 
-refusal-requires-2 : tie.Need-refusal-requires-2
-refusal-requires-2 c κs = search needs
+slice-relend-prefix-fill-rival : tie.Need-slice-relend-prefix-fill-rival
+slice-relend-prefix-fill-rival c = room (now (c .before .before .before .before .before .before .args .out)) (c .before .before .both .result) _
+    (c .before .refusal .ensures) (c .if1 .left)
 
-returns-2 : tie.Need-returns-2
-returns-2 c =
-    let a = c .before .before .before .before .args in
-    let m = yieldOf (a .rival) (a .owner) (a .serial) (a .stamp) (a .rival-serial) in
-    let bad = yield-zero (a .rival) (a .owner) (a .serial) (a .stamp) (a .rival-serial) (c .before .if2 .taken) in (
-      refused-written (length (now (a .out))) m (c .refusal2 .result) bad (c .refusal2 .ensures .0) (c .refusal2 .ensures .1),
-      refused-buffer m (now (a .out)) bad,
-    )
+slice-aggregate-fill-rival : tie.Need-slice-aggregate-fill-rival
+slice-aggregate-fill-rival c = sym (room-in-front (now (c .before .before .before .before .before .before .before .args .out))
+    (c .before .before .before .both .result) _ (c .before .before .refusal .ensures) (c .before .if1 .left))
 
-no-entries-requires : tie.Need-no-entries-requires
-no-entries-requires c κs = search needs
+fill-rival-requires : tie.Need-fill-rival-requires
+fill-rival-requires c κs = omega (
+  arith,
+  room-in-front (now (c .before .before .before .before .before .before .before .args .out))
+      (c .before .before .before .both .result) _ (c .before .before .refusal .ensures) (c .before .if1 .left),
+)
 
-one-rival-requires : tie.Need-one-rival-requires
-one-rival-requires c κs = search needs
-
-send-requires : tie.Need-send-requires
-send-requires c κs =
-    let a = c .before .before .before .before .before .before .args in
-    let one = ap (rivalsBy 0) (c .before .one-rival .ensures)
-    ∙ rivals-only 13 (a .rival) (a .rival-serial) (omega arith) (c .before .before .before .if2 .left) in
-    (search needs, search needs, omega (arith, ap length one, length-take 0 (c .before .before .no-entries .result)))
+written-requires : tie.Need-written-requires
+written-requires c κs = search needs
 
 same-length : tie.Need-same-length
 same-length c = search needs
 
-returns-3 : tie.Need-returns-3
-returns-3 c =
-    let a = c .before .before .before .before .before .before .before .before .before .args in
-    let s = c .before .before .send .ensures in
-    let one = ap (rivalsBy 0) (c .before .before .before .before .one-rival .ensures)
-    ∙ rivals-only 13 (a .rival) (a .rival-serial) (omega arith) (c .before .before .before .before .before .before .if2 .left) in
-    (simp one at (s .0), simp one at (s .1))
+returns-2 : tie.Need-returns-2
+unfolding countsOk
+returns-2 c =
+    let g = c .before .before .before .before .before in
+    let a = g .before .before .before .before .before .before .args in
+    let l = now (a .out) in
+    let x = g .before .refusal in
+    let m : Message = yieldOf (a .rival) (a .owner) (a .serial) (a .stamp) (a .rival-serial) in
+    let f : g .before .before .both .result ≡ wellFormed m = rival-formed _ _ _ _ _ refl (g .before .before .both .ensures)
+    (g .before .before .before .before .head-ok .ensures) (g .before .before .before .rival-ok .ensures) in (
+      c .written .ensures ∙ good-written m l (g .before .before .both .result) (x .result) f (x .ensures) (g .if1 .left) _ refl,
+      good-buffer m l
+          (g .before .before .both .result) (x .result) f (x .ensures) (g .if1 .left) _ (c .before .before .before .fill-rival .ensures),
+    )
 
 pub write-yield-spec : {M : Type 1} → statement M
 write-yield-spec =
     tie.close
     (tie.spec
+    head-ok-requires
+    rival-ok-requires
+    both-requires
     refusal-requires
+    refused-requires
     returns
-    refusal-requires-2
-    returns-2
-    no-entries-requires
-    one-rival-requires
-    send-requires
+    slice-relend-prefix-fill-rival
+    slice-aggregate-fill-rival
+    fill-rival-requires
+    written-requires
     same-length
-    returns-3)
+    returns-2)

@@ -1,4 +1,4 @@
--- `wire::write::put_word_section`: the count, then the word if there is one.
+-- `wire::write::put_words`: the count, then the word if there is one.
 use mathlib.Core.Path.{_≡_, ap, _∙_}
 use Prim.Native.Nat.{ℕ, _+_}
 use native.Mathlib.Omega.{arith}
@@ -7,8 +7,8 @@ use denote.Ref.{now}
 use lib.ListN.{set}
 use Rattle.wire.proofs.ByOwner.{word-none, word-one, at-most-one}
 use borrow.Author.Needs.{needs}
-use Rattle.wire.proofs.write.put_word_section.Statement.{statement}
-use Rattle.wire.proofs.write.put_word_section.Tie as tie
+use Rattle.wire.proofs.write.put_words.Statement.{statement}
+use Rattle.wire.proofs.write.put_words.Tie as tie
 
 cast-put-u8 : tie.Need-cast-put-u8
 cast-put-u8 c = search needs
@@ -49,8 +49,8 @@ returns-2 c =
           ∙ word-one (now (a .out)) (a .at) (a .words) (a .word) one,
     )
 
-pub put-word-section-spec : {M : Type 1} → statement M
-put-word-section-spec =
+pub put-words-spec : {M : Type 1} → statement M
+put-words-spec =
     tie.close
     (tie.spec
     cast-put-u8

@@ -1,0 +1,80 @@
+-- `wire::write::array_ok`: what was good so far, and the rest from here, is the whole pass.
+use mathlib.Core.Path.{_≡_, refl, sym, ap₂, _∙_}
+use mathlib.Core.Bool.{_&&_}
+use mathlib.Core.List.{List, _∷_}
+use Prim.Native.Nat.{ℕ, _-_, _≤_}
+use native.Mathlib.Omega.{arith}
+use native.Mathlib.Numerals.{add-one}
+use lib.ListN.{length, take, drop, drop-of-length-le}
+use lib.Seq.{drop-cons, getD-take, length-take-le}
+use Rattle.wire.specs.declared.Entry.{Entry}
+use Rattle.wire.specs.Formed.{entryOk}
+use Rattle.wire.specs.Items.{noEntry}
+use Rattle.wire.specs.Run.{run, objectOf}
+use Rattle.wire.proofs.Accepted.{run-again, run-end}
+use borrow.Author.Needs.{needs}
+use Rattle.wire.proofs.write.array_ok.Statement.{statement}
+use Rattle.wire.proofs.write.array_ok.Tie as tie
+
+abbrev Inv-loop : tie.InvT-loop
+Inv-loop kind n entries ok₀ lo₀ i₀ ok lo i =
+    (i ≤ n) × ((ok && run objectOf (entryOk kind) lo (drop i (take n entries))) ≡ run objectOf (entryOk kind) 0 (take n entries))
+
+abbrev μ-loop : tie.MeasureT-loop
+μ-loop kind n entries ok₀ lo₀ i₀ ok lo i = n - i
+
+loop-holds : tie.Need-loop-holds Inv-loop μ-loop
+loop-holds c = (omega arith, refl)
+
+mul-e : tie.Need-mul-e Inv-loop μ-loop
+mul-e c = search needs
+
+array-copy-out-e : tie.Need-array-copy-out-e Inv-loop μ-loop
+array-copy-out-e c = search needs
+
+entry-fits-requires : tie.Need-entry-fits-requires Inv-loop μ-loop
+entry-fits-requires c κs = search needs
+
+above-requires : tie.Need-above-requires Inv-loop μ-loop
+above-requires c κs = search needs
+
+add-i : tie.Need-add-i Inv-loop μ-loop
+add-i c = search needs
+
+loop-less : tie.Need-loop-less Inv-loop μ-loop
+loop-less c = search needs
+
+loop-again : tie.Need-loop-again Inv-loop μ-loop
+loop-again c =
+    let l = c .before .before .before .before .loop in
+    let a = c .before .before .before .before .before .args in
+    let es : List Entry = take (a .n) (a .t2) in
+    let full : length (a .t2) ≡ 8 = search needs in
+    let len : length es ≡ a .n = length-take-le (a .n) (a .t2) (omega arith) in
+    let step = drop-cons es (l .i) noEntry (omega arith)
+    ∙ ap₂ (λ (e : Entry) (j : ℕ). e ∷ drop j es) (getD-take (a .n) (a .t2) (l .i) noEntry (omega arith)) (sym (add-one (l .i))) in
+    (omega arith, run-again objectOf (entryOk (a .kind)) (l .lo) (l .ok) _ _ _ _ _ _ step (c .before .entry-fits .ensures) (c .above .ensures) (l .inv .1))
+
+returns : tie.Need-returns Inv-loop μ-loop
+returns c =
+    let l = c .before .loop in
+    let a = c .before .before .args in
+    let full : length (a .t2) ≡ 8 = search needs in
+    let len : length (take (a .n) (a .t2)) ≡ a .n = length-take-le (a .n) (a .t2) (omega arith) in
+    (run-end objectOf (entryOk (a .kind)) (l .lo) (l .ok) _ _ (drop-of-length-le (take (a .n) (a .t2)) {i = l .i} (omega arith)) (l .inv .1), len)
+
+pub array-ok-spec : {M : Type 1} → statement M
+array-ok-spec =
+    tie.close
+    (tie.spec
+    Inv-loop
+    μ-loop
+    loop-holds
+    mul-e
+    array-copy-out-e
+    entry-fits-requires
+    above-requires
+    add-i
+    loop-less
+    loop-again
+    returns)
