@@ -3,10 +3,10 @@
 use mathlib.Core.Path.{_≡_, refl, sym, ap, ap₂, _∙_}
 use mathlib.Core.Bool.{Bool, true, false, cond, _&&_, and-assoc, and-true}
 use mathlib.Core.List.{List, [], _∷_, map}
-use Prim.Native.Nat.{ℕ, zero, suc, _+_, _-_, _≤_, _<_}
+use Prim.Native.Nat.{ℕ, zero, suc, _+_, _-_, _*_, _≤_, _<_}
 use native.Mathlib.Omega.{arith}
 use lib.Dec.{eqb, ltb, leb}
-use borrow.Author.Tests.{lt-ltb, le-leb}
+use borrow.Author.Tests.{lt-ltb, le-leb, eqb-true}
 use lib.ListN.{length, getD}
 use Rattle.wire.specs.declared.Entry.{Entry}
 use Rattle.wire.specs.declared.Head.{Head}
@@ -17,7 +17,7 @@ use Rattle.wire.specs.Encode.{entrySize, rivalSize, sizeWith}
 use Rattle.wire.specs.Decode.{kindOf, toOf, ownerOf, entryCount, entriesPlace, rivalCount, rivalsPlace, wordCount, wordsPlace}
 use Rattle.wire.specs.Decode.{entryAt, rivalAt, wordAt, itemsFrom, decode, accepted}
 use Rattle.wire.specs.Items.{wordOf}
-use Rattle.wire.specs.Run.{run, objectOf, ownerIn, fittingSections}
+use Rattle.wire.specs.Run.{run, objectOf, ownerIn, fittingSections, wordWith}
 
 module _ {A : Type 0} (at : List ℕ → ℕ → A) (size : ℕ) (l : List ℕ) where
   pub length-items : (n i : ℕ) → length (itemsFrom at size n l i) ≡ n
@@ -115,6 +115,23 @@ accepted-by l =
     (counts-eq (kindOf l) _ _ _ _ (entryCount l) (rivalCount l) (wordCount l) (wordOf l) n r w (first-word (wordCount l) l (wordsPlace l))))
     ∙ sym (and-assoc (eqb (length l) (sizeWith (entryCount l) (rivalCount l) (wordCount l)))
     (countsOk (kindOf l) (entryCount l) (rivalCount l) (wordCount l) (wordOf l)) _)
+
+-- the counts read one behind the other are the definition's
+pub sized-fits : (l : List ℕ) (n r w : ℕ) → n ≡ entryCount l → r ≡ rivalCount l → w ≡ wordCount l
+    → (eqb (length l) (sizeWith n r w) && countsOk (kindOf l) n r w (wordWith l n r w)) ≡ fittingSections l
+sized-fits l n r w p q s =
+    let place : 15 + 14 * n + 5 * r ≡ wordsPlace l = omega arith in
+    ap₂ _&&_ (size-eq (length l) n r w (entryCount l) (rivalCount l) (wordCount l) p q s)
+    (counts-eq (kindOf l) n r w (wordWith l n r w) (entryCount l) (rivalCount l) (wordCount l) (wordOf l) p q s
+    (ap₂ (λ (k : ℕ) (j : ℕ). cond (ltb 0 k) (getD l j 0) 0) s place))
+
+pub sized-length : (l : List ℕ) (n r w : ℕ) (x : Bool) → x ≡ (eqb (length l) (sizeWith n r w) && countsOk (kindOf l) n r w (wordWith l n r w))
+    → x ≡ true → length l ≡ sizeWith n r w
+sized-length l n r w x e t = eqb-true (length l) (sizeWith n r w) (left (eqb (length l) (sizeWith n r w)) _ (sym e ∙ t))
+  where
+    left : (a b : Bool) → (a && b) ≡ true → a ≡ true
+    left true b e = refl
+    left false b e = e
 
 -- the parts found by the check's functions
 pub accepted-when : (l : List ℕ) (head entries rivals : Bool) → fittingSections l ≡ true → head ≡ headOk (headOf l)

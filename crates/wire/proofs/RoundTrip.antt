@@ -4,10 +4,10 @@ use mathlib.Core.List.{List, [], _∷_, _++_, append-assoc, append-nil}
 use Prim.Native.Nat.{ℕ, zero, suc, _+_, _*_, _^_, _≤_, _<_}
 use native.Mathlib.Numerals.{add-one}
 use native.Mathlib.Omega.{arith}
-use lib.ListN.{length, getD, drop, length-append, take-append-drop}
-use lib.Seq.{drop-drop, drop-at, drop-cons, getD-drop, drop-length}
+use lib.ListN.{length, getD, take, drop, length-append, take-append-drop}
+use lib.Seq.{drop-drop, drop-at, drop-cons, getD-take, getD-drop, drop-length}
 use Rattle.octets.specs.Octets.{get, le}
-use Rattle.octets.proofs.Laws.{Bytes, length-le, get-drop, get-le, le-get}
+use Rattle.octets.proofs.Laws.{Bytes, length-le, get-ext, get-drop, get-le, le-get}
 use Rattle.wire.specs.declared.Entry.{Entry}
 use Rattle.wire.specs.declared.Rival.{Rival}
 use Rattle.wire.specs.Message.{Message}
@@ -52,6 +52,25 @@ length-encode m =
       length-together encodeRival 5 length-rival (m .rivals),
       length-together encodeWord 1 (λ x. refl) (m .words),
     )
+
+-- ---- an item read from a part of its size is the item at the part's place
+module _ (l : List ℕ) (i k : ℕ) where
+  byte-in : (j : ℕ) → j < k → getD (take k (drop i l)) j 0 ≡ getD l (i + j) 0
+  byte-in j h = getD-take k (drop i l) j 0 h ∙ getD-drop i l j 0
+
+  number-in : (n j : ℕ) → j + n ≤ k → get n (take k (drop i l)) j ≡ get n l (i + j)
+  number-in n j h = get-ext n (take k (drop i l)) (drop i l) j (λ m a b. getD-take k (drop i l) m 0 (omega arith)) ∙ get-drop n l i j
+
+  first : getD l (i + 0) 0 ≡ getD l i 0
+  first = let z : i + 0 ≡ i = omega arith in ap (λ (j : ℕ). getD l j 0) z
+
+  pub entry-in : k ≡ 14 → entryAt (take k (drop i l)) 0 ≡ entryAt l i
+  unfolding entryAt
+  entry-in e = made-entry (byte-in 0 (omega arith) ∙ first) (byte-in 1 (omega arith)) (number-in 4 2 (omega arith)) (number-in 8 6 (omega arith))
+
+  pub rival-in : k ≡ 5 → rivalAt (take k (drop i l)) 0 ≡ rivalAt l i
+  unfolding rivalAt
+  rival-in e = made-rival (byte-in 0 (omega arith) ∙ first) (number-in 4 1 (omega arith))
 
 -- ---- what stands at a place of a list
 module _ (l : List ℕ) where

@@ -1,9 +1,9 @@
 -- What the private functions of the check compute; proofs/Accepted.antt shows that it is `accepted`.
-use mathlib.Core.Bool.{Bool, true, _&&_}
+use mathlib.Core.Bool.{Bool, true, cond, _&&_}
 use mathlib.Core.List.{List, [], _∷_}
-use Prim.Native.Nat.{ℕ, _+_}
-use lib.Dec.{eqb, leb}
-use lib.ListN.{length}
+use Prim.Native.Nat.{ℕ, _+_, _*_}
+use lib.Dec.{eqb, ltb, leb}
+use lib.ListN.{length, getD}
 use Rattle.wire.specs.declared.Entry.{Entry}
 use Rattle.wire.specs.declared.Rival.{Rival}
 use Rattle.wire.specs.Formed.{countsOk}
@@ -26,3 +26,7 @@ ownerIn r = r .owner
 abbrev pub fittingSections : List ℕ → Bool
 fittingSections l =
     eqb (length l) (sizeWith (entryCount l) (rivalCount l) (wordCount l)) && countsOk (kindOf l) (entryCount l) (rivalCount l) (wordCount l) (wordOf l)
+
+-- the word behind n entries, r rivals and the count w, 0 where there is none
+abbrev pub wordWith : List ℕ → ℕ → ℕ → ℕ → ℕ
+wordWith l n r w = cond (ltb 0 w) (getD l (15 + 14 * n + 5 * r) 0) 0

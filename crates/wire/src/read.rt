@@ -1,6 +1,8 @@
 // What the bytes of a message say, read in place. What is not there reads as 0.
 ghost use mathlib.Core.Path.{_≡_};
+ghost use mathlib.Core.Bool.{cond};
 ghost use Prim.Native.Nat.{_<_};
+ghost use lib.Dec.{ltb};
 ghost use lib.ListN.{getD};
 ghost use Rattle.wire.specs.Decode.{kindOf, fromOf, toOf, ownerOf, serialOf, stampOf};
 ghost use Rattle.wire.specs.Decode.{entryCount, rivalCount, rivalsPlace, wordCount, wordsPlace, entryAt, rivalAt};
@@ -65,7 +67,7 @@ pub(crate) fn head(s: &[u8]) -> Head
 }
 
 // A byte as an index or a count.
-fn count_at(s: &[u8], at: usize) -> usize
+pub(crate) fn count_at(s: &[u8], at: usize) -> usize
     ensures { λ r. ⌜ (r ≡ getD (now (s .entry)) at 0) × (r < 256) ⌝ }
 {
     octets::get_u8(s, at) as usize
@@ -84,14 +86,14 @@ pub fn rivals(s: &[u8]) -> usize
     count_at(s, HEADER + 1 + ENTRY * entries(s))
 }
 
-pub(crate) fn words(s: &[u8]) -> usize
+fn words(s: &[u8]) -> usize
     ensures { λ r. ⌜ (r ≡ wordCount (now (s .entry))) × (r < 256) ⌝ }
 {
     count_at(s, rivals_place(s) + RIVAL * rivals(s))
 }
 
 // Where the rivals and the words start.
-pub(crate) fn rivals_place(s: &[u8]) -> usize
+fn rivals_place(s: &[u8]) -> usize
     ensures { λ r. ⌜ (r ≡ rivalsPlace (now (s .entry))) × (r < 4096) ⌝ }
 {
     HEADER + 1 + ENTRY * entries(s) + 1
@@ -159,9 +161,12 @@ pub fn nth_rival(s: &[u8], i: usize) -> Rival
 pub fn word(s: &[u8]) -> u8
     ensures { λ r. ⌜ r ≡ wordOf (now (s .entry)) ⌝ }
 {
-    if 0 < words(s) {
-        octets::get_u8(s, words_place(s))
-    } else {
-        0
-    }
+    word_at(s, words_place(s), words(s))
+}
+
+// The first of w words from a place on.
+pub(crate) fn word_at(s: &[u8], at: usize, w: usize) -> u8
+    ensures { λ r. ⌜ r ≡ cond (ltb 0 w) (getD (now (s .entry)) at 0) 0 ⌝ }
+{
+    if 0 < w { octets::get_u8(s, at) } else { 0 }
 }

@@ -2,13 +2,14 @@
 ghost use mathlib.Core.Path.{_≡_};
 ghost use mathlib.Core.Bool.{not, _&&_, _||_};
 ghost use mathlib.Core.List.{[]};
-ghost use Prim.Native.Nat.{_+_, _<_};
+ghost use Prim.Native.Nat.{_+_, _*_, _≤_, _<_};
 ghost use lib.Dec.{eqb, leb};
+ghost use lib.ListN.{length};
 ghost use Rattle.wire.specs.Formed.{countsOk, directionOk, contentOk, entryOk, rivalOk};
-ghost use Rattle.wire.specs.Encode.{entrySize, rivalSize};
-ghost use Rattle.wire.specs.Decode.{entryAt, rivalAt, itemsFrom, entriesPlace, accepted, checkOf};
+ghost use Rattle.wire.specs.Encode.{entrySize, rivalSize, sizeWith};
+ghost use Rattle.wire.specs.Decode.{kindOf, entryAt, rivalAt, itemsFrom, entriesPlace, accepted, checkOf};
 ghost use Rattle.wire.specs.Headed.{headed, headOk};
-ghost use Rattle.wire.specs.Run.{run, objectOf, ownerIn, fittingSections};
+ghost use Rattle.wire.specs.Run.{run, objectOf, ownerIn, wordWith};
 use crate::ENTRY;
 use crate::Entry;
 use crate::HEADER;
@@ -17,17 +18,13 @@ use crate::LONGEST;
 use crate::RIVAL;
 use crate::Rival;
 use crate::SHORTEST;
+use crate::read::count_at;
 use crate::read::entries;
 use crate::read::entry_at;
 use crate::read::head;
 use crate::read::kind;
-use crate::read::owner;
 use crate::read::rival_at;
-use crate::read::rivals;
-use crate::read::rivals_place;
-use crate::read::to;
-use crate::read::word;
-use crate::read::words;
+use crate::read::word_at;
 use numbers::both;
 
 // The counts of a vote: a no (word 0) names no rivals.
@@ -46,7 +43,7 @@ pub(crate) fn vote_counts(entries: usize, rivals: usize, words: usize, word: u8)
 }
 
 // The counts of an outcome: an abort (word 0) has no entries, a commit 1 to 8.
-fn outcome_counts(entries: usize, rivals: usize, words: usize, word: u8) -> bool
+pub(crate) fn outcome_counts(entries: usize, rivals: usize, words: usize, word: u8) -> bool
     ensures { λ r. ⌜ r ≡ countsOk 5 entries rivals words word ⌝ }
 {
     let rest = both(rivals == 0, words == 1);
@@ -158,7 +155,7 @@ pub(crate) fn above(key: u8) -> usize
 
 // The entries ascend strictly, and each is well formed.
 fn entries_ok(s: &[u8], kind: u8, n: usize) -> bool
-    requires { ⌜ n < 256 ⌝ }
+    requires { ⌜ (n < 256) × (13 + 14 * n ≤ length (now s)) ⌝ }
     ensures { λ r. ⌜ r ≡ run objectOf (entryOk kind) 0 (itemsFrom entryAt entrySize n (now (s .entry)) entriesPlace) ⌝ }
 {
     let mut ok = true;
@@ -166,10 +163,11 @@ fn entries_ok(s: &[u8], kind: u8, n: usize) -> bool
     let mut at = HEADER + 1;
     let mut left = n;
     while 0 < left {
-        let e = entry_at(s, at);
+        let end = at + ENTRY;
+        let e = entry_at(&s[at..end], 0);
         ok = entry_fits(ok, kind, lo, e);
         lo = above(e.object);
-        at = at + ENTRY;
+        at = end;
         left = left - 1;
     }
     ok
@@ -177,7 +175,7 @@ fn entries_ok(s: &[u8], kind: u8, n: usize) -> bool
 
 // The rivals from a place on ascend strictly, and each is well formed.
 fn rivals_ok(s: &[u8], kind: u8, owner: u8, to: u8, place: usize, n: usize) -> bool
-    requires { ⌜ (n < 256) × (place < 4096) ⌝ }
+    requires { ⌜ (n < 256) × (place < 4096) × (place + 5 * n ≤ length (now s)) ⌝ }
     ensures { λ r. ⌜ r ≡ run ownerIn (rivalOk kind owner to) 0 (itemsFrom rivalAt rivalSize n (now (s .entry)) place) ⌝ }
 {
     let mut ok = true;
@@ -185,10 +183,11 @@ fn rivals_ok(s: &[u8], kind: u8, owner: u8, to: u8, place: usize, n: usize) -> b
     let mut at = place;
     let mut left = n;
     while 0 < left {
-        let r = rival_at(s, at);
+        let end = at + RIVAL;
+        let r = rival_at(&s[at..end], 0);
         ok = rival_fits(ok, kind, owner, to, lo, r);
         lo = above(r.owner);
-        at = at + RIVAL;
+        at = end;
         left = left - 1;
     }
     ok
@@ -218,29 +217,34 @@ fn directed(h: Head) -> bool
     }
 }
 
-// The length is that of the sections, and the kind allows the counts.
-fn sized(s: &[u8]) -> bool
-    ensures { λ r. ⌜ r ≡ fittingSections (now (s .entry)) ⌝ }
+// The length is that of the sections, and the kind allows the counts n, r and w of entries, rivals and words.
+fn sized(s: &[u8], n: usize, r: usize, w: usize) -> bool
+    requires { ⌜ (n < 256) × (r < 256) × (w < 256) ⌝ }
+    ensures { λ x. ⌜ x ≡ (eqb (length (now (s .entry))) (sizeWith n r w) && countsOk (kindOf (now (s .entry))) n r w (wordWith (now (s .entry)) n r w)) ⌝ }
 {
-    let n = entries(s);
-    let r = rivals(s);
-    let w = words(s);
+    let word = word_at(s, SHORTEST + ENTRY * n + RIVAL * r, w);
     both(
         s.len() == SHORTEST + ENTRY * n + RIVAL * r + w,
-        counts_ok(kind(s), n, r, w, word(s)),
+        counts_ok(kind(s), n, r, w, word),
     )
 }
 
-// A message without its length's number: sections first, so that the loops run over few items.
-pub(crate) fn is_accepted(s: &[u8]) -> bool
+// A message without its length's number. Each count is read once, and the sections come first, so that the loops run over few items that are there.
+fn is_accepted(s: &[u8]) -> bool
     ensures { λ r. ⌜ r ≡ accepted (now (s .entry)) ⌝ }
 {
-    if sized(s) {
+    let n = entries(s);
+    let at = HEADER + 1 + ENTRY * n;
+    let r = count_at(s, at);
+    let place = at + 1;
+    let w = count_at(s, place + RIVAL * r);
+    if sized(s, n, r, w) {
+        let h = head(s);
         let listed = both(
-            entries_ok(s, kind(s), entries(s)),
-            rivals_ok(s, kind(s), owner(s), to(s), rivals_place(s), rivals(s)),
+            entries_ok(s, h.kind, n),
+            rivals_ok(s, h.kind, h.owner, h.to, place, r),
         );
-        both(head_ok(head(s)), listed)
+        both(head_ok(h), listed)
     } else {
         false
     }

@@ -33,6 +33,7 @@ use crate::verify::counts_ok;
 use crate::verify::entry_fits;
 use crate::verify::entry_ok;
 use crate::verify::head_ok;
+use crate::verify::outcome_counts;
 use crate::verify::rival_ok;
 use crate::verify::vote_counts;
 use numbers::both;
@@ -251,10 +252,10 @@ fn no_rival(serials: [u32; 13], owner: u8) -> bool
     }
 }
 
-// The first n entries ascend strictly, and each is well formed.
-fn array_ok(kind: u8, entries: [Entry; 8], n: usize) -> bool
+// The first n entries of an ask ascend strictly, and each is well formed; those of a commit are the same.
+fn array_ok(entries: [Entry; 8], n: usize) -> bool
     requires { ⌜ n ≤ 8 ⌝ }
-    ensures { λ r. ⌜ r ≡ run objectOf (entryOk kind) 0 (take n entries) ⌝ }
+    ensures { λ r. ⌜ r ≡ run objectOf (entryOk 3) 0 (take n entries) ⌝ }
     ensures { λ r. ⌜ length (take n entries) ≡ n ⌝ }
 {
     let mut ok = true;
@@ -262,7 +263,7 @@ fn array_ok(kind: u8, entries: [Entry; 8], n: usize) -> bool
     let mut i = 0;
     while i < n {
         let e = entries[i];
-        ok = entry_fits(ok, kind, lo, e);
+        ok = entry_fits(ok, ASK, lo, e);
         lo = above(e.object);
         i += 1;
     }
@@ -292,7 +293,7 @@ fn send_entry(out: &mut [u8], h: Head, e: Entry) -> Written
     written(29)
 }
 
-// Entries, and words (0 or 1) words: ask, outcome.
+// Entries, and words (0 or 1) words: ask, outcome. Whether the kind allows the counts is for the caller to say, which knows the kind.
 fn send_entries(
     out: &mut [u8],
     h: Head,
@@ -300,13 +301,14 @@ fn send_entries(
     n: usize,
     words: usize,
     word: u8,
+    counted: bool,
 ) -> Written
     requires { ⌜ (n ≤ 8) × (words ≤ 1) × (getD (take words (word ∷ [])) 0 0 ≡ word) ⌝ }
+    requires { ⌜ (counted ≡ countsOk (h .kind) n 0 words word) × (entryOk (h .kind) ≡ entryOk 3) ⌝ }
     ensures { λ r. ⌜ r ≡ writtenOf (length (now (out .entry))) (headed h (take n entries) [] (take words (word ∷ []))) ⌝ }
     ensures { λ r. ⌜ now (out .exit) ≡ bufferAfter (headed h (take n entries) [] (take words (word ∷ []))) (now (out .entry)) ⌝ }
 {
-    let counted = counts_ok(h.kind, n, 0, words, word);
-    let formed = both(counted, both(head_ok(h), array_ok(h.kind, entries, n)));
+    let formed = both(counted, both(head_ok(h), array_ok(entries, n)));
     let number = refusal(out.len(), formed);
     if number != 0 {
         return refused(number);
@@ -384,7 +386,8 @@ pub fn write_ask(
         serial,
         stamp,
     };
-    send_entries(out, h, entries, at_most_eight(n), 0, 0)
+    let count = at_most_eight(n);
+    send_entries(out, h, entries, count, 0, 0, counts_ok(ASK, count, 0, 0, 0))
 }
 
 // vote: a node answers the owner's ask, word 1 for yes with the rivals by owner, 0 for no.
@@ -441,7 +444,9 @@ pub fn write_outcome(
         serial,
         stamp,
     };
-    send_entries(out, h, entries, at_most_eight(n), 1, word)
+    let count = at_most_eight(n);
+    let counted = outcome_counts(count, 0, 1, word);
+    send_entries(out, h, entries, count, 1, word, counted)
 }
 
 // done: a node answers the owner's outcome.

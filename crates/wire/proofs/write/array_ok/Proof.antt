@@ -17,11 +17,11 @@ use Rattle.wire.proofs.write.array_ok.Statement.{statement}
 use Rattle.wire.proofs.write.array_ok.Tie as tie
 
 abbrev Inv-loop : tie.InvT-loop
-Inv-loop kind n entries ok₀ lo₀ i₀ ok lo i =
-    (i ≤ n) × ((ok && run objectOf (entryOk kind) lo (drop i (take n entries))) ≡ run objectOf (entryOk kind) 0 (take n entries))
+Inv-loop n entries ok₀ lo₀ i₀ ok lo i =
+    (i ≤ n) × ((ok && run objectOf (entryOk 3) lo (drop i (take n entries))) ≡ run objectOf (entryOk 3) 0 (take n entries))
 
 abbrev μ-loop : tie.MeasureT-loop
-μ-loop kind n entries ok₀ lo₀ i₀ ok lo i = n - i
+μ-loop n entries ok₀ lo₀ i₀ ok lo i = n - i
 
 loop-holds : tie.Need-loop-holds Inv-loop μ-loop
 loop-holds c = (omega arith, refl)
@@ -48,20 +48,20 @@ loop-again : tie.Need-loop-again Inv-loop μ-loop
 loop-again c =
     let l = c .before .before .before .before .loop in
     let a = c .before .before .before .before .before .args in
-    let es : List Entry = take (a .n) (a .t2) in
-    let full : length (a .t2) ≡ 8 = search needs in
-    let len : length es ≡ a .n = length-take-le (a .n) (a .t2) (omega arith) in
+    let es : List Entry = take (a .n) (a .t1) in
+    let full : length (a .t1) ≡ 8 = search needs in
+    let len : length es ≡ a .n = length-take-le (a .n) (a .t1) (omega arith) in
     let step = drop-cons es (l .i) noEntry (omega arith)
-    ∙ ap₂ (λ (e : Entry) (j : ℕ). e ∷ drop j es) (getD-take (a .n) (a .t2) (l .i) noEntry (omega arith)) (sym (add-one (l .i))) in
-    (omega arith, run-again objectOf (entryOk (a .kind)) (l .lo) (l .ok) _ _ _ _ _ _ step (c .before .entry-fits .ensures) (c .above .ensures) (l .inv .1))
+    ∙ ap₂ (λ (e : Entry) (j : ℕ). e ∷ drop j es) (getD-take (a .n) (a .t1) (l .i) noEntry (omega arith)) (sym (add-one (l .i))) in
+    (omega arith, run-again objectOf (entryOk 3) (l .lo) (l .ok) _ _ _ _ _ _ step (c .before .entry-fits .ensures) (c .above .ensures) (l .inv .1))
 
 returns : tie.Need-returns Inv-loop μ-loop
 returns c =
     let l = c .before .loop in
     let a = c .before .before .args in
-    let full : length (a .t2) ≡ 8 = search needs in
-    let len : length (take (a .n) (a .t2)) ≡ a .n = length-take-le (a .n) (a .t2) (omega arith) in
-    (run-end objectOf (entryOk (a .kind)) (l .lo) (l .ok) _ _ (drop-of-length-le (take (a .n) (a .t2)) {i = l .i} (omega arith)) (l .inv .1), len)
+    let full : length (a .t1) ≡ 8 = search needs in
+    let len : length (take (a .n) (a .t1)) ≡ a .n = length-take-le (a .n) (a .t1) (omega arith) in
+    (run-end objectOf (entryOk 3) (l .lo) (l .ok) _ _ (drop-of-length-le (take (a .n) (a .t1)) {i = l .i} (omega arith)) (l .inv .1), len)
 
 pub array-ok-spec : {M : Type 1} → statement M
 array-ok-spec =
