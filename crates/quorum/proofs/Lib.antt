@@ -4,4 +4,5 @@ pub mod Contain
 pub mod Order
 pub mod Steps
 pub mod Optimal
+pub mod Keys
 pub mod Theorems

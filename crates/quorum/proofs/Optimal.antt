@@ -6,11 +6,11 @@ use mathlib.Core.List.{List, [], _∷_, _++_, map}
 use Prim.Native.Nat.{ℕ, zero, suc, _+_, _*_, _/_, _%_, _^_}
 use native.Mathlib.Nat.{pow-suc, add-mul}
 use native.Mathlib.Omega.{arith}
-use lib.Dec.{T, eqb, eqb→eq}
+use lib.Dec.{T, eqb, ltb, eqb→eq}
 use lib.Bits.{bitAnd, bitOr, and-step, or-step, or-disjoint}
 use lib.ListN.{getD}
 use Rattle.mask.specs.Mask.{within}
-use Rattle.mask.proofs.Tests.{and-both, and-left, and-right}
+use Rattle.mask.proofs.Tests.{and-left, and-right}
 use Rattle.mask.proofs.Laws.{within-joined, within-power}
 use Rattle.quorum.specs.declared.Choice.{Choice}
 use Rattle.quorum.specs.declared.Choice.the-variants.{Quorum, Nothing}
@@ -20,7 +20,7 @@ use Rattle.quorum.specs.Tree.{child}
 use Rattle.quorum.specs.Smallest.{each, pairs, withRootSet, smallestOf, smallest}
 use Rattle.quorum.specs.Nearest.{distance, nearer, betterOf, oneOf, nearestOf}
 use Rattle.quorum.specs.Levels.{bothOf, aloneOf, withRoot, bestOf, choosePair}
-use Rattle.quorum.proofs.Order.{better-nothing, better-assoc, plus, plus-nothing, plus-better, better-plus}
+use Rattle.quorum.proofs.Order.{better-nothing, better-assoc, both-nothing, both-better, better-both}
 
 -- ---- sums of distances
 distance-zero : (d : List ℕ) → distance d 0 ≡ 0
@@ -55,13 +55,8 @@ apart a b = eqb (bitAnd a b) 0
 abbrev allApart : List ℕ → List ℕ → Bool
 allApart xs ys = every (λ (x : ℕ). every (apart x) ys) xs
 
-every-map : (f g : ℕ → Bool) → ((x : ℕ) → T (f x) → T (g x)) → (xs : List ℕ) → T (every f xs) → T (every g xs)
-every-map f g k [] t = tt
-every-map f g k (x ∷ xs) t =
-    and-both (g x) (every g xs) (k x (and-left (f x) (every f xs) t)) (every-map f g k xs (and-right (f x) (every f xs) t))
-
 -- a choice's mask passes a test
-abbrev passes : (ℕ → Bool) → Choice → Bool
+abbrev pub passes : (ℕ → Bool) → Choice → Bool
 passes f Nothing = true
 passes f (Quorum m s) = f m
 
@@ -74,13 +69,8 @@ passes-better f Nothing y p q = q
 passes-better f (Quorum m s) Nothing p q = p
 passes-better f (Quorum m s) (Quorum n t) p q = passes-cond f (nearer m s n t) (Quorum m s) (Quorum n t) p q
 
-both-plus : (x y : Choice) → T (passes (λ (m : ℕ). passes (apart m) y) x) → bothOf x y ≡ plus x y
-both-plus Nothing y t = refl
-both-plus (Quorum m s) Nothing t = refl
-both-plus (Quorum m s) (Quorum n u) t = ap (λ (k : ℕ). Quorum k (s + u)) (or-disjoint m n (eqb→eq (bitAnd m n) 0 t))
-
 cond-and : (p q : Bool) (m s n t : ℕ)
-    → cond (p && q) (Quorum (m + n) (s + t)) Nothing ≡ plus (cond p (Quorum m s) Nothing) (cond q (Quorum n t) Nothing)
+    → cond (p && q) (Quorum (m + n) (s + t)) Nothing ≡ bothOf (cond p (Quorum m s) Nothing) (cond q (Quorum n t) Nothing)
 cond-and true true m s n t = refl
 cond-and true false m s n t = refl
 cond-and false q m s n t = refl
@@ -96,7 +86,7 @@ module _ (live : ℕ) (d : List ℕ) where
       (passes-cond f (within x live) (Quorum x (distance d x)) Nothing (and-left (f x) (every f xs) t) tt)
       (passes-nearest f xs (and-right (f x) (every f xs) t))
 
-  one-joined : (a b : ℕ) → T (apart a b) → oneOf live d (bitOr a b) ≡ plus (oneOf live d a) (oneOf live d b)
+  one-joined : (a b : ℕ) → T (apart a b) → oneOf live d (bitOr a b) ≡ bothOf (oneOf live d a) (oneOf live d b)
   one-joined a b t =
       let e : bitAnd a b ≡ 0 = eqb→eq (bitAnd a b) 0 t in
       let k : Quorum (bitOr a b) (distance d (bitOr a b)) ≡ Quorum (a + b) (distance d a + distance d b) =
@@ -110,32 +100,25 @@ module _ (live : ℕ) (d : List ℕ) where
       ap (betterOf (oneOf live d x)) (nearest-append xs ys) ∙ sym (better-assoc (oneOf live d x) (nearestOf live d xs) (nearestOf live d ys))
 
   nearest-map : (a : ℕ) (bs : List ℕ) → T (every (apart a) bs)
-      → nearestOf live d (map (λ (b : ℕ). bitOr a b) bs) ≡ plus (oneOf live d a) (nearestOf live d bs)
-  nearest-map a [] t = sym (plus-nothing (oneOf live d a))
+      → nearestOf live d (map (λ (b : ℕ). bitOr a b) bs) ≡ bothOf (oneOf live d a) (nearestOf live d bs)
+  nearest-map a [] t = sym (both-nothing (oneOf live d a))
   nearest-map a (b ∷ bs) t =
       ap₂ betterOf (one-joined a b (and-left (apart a b) (every (apart a) bs) t)) (nearest-map a bs (and-right (apart a b) (every (apart a) bs) t))
-      ∙ sym (plus-better (oneOf live d a) (oneOf live d b) (nearestOf live d bs))
+      ∙ sym (both-better (oneOf live d a) (oneOf live d b) (nearestOf live d bs))
 
-  nearest-each : (xs ys : List ℕ) → T (allApart xs ys) → nearestOf live d (each xs ys) ≡ plus (nearestOf live d xs) (nearestOf live d ys)
+  nearest-each : (xs ys : List ℕ) → T (allApart xs ys) → nearestOf live d (each xs ys) ≡ bothOf (nearestOf live d xs) (nearestOf live d ys)
   nearest-each [] ys t = refl
   nearest-each (x ∷ xs) ys t =
       nearest-append (map (λ (b : ℕ). bitOr x b) ys) (each xs ys)
       ∙ ap₂ betterOf (nearest-map x ys (and-left (every (apart x) ys) (allApart xs ys) t))
       (nearest-each xs ys (and-right (every (apart x) ys) (allApart xs ys) t))
-      ∙ sym (better-plus (oneOf live d x) (nearestOf live d xs) (nearestOf live d ys))
-
-  nearest-both : (xs ys : List ℕ) → T (allApart xs ys) → nearestOf live d (each xs ys) ≡ bothOf (nearestOf live d xs) (nearestOf live d ys)
-  nearest-both xs ys t =
-      nearest-each xs ys t
-      ∙ sym (both-plus (nearestOf live d xs) (nearestOf live d ys)
-      (passes-nearest (λ (m : ℕ). passes (apart m) (nearestOf live d ys)) xs
-      (every-map (λ (x : ℕ). every (apart x) ys) (λ (m : ℕ). passes (apart m) (nearestOf live d ys)) (λ x u. passes-nearest (apart x) ys u) xs t)))
+      ∙ sym (better-both (oneOf live d x) (nearestOf live d xs) (nearestOf live d ys))
 
   nearest-pairs : (a b c : List ℕ) → T (allApart a b) → T (allApart a c) → T (allApart b c)
       → nearestOf live d (pairs a b c) ≡ choosePair (nearestOf live d a) (nearestOf live d b) (nearestOf live d c)
   nearest-pairs a b c p q r =
       nearest-append (each a b) (each a c ++ each b c)
-      ∙ ap₂ betterOf (nearest-both a b p) (nearest-append (each a c) (each b c) ∙ ap₂ betterOf (nearest-both a c q) (nearest-both b c r))
+      ∙ ap₂ betterOf (nearest-each a b p) (nearest-append (each a c) (each b c) ∙ ap₂ betterOf (nearest-each a c q) (nearest-each b c r))
 
   one-power : (r : ℕ) → oneOf live d (2 ^ r) ≡ aloneOf live d r
   one-power r = ap₂ (λ (b : Bool) (s : ℕ). cond b (Quorum (2 ^ r) s) Nothing) (within-power r live) (distance-power d r)
@@ -143,10 +126,7 @@ module _ (live : ℕ) (d : List ℕ) where
   root-set : (k : Kind) (q : ℕ) (ps : List ℕ) → T (every (apart q) ps)
       → withRoot k (oneOf live d q) (nearestOf live d ps) ≡ nearestOf live d (withRootSet k q ps)
   root-set Read q ps a = refl
-  root-set Write q ps a =
-      both-plus (oneOf live d q) (nearestOf live d ps)
-      (passes-cond (λ (m : ℕ). passes (apart m) (nearestOf live d ps)) (within q live) (Quorum q (distance d q)) Nothing (passes-nearest (apart q) ps a) tt)
-      ∙ sym (nearest-map q ps a)
+  root-set Write q ps a = sym (nearest-map q ps a)
 
   -- what is to be shown of a subtree
   abbrev Best : Kind → ℕ → ℕ → Type 0
@@ -183,6 +163,12 @@ module _ (live : ℕ) (d : List ℕ) where
 
   hall : (k : Kind) (r : ℕ) → Apart k 0 r → Best k 1 r
   hall k r a = step k 0 r a (leaf k (child r 1)) (leaf k (child r 2)) (leaf k (child r 3))
+
+  -- the masks of the smallest quorums are small
+  pub mask-small : (k : Kind) → T (passes (λ (m : ℕ). ltb m 65536) (nearestOf live d (smallest k)))
+  unfolding smallest
+  mask-small Read = passes-nearest (λ (m : ℕ). ltb m 65536) (smallest Read) tt
+  mask-small Write = passes-nearest (λ (m : ℕ). ltb m 65536) (smallest Write) tt
 
   pub optimal : (k : Kind) → bestOf k live d 2 0 ≡ nearestOf live d (smallest k)
   unfolding smallest

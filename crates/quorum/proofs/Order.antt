@@ -2,7 +2,7 @@
 -- a set that shares nothing with either does not change which of two is better.
 use mathlib.Core.Path.{_≡_, refl, sym, ap, ap₂, _∙_, subst}
 use mathlib.Core.Bool.{Bool, true, false, not, cond, _&&_}
-use Prim.Native.Nat.{ℕ, _+_, _≤_, _<_}
+use Prim.Native.Nat.{ℕ, _+_, _*_, _≤_, _<_}
 use native.Mathlib.Nat.{add-comm}
 use native.Mathlib.Omega.{arith}
 use lib.Dec.{T, ltb, leb, eqb, ltb→lt, lt→ltb, leb→le, le→leb, eqb→eq, eqb-refl, T-not, not-T}
@@ -10,6 +10,7 @@ use Rattle.mask.proofs.Tests.{and-both, and-left, and-right, or-left, or-right,
 use Rattle.quorum.specs.declared.Choice.{Choice}
 use Rattle.quorum.specs.declared.Choice.the-variants.{Quorum, Nothing}
 use Rattle.quorum.specs.Nearest.{nearer, betterOf}
+use Rattle.quorum.specs.Levels.{bothOf}
 
 -- ---- the order on sets with their sums
 by-sum : (m s n t : ℕ) → s < t → T (nearer m s n t)
@@ -64,20 +65,15 @@ better-assoc (Quorum m s) (Quorum n t) (Quorum k u) =
     (λ a b. not-T (nearer m s k u) (λ w. T-not (nearer m s n t) a (near-trans m s k u n t w (near-total n t k u b))))
 
 -- ---- the join of two sets that share nothing: masks and sums add
-abbrev pub plus : Choice → Choice → Choice
-plus Nothing y = Nothing
-plus (Quorum m s) Nothing = Nothing
-plus (Quorum m s) (Quorum n t) = Quorum (m + n) (s + t)
+pub both-nothing : (x : Choice) → bothOf x Nothing ≡ Nothing
+both-nothing Nothing = refl
+both-nothing (Quorum m s) = refl
 
-pub plus-nothing : (x : Choice) → plus x Nothing ≡ Nothing
-plus-nothing Nothing = refl
-plus-nothing (Quorum m s) = refl
-
-plus-comm : (x y : Choice) → plus x y ≡ plus y x
-plus-comm Nothing Nothing = refl
-plus-comm Nothing (Quorum n t) = refl
-plus-comm (Quorum m s) Nothing = refl
-plus-comm (Quorum m s) (Quorum n t) = ap₂ Quorum (add-comm m n) (add-comm s t)
+both-comm : (x y : Choice) → bothOf x y ≡ bothOf y x
+both-comm Nothing Nothing = refl
+both-comm Nothing (Quorum n t) = refl
+both-comm (Quorum m s) Nothing = refl
+both-comm (Quorum m s) (Quorum n t) = ap₂ Quorum (add-comm m n) (add-comm s t)
 
 nearer-shift : (m s n t k u : ℕ) → nearer (m + n) (s + t) (m + k) (s + u) ≡ nearer n t k u
 nearer-shift m s n t k u =
@@ -91,18 +87,18 @@ cond-ap : (f : Choice → Choice) (b : Bool) (x y : Choice) → f (cond b x y) �
 cond-ap f true x y = refl
 cond-ap f false x y = refl
 
-pub plus-better : (x y z : Choice) → plus x (betterOf y z) ≡ betterOf (plus x y) (plus x z)
-plus-better Nothing y z = refl
-plus-better (Quorum m s) Nothing z = refl
-plus-better (Quorum m s) (Quorum n t) Nothing = refl
-plus-better (Quorum m s) (Quorum n t) (Quorum k u) =
-    cond-ap (plus (Quorum m s)) (nearer n t k u) (Quorum n t) (Quorum k u)
+pub both-better : (x y z : Choice) → bothOf x (betterOf y z) ≡ betterOf (bothOf x y) (bothOf x z)
+both-better Nothing y z = refl
+both-better (Quorum m s) Nothing z = refl
+both-better (Quorum m s) (Quorum n t) Nothing = refl
+both-better (Quorum m s) (Quorum n t) (Quorum k u) =
+    cond-ap (bothOf (Quorum m s)) (nearer n t k u) (Quorum n t) (Quorum k u)
     ∙ ap (λ (b : Bool). cond b (Quorum (m + n) (s + t)) (Quorum (m + k) (s + u))) (sym (nearer-shift m s n t k u))
 
-pub better-plus : (x y z : Choice) → plus (betterOf x y) z ≡ betterOf (plus x z) (plus y z)
-better-plus x y z = plus-comm (betterOf x y) z ∙ plus-better z x y ∙ ap₂ betterOf (plus-comm z x) (plus-comm z y)
+pub better-both : (x y z : Choice) → bothOf (betterOf x y) z ≡ betterOf (bothOf x z) (bothOf y z)
+better-both x y z = both-comm (betterOf x y) z ∙ both-better z x y ∙ ap₂ betterOf (both-comm z x) (both-comm z y)
 
--- ---- the four answers of a comparison in code
+-- ---- the two answers of a comparison
 better-left : (m s n t : ℕ) → T (nearer m s n t) → betterOf (Quorum m s) (Quorum n t) ≡ Quorum m s
 better-left m s n t h = by (nearer m s n t) h
   where
@@ -117,17 +113,14 @@ better-right m s n t h = by (nearer m s n t) h
     by true h = absurd (h tt)
     by false h = refl
 
-pub better-less : (m s n t : ℕ) → s < t → betterOf (Quorum m s) (Quorum n t) ≡ Quorum m s
-better-less m s n t h = better-left m s n t (by-sum m s n t h)
+-- the same of keys: a sum times 2 ^ 32, and a mask below that
+pub by-key : (m s n t : ℕ) → m < 4294967296 → n < 4294967296 → 4294967296 * s + m ≤ 4294967296 * t + n → betterOf (Quorum m s) (Quorum n t) ≡ Quorum m s
+by-key m s n t u v h =
+    compared (betterOf (Quorum m s) (Quorum n t) ≡ Quorum m s) s t (λ e. better-left m s n t (by-sum m s n t e))
+    (λ e. better-left m s n t (by-mask m s n t e (omega arith))) (λ e. absurd (omega arith))
 
-pub better-more : (m s n t : ℕ) → t < s → betterOf (Quorum m s) (Quorum n t) ≡ Quorum n t
-better-more m s n t h = better-right m s n t (nearer-cases ⊥ m s n t (λ a. omega arith) (λ a b. omega arith))
-
-pub better-low : (m s n t : ℕ) → s ≤ t → t ≤ s → m ≤ n → betterOf (Quorum m s) (Quorum n t) ≡ Quorum m s
-better-low m s n t h k e = better-left m s n t (by-mask m s n t (omega arith) e)
-
-pub better-high : (m s n t : ℕ) → s ≤ t → t ≤ s → n < m → betterOf (Quorum m s) (Quorum n t) ≡ Quorum n t
-better-high m s n t h k e = better-right m s n t (nearer-cases ⊥ m s n t (λ a. omega arith) (λ a b. omega arith))
+pub not-by-key : (m s n t : ℕ) → m < 4294967296 → n < 4294967296 → 4294967296 * t + n < 4294967296 * s + m → betterOf (Quorum m s) (Quorum n t) ≡ Quorum n t
+not-by-key m s n t u v h = better-right m s n t (nearer-cases ⊥ m s n t (λ a. omega arith) (λ a b. omega arith))
 
 -- ---- as near as: what the better of two is as near as
 abbrev pub asNear : Choice → ℕ → ℕ → Bool

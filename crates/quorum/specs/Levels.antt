@@ -3,7 +3,7 @@ use mathlib.Core.Bool.{cond}
 use mathlib.Core.List.{List}
 use Prim.Native.Nat.{ℕ, zero, suc, _+_, _^_}
 use lib.ListN.{getD}
-use Rattle.mask.specs.Mask.{contains, joined}
+use Rattle.mask.specs.Mask.{contains}
 use Rattle.quorum.specs.declared.Choice.{Choice}
 use Rattle.quorum.specs.declared.Choice.the-variants.{Quorum, Nothing}
 use Rattle.quorum.specs.declared.Kind.{Kind}
@@ -15,11 +15,11 @@ use Rattle.quorum.specs.Nearest.{betterOf}
 abbrev pub aloneOf : ℕ → List ℕ → ℕ → Choice
 aloneOf live d i = cond (contains live i) (Quorum (2 ^ i) (getD d i 0)) Nothing
 
--- two choices joined: nothing unless both are there
+-- two choices of sets that share no node, joined, so that masks and sums add: nothing unless both are there
 abbrev pub bothOf : Choice → Choice → Choice
 bothOf Nothing b = Nothing
 bothOf (Quorum m s) Nothing = Nothing
-bothOf (Quorum m s) (Quorum n t) = Quorum (joined m n) (s + t)
+bothOf (Quorum m s) (Quorum n t) = Quorum (m + n) (s + t)
 
 -- the nearest join of two of three
 abbrev pub choosePair : Choice → Choice → Choice → Choice

@@ -5,3 +5,4 @@ pub mod Quorum
 pub mod Smallest
 pub mod Nearest
 pub mod Levels
+pub mod Key

@@ -5,8 +5,9 @@ ghost use Rattle.mask.specs.Mask.{contains};
 ghost use Rattle.quorum.specs.Tree.{last};
 ghost use Rattle.quorum.specs.Quorum.{twoOf, rootedBy, inSubtree, isQuorum};
 ghost use Rattle.quorum.specs.Smallest.{smallest};
-ghost use Rattle.quorum.specs.Nearest.{betterOf, nearestOf, sumOf};
-ghost use Rattle.quorum.specs.Levels.{aloneOf, bothOf, choosePair, withRoot, bestOf, pairOf};
+ghost use Rattle.quorum.specs.Nearest.{nearestOf};
+ghost use Rattle.quorum.specs.Levels.{aloneOf, bestOf, pairOf};
+ghost use Rattle.quorum.specs.Key.{Means, bound, lesserOf, pairKey, rootKey};
 
 // How many nodes there are.
 pub const NODES: usize = 13;
@@ -63,88 +64,65 @@ pub fn is_quorum(kind: Kind, m: u16) -> bool
     rooted_by(kind, mask::has(m, 0), two_of(a, b, c))
 }
 
-// Of two choices the nearer: the lesser sum, then the lower mask.
-fn better(a: Choice, b: Choice) -> Choice
-    ensures { λ r. ⌜ r ≡ betterOf a b ⌝ }
+// A choice as one number, its key: the sum above the mask. The lesser key is the nearer set, and of equal sums the lower mask; keys of sets that
+// share no node add. A node that may not be chosen has this key, which is above all others.
+const ABSENT: u64 = 72057594037927936;
+
+// What the sum is multiplied by in a key.
+const ABOVE: u64 = 4294967296;
+
+// Of two keys the lesser.
+fn lesser(a: u64, b: u64) -> u64
+    ensures { λ r. ⌜ r ≡ lesserOf a b ⌝ }
 {
-    match a {
-        Choice::Nothing => b,
-        Choice::Quorum(m, s) => match b {
-            Choice::Nothing => a,
-            Choice::Quorum(n, t) => {
-                if s < t {
-                    a
-                } else if t < s {
-                    b
-                } else if m <= n {
-                    a
-                } else {
-                    b
-                }
-            }
-        },
-    }
+    if a <= b { a } else { b }
 }
 
-// Two choices joined: nothing unless both are there.
-fn both(a: Choice, b: Choice) -> Choice
-    requires { ⌜ sumOf a + sumOf b < 2 ^ 32 ⌝ }
-    ensures { λ r. ⌜ r ≡ bothOf a b ⌝ }
-{
-    match a {
-        Choice::Nothing => Choice::Nothing,
-        Choice::Quorum(m, s) => match b {
-            Choice::Nothing => Choice::Nothing,
-            Choice::Quorum(n, t) => Choice::Quorum(mask::join(m, n), s + t),
-        },
-    }
-}
-
-// A distance as a wider number.
-fn wide(x: u16) -> u32
+// A distance or a mask as a wider number.
+fn wide(x: u16) -> u64
     ensures { λ r. ⌜ (r ≡ x) × (r < 65536) ⌝ }
 {
-    x as u32
+    x as u64
 }
 
 // One node by itself, if it is live.
-fn alone(live: u16, distances: &[u16; NODES], node: u8) -> Choice
+fn alone(live: u16, distances: &[u16; NODES], node: u8) -> u64
     requires { ⌜ node < 13 ⌝ }
-    ensures { λ r. ⌜ r ≡ aloneOf live (now (distances .entry)) node ⌝ }
-    ensures { λ r. ⌜ sumOf r < 65536 ⌝ }
+    ensures { λ r. ⌜ Means 65535 r (aloneOf live (now (distances .entry)) node) ⌝ }
+    ensures { λ r. ⌜ r ≤ 72057594037927936 ⌝ }
 {
     if mask::has(live, node) {
         let i = node as usize;
-        Choice::Quorum(mask::single(node), wide(distances[i]))
+        ABOVE * wide(distances[i]) + wide(mask::single(node))
     } else {
-        Choice::Nothing
+        ABSENT
     }
 }
 
-// The nearest join of two of three choices.
-fn choose_pair(a: Choice, b: Choice, c: Choice) -> Choice
-    requires { ⌜ (sumOf a < 2 ^ 31) × (sumOf b < 2 ^ 31) × (sumOf c < 2 ^ 31) ⌝ }
-    ensures { λ r. ⌜ r ≡ choosePair a b c ⌝ }
+// The nearest join of two of three keys.
+fn choose_pair(a: u64, b: u64, c: u64) -> u64
+    requires { ⌜ (a < 2 ^ 62) × (b < 2 ^ 62) × (c < 2 ^ 62) ⌝ }
+    ensures { λ r. ⌜ r ≡ pairKey a b c ⌝ }
 {
-    better(both(a, b), better(both(a, c), both(b, c)))
+    lesser(a + b, lesser(a + c, b + c))
 }
 
 // For a read quorum the nearer of the root and the pair, for a write quorum the two joined.
-fn with_root(kind: Kind, own: Choice, pair: Choice) -> Choice
-    requires { ⌜ sumOf own + sumOf pair < 2 ^ 32 ⌝ }
-    ensures { λ r. ⌜ r ≡ withRoot kind own pair ⌝ }
+fn with_root(kind: Kind, own: u64, pair: u64) -> u64
+    requires { ⌜ own + pair < 2 ^ 64 ⌝ }
+    ensures { λ r. ⌜ r ≡ rootKey kind own pair ⌝ }
 {
     match kind {
-        Kind::Read => better(own, pair),
-        Kind::Write => both(own, pair),
+        Kind::Read => lesser(own, pair),
+        Kind::Write => own + pair,
     }
 }
 
-// The nearest quorum of the subtree of this height at this root.
-fn best(kind: Kind, live: u16, distances: &[u16; NODES], root: u8, height: u8) -> Choice
+// The key of the nearest quorum of the subtree of this height at this root.
+fn best(kind: Kind, live: u16, distances: &[u16; NODES], root: u8, height: u8) -> u64
     requires { ⌜ (last height root < 13) × (height ≤ 2) ⌝ }
-    ensures { λ r. ⌜ r ≡ bestOf kind live (now (distances .entry)) height root ⌝ }
-    ensures { λ r. ⌜ sumOf r ≤ 65535 * 3 ^ height ⌝ }
+    ensures { λ r. ⌜ Means (bound height) r (bestOf kind live (now (distances .entry)) height root) ⌝ }
+    ensures { λ r. ⌜ r ≤ 72057594037927936 * 3 ^ height ⌝ }
 {
     let own = alone(live, distances, root);
     if height == 0 {
@@ -154,11 +132,11 @@ fn best(kind: Kind, live: u16, distances: &[u16; NODES], root: u8, height: u8) -
     with_root(kind, own, pair)
 }
 
-// The nearest pair of quorums of two of a root's child subtrees, which have this height.
-fn best_pair(kind: Kind, live: u16, distances: &[u16; NODES], root: u8, height: u8) -> Choice
+// The key of the nearest pair of quorums of two of a root's child subtrees, which have this height.
+fn best_pair(kind: Kind, live: u16, distances: &[u16; NODES], root: u8, height: u8) -> u64
     requires { ⌜ (last height (3 * root + 3) < 13) × (height ≤ 1) ⌝ }
-    ensures { λ r. ⌜ r ≡ pairOf kind live (now (distances .entry)) height root ⌝ }
-    ensures { λ r. ⌜ sumOf r ≤ 2 * (65535 * 3 ^ height) ⌝ }
+    ensures { λ r. ⌜ Means (6 * bound height) r (pairOf kind live (now (distances .entry)) height root) ⌝ }
+    ensures { λ r. ⌜ r ≤ 2 * (72057594037927936 * 3 ^ height) ⌝ }
 {
     let at = 3 * root;
     let a = best(kind, live, distances, at + 1, height);
@@ -172,5 +150,10 @@ fn best_pair(kind: Kind, live: u16, distances: &[u16; NODES], root: u8, height: 
 pub fn nearest(kind: Kind, live: u16, distances: &[u16; NODES]) -> Choice
     ensures { λ r. ⌜ r ≡ nearestOf live (now (distances .entry)) (smallest kind) ⌝ }
 {
-    best(kind, live, distances, 0, 2)
+    let key = best(kind, live, distances, 0, 2);
+    if key < ABSENT {
+        Choice::Quorum((key % 65536) as u16, (key / ABOVE) as u32)
+    } else {
+        Choice::Nothing
+    }
 }

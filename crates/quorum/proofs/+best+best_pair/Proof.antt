@@ -1,12 +1,15 @@
--- The cycle `best`, `best_pair`: each is one level of its definition; twice the height, plus 1 for a pair, falls; sums stay below 2 ^ 32.
-use mathlib.Core.Path.{_≡_, sym, ap₂, _∙_, subst}
+-- The cycle `best`, `best_pair`: each is one level of its definition; twice the height, plus 1 for a pair, falls; keys stay below 2 ^ 64.
+use mathlib.Core.Path.{_≡_, sym, subst}
 use Prim.Native.Nat.{ℕ, _<_, _≤_, _+_, _*_, _-_}
 use native.Mathlib.Omega.{arith}
 use Rattle.quorum.specs.declared.Choice.{Choice}
-use Rattle.quorum.specs.Levels.{withRoot, pairOf, choosePair}
-use Rattle.quorum.specs.Nearest.{sumOf}
+use Rattle.quorum.specs.Levels.{aloneOf, withRoot, bestOf, pairOf, choosePair}
+use Rattle.quorum.specs.Tree.{child}
+use denote.Ref.{now}
+use Rattle.quorum.specs.Key.{absent, Means, bound, pairKey, rootKey}
 use Rattle.quorum.proofs.Steps.{root-le-last, last-step, child-last, child-small, best-zero, best-step}
-use Rattle.quorum.proofs.Steps.{root-sum, pair-sum, most, most-step, most-zero-le, most-small}
+use Rattle.quorum.proofs.Steps.{most, most-step, most-zero-le, most-small, bound-zero, bound-step, bound-small}
+use Rattle.quorum.proofs.Keys.{means-pair, means-root, pair-most, root-most}
 use borrow.Fn.Kinds.{In}
 use borrow.Fn.PlainCycle.{Measures, is, falls, and}
 use Rattle.quorum.proofs.best.Reads as best
@@ -53,7 +56,13 @@ best-alone-requires t c κs = omega (arith, root-le-last (c .args .height) (c .a
 best-returns : (t : ℕ) → best-lts.Need-returns (best-claims t) (best-at t) best.Post
 best-returns t c =
     let own = c .before .alone in
-    (own .ensures .0 ∙ sym (best-zero _ _ _ _ _ (c .if1 .taken)), omega (arith, most-zero-le (c .before .before .args .height), own .ensures .1))
+    let a = c .before .before .args in
+    let z = c .if1 .taken in
+    let alone : Choice = aloneOf (a .live) (now (a .distances)) (a .root) in (
+      subst (λ (x : Choice). Means (bound (a .height)) (own .result) x) (sym (best-zero (a .kind) (a .live) (now (a .distances)) (a .height) (a .root) z))
+          (subst (λ (b : ℕ). Means b (own .result) alone) (sym (bound-zero (a .height) z)) (own .ensures .0)),
+      omega (arith, most-zero-le (a .height), own .ensures .1),
+    )
 
 best-sub-best-pair : (t : ℕ) → best-lts.Need-sub-best-pair (best-claims t) (best-at t) best.Post
 best-sub-best-pair t c = omega arith
@@ -73,11 +82,21 @@ best-returns-2 t c =
     let a = c .before .before .before .before .args in
     let own = c .before .before .before .alone in
     let pair = c .before .best-pair in
-    let e : c .with-root .result ≡ withRoot (a .kind) (own .result) (pair .result) = c .with-root .ensures in
-    let s : sumOf (withRoot (a .kind) (own .result) (pair .result)) ≤ 65535 + 2 * most (a .height - 1) =
-    root-sum (a .kind) (own .result) (pair .result) 65535 (2 * most (a .height - 1)) (omega (arith, own .ensures .1)) (pair .ensures .1) in (
-      e ∙ ap₂ (withRoot (a .kind)) (own .ensures .0) (pair .ensures .0) ∙ sym (best-step _ _ _ (a .height) _ (c .before .before .if1 .left)),
-      subst (λ (x : Choice). sumOf x ≤ most (a .height)) (sym e) (omega (arith, most-step (a .height) (c .before .before .if1 .left), s)),
+    let f = c .before .before .if1 .left in
+    let h : ℕ = a .height - 1 in
+    let d = now (a .distances) in
+    let alone : Choice = aloneOf (a .live) d (a .root) in
+    let two : Choice = pairOf (a .kind) (a .live) d h (a .root) in
+    let whole : Choice = withRoot (a .kind) alone two in
+    let e : c .with-root .result ≡ rootKey (a .kind) (own .result) (pair .result) = c .with-root .ensures in
+    let s : rootKey (a .kind) (own .result) (pair .result) ≤ absent + 2 * most h =
+    root-most (a .kind) (own .result) (pair .result) absent (2 * most h) (own .ensures .1) (pair .ensures .1) in
+    let m = means-root (a .kind) 65535 (6 * bound h) (own .result) (pair .result) alone two (omega arith) (omega (arith, bound-small h (omega arith)))
+    (own .ensures .0) (pair .ensures .0) in (
+      subst (λ (x : Choice). Means (bound (a .height)) (c .with-root .result) x) (sym (best-step (a .kind) (a .live) d (a .height) (a .root) f))
+          (subst (λ (b : ℕ). Means b (c .with-root .result) whole) (sym (bound-step (a .height) f))
+          (subst (λ (k : ℕ). Means (65535 + 6 * bound h) k whole) (sym e) m)),
+      omega (arith, e, s, most-step (a .height) f),
     )
 
 best-pair-mul-at : (t : ℕ) → best-pair-lts.Need-mul-at (best-pair-claims t) (best-pair-at t) best-pair.Post
@@ -117,10 +136,13 @@ best-pair-returns t c =
     let x = c .before .before .before .best in
     let y = c .before .before .best2 in
     let z = c .before .best3 in
-    let e : c .choose-pair .result ≡ choosePair (x .result) (y .result) (z .result) = c .choose-pair .ensures in (
-      cc (x .ensures .0, y .ensures .0, z .ensures .0),
-      subst (λ (v : Choice). sumOf v ≤ 2 * most h) (sym e)
-          (omega (arith, pair-sum (x .result) (y .result) (z .result) (most h) (x .ensures .1) (y .ensures .1) (z .ensures .1))),
+    let e : c .choose-pair .result ≡ pairKey (x .result) (y .result) (z .result) = c .choose-pair .ensures in
+    let a = c .before .before .before .before .args in
+    let from : ℕ → Choice = λ i. bestOf (a .kind) (a .live) (now (a .distances)) h (child (a .root) i) in
+    let small = bound-small h (c .before .before .before .before .pre .1 .1) in (
+      subst (λ (k : ℕ). Means (6 * bound h) k (choosePair (from 1) (from 2) (from 3))) (sym e)
+          (means-pair (bound h) (x .result) (y .result) (z .result) (from 1) (from 2) (from 3) small (x .ensures .0) (y .ensures .0) (z .ensures .0)),
+      omega (arith, e, pair-most (x .result) (y .result) (z .result) (most h) (x .ensures .1) (y .ensures .1) (z .ensures .1)),
     )
 
 pub +best+best-pair-spec : {M : Type 1} → statement M

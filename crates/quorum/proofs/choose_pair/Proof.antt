@@ -1,22 +1,22 @@
--- `quorum::choose_pair`: the three joins and the two comparisons, as the definition has them.
+-- `quorum::choose_pair`: the three sums and the two comparisons, as the definition has them.
 use borrow.Author.Needs.{needs}
 use Rattle.quorum.proofs.choose_pair.Statement.{statement}
 use Rattle.quorum.proofs.choose_pair.Tie as tie
 
-both-requires : tie.Need-both-requires
-both-requires c κs = search needs
+add-lesser : tie.Need-add-lesser
+add-lesser c = search needs
 
-both-requires-2 : tie.Need-both-requires-2
-both-requires-2 c κs = search needs
+add-lesser-2 : tie.Need-add-lesser-2
+add-lesser-2 c = search needs
 
-both-requires-3 : tie.Need-both-requires-3
-both-requires-3 c κs = search needs
+add-lesser-3 : tie.Need-add-lesser-3
+add-lesser-3 c = search needs
 
-better-requires : tie.Need-better-requires
-better-requires c κs = search needs
+lesser-requires : tie.Need-lesser-requires
+lesser-requires c κs = search needs
 
-better-requires-2 : tie.Need-better-requires-2
-better-requires-2 c κs = search needs
+lesser-requires-2 : tie.Need-lesser-requires-2
+lesser-requires-2 c κs = search needs
 
 returns : tie.Need-returns
 returns c = cc
@@ -24,10 +24,4 @@ returns c = cc
 pub choose-pair-spec : {M : Type 1} → statement M
 choose-pair-spec =
     tie.close
-    (tie.spec
-    both-requires
-    both-requires-2
-    both-requires-3
-    better-requires
-    better-requires-2
-    returns)
+    (tie.spec add-lesser add-lesser-2 add-lesser-3 lesser-requires lesser-requires-2 returns)
