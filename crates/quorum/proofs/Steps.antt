@@ -6,7 +6,7 @@ use native.Mathlib.Nat.{pow-suc}
 use native.Mathlib.Omega.{arith}
 use Rattle.quorum.specs.declared.Kind.{Kind}
 use Rattle.quorum.specs.Tree.{last}
-use Rattle.quorum.specs.Levels.{aloneOf, withRoot, bestOf, pairOf}
+use Rattle.quorum.specs.Levels.{aloneOf, leavesOf, withRoot, bestOf, pairOf}
 use Rattle.quorum.specs.Key.{absent, bound}
 
 -- ---- roots
@@ -37,6 +37,11 @@ pub best-zero : (k : Kind) (live : ℕ) (d : List ℕ) (h r : ℕ) → h ≡ 0 �
 unfolding bestOf
 best-zero k live d zero r f = refl
 best-zero k live d (suc h) r f = absurd (omega arith)
+
+pub pair-zero : (k : Kind) (live : ℕ) (d : List ℕ) (h r : ℕ) → h ≡ 0 → pairOf k live d h r ≡ leavesOf live d (3 * r)
+unfolding bestOf pairOf
+pair-zero k live d zero r f = refl
+pair-zero k live d (suc h) r f = absurd (omega arith)
 
 pub best-step : (k : Kind) (live : ℕ) (d : List ℕ) (h r : ℕ) → (h ≡ 0 → ⊥)
     → bestOf k live d h r ≡ withRoot k (aloneOf live d r) (pairOf k live d (h - 1) r)

@@ -25,6 +25,10 @@ bothOf (Quorum m s) (Quorum n t) = Quorum (m + n) (s + t)
 abbrev pub choosePair : Choice → Choice → Choice → Choice
 choosePair a b c = betterOf (bothOf a b) (betterOf (bothOf a c) (bothOf b c))
 
+-- the best pair of the three leaves behind a node
+abbrev pub leavesOf : ℕ → List ℕ → ℕ → Choice
+leavesOf live d i = choosePair (aloneOf live d (i + 1)) (aloneOf live d (i + 2)) (aloneOf live d (i + 3))
+
 -- the root or a pair, the root with a pair
 abbrev pub withRoot : Kind → Choice → Choice → Choice
 withRoot Read own pair = betterOf own pair

@@ -6,7 +6,7 @@ ghost use Rattle.quorum.specs.Tree.{last};
 ghost use Rattle.quorum.specs.Quorum.{twoOf, rootedBy, inSubtree, isQuorum};
 ghost use Rattle.quorum.specs.Smallest.{smallest};
 ghost use Rattle.quorum.specs.Nearest.{nearestOf};
-ghost use Rattle.quorum.specs.Levels.{aloneOf, bestOf, pairOf};
+ghost use Rattle.quorum.specs.Levels.{aloneOf, leavesOf, bestOf, pairOf};
 ghost use Rattle.quorum.specs.Key.{Means, bound, lesserOf, pairKey, rootKey};
 
 // How many nodes there are.
@@ -107,6 +107,18 @@ fn choose_pair(a: u64, b: u64, c: u64) -> u64
     lesser(a + b, lesser(a + c, b + c))
 }
 
+// The key of the nearest pair of three leaves that follow a node number: a level without calls of its own, as most nodes are leaves.
+fn leaf_pair(live: u16, distances: &[u16; NODES], at: u8) -> u64
+    requires { ⌜ at + 3 < 13 ⌝ }
+    ensures { λ r. ⌜ Means 393210 r (leavesOf live (now (distances .entry)) at) ⌝ }
+    ensures { λ r. ⌜ r ≤ 144115188075855872 ⌝ }
+{
+    let a = alone(live, distances, at + 1);
+    let b = alone(live, distances, at + 2);
+    let c = alone(live, distances, at + 3);
+    choose_pair(a, b, c)
+}
+
 // For a read quorum the nearer of the root and the pair, for a write quorum the two joined.
 fn with_root(kind: Kind, own: u64, pair: u64) -> u64
     requires { ⌜ own + pair < 2 ^ 64 ⌝ }
@@ -139,6 +151,9 @@ fn best_pair(kind: Kind, live: u16, distances: &[u16; NODES], root: u8, height: 
     ensures { λ r. ⌜ r ≤ 2 * (72057594037927936 * 3 ^ height) ⌝ }
 {
     let at = 3 * root;
+    if height == 0 {
+        return leaf_pair(live, distances, at);
+    }
     let a = best(kind, live, distances, at + 1, height);
     let b = best(kind, live, distances, at + 2, height);
     let c = best(kind, live, distances, at + 3, height);

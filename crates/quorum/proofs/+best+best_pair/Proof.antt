@@ -3,11 +3,11 @@ use mathlib.Core.Path.{_≡_, sym, subst}
 use Prim.Native.Nat.{ℕ, _<_, _≤_, _+_, _*_, _-_}
 use native.Mathlib.Omega.{arith}
 use Rattle.quorum.specs.declared.Choice.{Choice}
-use Rattle.quorum.specs.Levels.{aloneOf, withRoot, bestOf, pairOf, choosePair}
+use Rattle.quorum.specs.Levels.{aloneOf, leavesOf, withRoot, bestOf, pairOf, choosePair}
 use Rattle.quorum.specs.Tree.{child}
 use denote.Ref.{now}
 use Rattle.quorum.specs.Key.{absent, Means, bound, pairKey, rootKey}
-use Rattle.quorum.proofs.Steps.{root-le-last, last-step, child-last, child-small, best-zero, best-step}
+use Rattle.quorum.proofs.Steps.{root-le-last, last-step, child-last, child-small, best-zero, pair-zero, best-step}
 use Rattle.quorum.proofs.Steps.{most, most-step, most-zero-le, most-small, bound-zero, bound-step, bound-small}
 use Rattle.quorum.proofs.Keys.{means-pair, means-root, pair-most, root-most}
 use borrow.Fn.Kinds.{In}
@@ -20,6 +20,7 @@ use Rattle.quorum.proofs.best_pair.Kinds as best-pair-kinds
 use Rattle.quorum.proofs.+best+best_pair.Lts-best_pair as best-pair-lts
 use Rattle.quorum.proofs.alone.Reads as alone-reads
 use Rattle.quorum.proofs.choose_pair.Reads as choose-pair-reads
+use Rattle.quorum.proofs.leaf_pair.Reads as leaf-pair-reads
 use Rattle.quorum.proofs.with_root.Reads as with-root-reads
 use Rattle.quorum.proofs.+best+best_pair.{statement}
 use Rattle.quorum.proofs.+best+best_pair.Tie.{close}
@@ -48,7 +49,7 @@ abbrev best-claims : ℕ → best-lts.Claims
 best-claims t = (alone-reads.Asked, alone-reads.Learnt, best-pair-below t, best-pair.Post, with-root-reads.Asked, with-root-reads.Learnt)
 
 abbrev best-pair-claims : ℕ → best-pair-lts.Claims
-best-pair-claims t = (best-below t, best.Post, choose-pair-reads.Asked, choose-pair-reads.Learnt)
+best-pair-claims t = (leaf-pair-reads.Asked, leaf-pair-reads.Learnt, best-below t, best.Post, choose-pair-reads.Asked, choose-pair-reads.Learnt)
 
 best-alone-requires : (t : ℕ) → best-lts.Need-alone-requires (best-claims t) (best-at t) best.Post
 best-alone-requires t c κs = omega (arith, root-le-last (c .args .height) (c .args .root))
@@ -102,44 +103,60 @@ best-returns-2 t c =
 best-pair-mul-at : (t : ℕ) → best-pair-lts.Need-mul-at (best-pair-claims t) (best-pair-at t) best-pair.Post
 best-pair-mul-at t c = record { fits = omega (arith, child-small (c .args .height) (c .args .root) (c .pre .1 .0)) }
 
+best-pair-leaf-pair-requires : (t : ℕ) → best-pair-lts.Need-leaf-pair-requires (best-pair-claims t) (best-pair-at t) best-pair.Post
+best-pair-leaf-pair-requires t c κs = let b = c .before in omega (arith, child-small (b .args .height) (b .args .root) (b .pre .1 .0))
+
+best-pair-returns : (t : ℕ) → best-pair-lts.Need-returns (best-pair-claims t) (best-pair-at t) best-pair.Post
+best-pair-returns t c =
+    let a = c .before .before .args in
+    let z = c .before .if1 .taken in
+    let x = c .leaf-pair in
+    let d = now (a .distances) in (
+      subst (λ (v : Choice). Means (6 * bound (a .height)) (x .result) v) (sym (pair-zero (a .kind) (a .live) d (a .height) (a .root) z))
+          (subst (λ (b : ℕ). Means (6 * b) (x .result) (leavesOf (a .live) d (3 * a .root))) (sym (bound-zero (a .height) z)) (x .ensures .0)),
+      omega (arith, most-zero-le (a .height), x .ensures .1),
+    )
+
 best-pair-add-best : (t : ℕ) → best-pair-lts.Need-add-best (best-pair-claims t) (best-pair-at t) best-pair.Post
-best-pair-add-best t c = record { fits = omega (arith, child-small (c .args .height) (c .args .root) (c .pre .1 .0)) }
+best-pair-add-best t c = let b = c .before in record { fits = omega (arith, child-small (b .args .height) (b .args .root) (b .pre .1 .0)) }
 
 best-pair-best-requires : (t : ℕ) → best-pair-lts.Need-best-requires (best-pair-claims t) (best-pair-at t) best-pair.Post
-best-pair-best-requires t c κs = (omega arith, (child-last (c .args .height) (c .args .root) _ (omega arith) (c .pre .1 .0), omega arith))
-
-best-pair-add-best-2 : (t : ℕ) → best-pair-lts.Need-add-best-2 (best-pair-claims t) (best-pair-at t) best-pair.Post
-best-pair-add-best-2 t c = let b = c .before in record { fits = omega (arith, child-small (b .args .height) (b .args .root) (b .pre .1 .0)) }
-
-best-pair-best-requires-2 : (t : ℕ) → best-pair-lts.Need-best-requires-2 (best-pair-claims t) (best-pair-at t) best-pair.Post
-best-pair-best-requires-2 t c κs =
+best-pair-best-requires t c κs =
     let b = c .before in
     (omega arith, (child-last (b .args .height) (b .args .root) _ (omega arith) (b .pre .1 .0), omega arith))
 
+best-pair-add-best-2 : (t : ℕ) → best-pair-lts.Need-add-best-2 (best-pair-claims t) (best-pair-at t) best-pair.Post
+best-pair-add-best-2 t c = let b = c .before .before in record { fits = omega (arith, child-small (b .args .height) (b .args .root) (b .pre .1 .0)) }
+
+best-pair-best-requires-2 : (t : ℕ) → best-pair-lts.Need-best-requires-2 (best-pair-claims t) (best-pair-at t) best-pair.Post
+best-pair-best-requires-2 t c κs =
+    let b = c .before .before in
+    (omega arith, (child-last (b .args .height) (b .args .root) _ (omega arith) (b .pre .1 .0), omega arith))
+
 best-pair-add-best-3 : (t : ℕ) → best-pair-lts.Need-add-best-3 (best-pair-claims t) (best-pair-at t) best-pair.Post
-best-pair-add-best-3 t c = let b = c .before .before in record { fits = omega (arith, child-small (b .args .height) (b .args .root) (b .pre .1 .0)) }
+best-pair-add-best-3 t c = let b = c .before .before .before in record { fits = omega (arith, child-small (b .args .height) (b .args .root) (b .pre .1 .0)) }
 
 best-pair-best-requires-3 : (t : ℕ) → best-pair-lts.Need-best-requires-3 (best-pair-claims t) (best-pair-at t) best-pair.Post
 best-pair-best-requires-3 t c κs =
-    let b = c .before .before in
+    let b = c .before .before .before in
     (omega arith, (child-last (b .args .height) (b .args .root) _ (omega arith) (b .pre .1 .0), omega arith))
 
 best-pair-choose-pair-requires : (t : ℕ) → best-pair-lts.Need-choose-pair-requires (best-pair-claims t) (best-pair-at t) best-pair.Post
 best-pair-choose-pair-requires t c κs =
-    let m = most-small (c .before .before .before .args .height) (c .before .before .before .pre .1 .1) in
+    let m = most-small (c .before .before .before .before .args .height) (c .before .before .before .before .pre .1 .1) in
     (omega (arith, m, c .before .before .best .ensures .1), omega (arith, m, c .before .best2 .ensures .1), omega (arith, m, c .best3 .ensures .1))
 
-best-pair-returns : (t : ℕ) → best-pair-lts.Need-returns (best-pair-claims t) (best-pair-at t) best-pair.Post
+best-pair-returns-2 : (t : ℕ) → best-pair-lts.Need-returns-2 (best-pair-claims t) (best-pair-at t) best-pair.Post
 unfolding pairOf
-best-pair-returns t c =
-    let h = c .before .before .before .before .args .height in
+best-pair-returns-2 t c =
+    let h = c .before .before .before .before .before .args .height in
     let x = c .before .before .before .best in
     let y = c .before .before .best2 in
     let z = c .before .best3 in
     let e : c .choose-pair .result ≡ pairKey (x .result) (y .result) (z .result) = c .choose-pair .ensures in
-    let a = c .before .before .before .before .args in
+    let a = c .before .before .before .before .before .args in
     let from : ℕ → Choice = λ i. bestOf (a .kind) (a .live) (now (a .distances)) h (child (a .root) i) in
-    let small = bound-small h (c .before .before .before .before .pre .1 .1) in (
+    let small = bound-small h (c .before .before .before .before .before .pre .1 .1) in (
       subst (λ (k : ℕ). Means (6 * bound h) k (choosePair (from 1) (from 2) (from 3))) (sym e)
           (means-pair (bound h) (x .result) (y .result) (z .result) (from 1) (from 2) (from 3) small (x .ensures .0) (y .ensures .0) (z .ensures .0)),
       omega (arith, e, pair-most (x .result) (y .result) (z .result) (most h) (x .ensures .1) (y .ensures .1) (z .ensures .1)),
@@ -165,6 +182,8 @@ pub +best+best-pair-spec : {M : Type 1} → statement M
     (best-pair-at t)
     best-pair.Post
     (best-pair-mul-at t)
+    (best-pair-leaf-pair-requires t)
+    (best-pair-returns t)
     (best-pair-add-best t)
     (best-pair-best-requires t)
     (best-pair-add-best-2 t)
@@ -172,4 +191,4 @@ pub +best+best-pair-spec : {M : Type 1} → statement M
     (best-pair-add-best-3 t)
     (best-pair-best-requires-3 t)
     (best-pair-choose-pair-requires t)
-    (best-pair-returns t))
+    (best-pair-returns-2 t))
