@@ -38,17 +38,22 @@ module _ {A : Type 0} (at : List ℕ → ℕ → A) (size : ℕ) (l : List ℕ) 
 
 -- ---- one pass over items
 module _ {A : Type 0} (key : A → ℕ) (ok : A → Bool) where
-  -- a pass that was good so far takes one more item
-  pub run-again : (lo : ℕ) (good good' : Bool) (lo' : ℕ) (x : A) (xs rest : List A) (whole : Bool) → xs ≡ x ∷ rest
-      → good' ≡ (good && (leb lo (key x) && ok x)) → lo' ≡ key x + 1 → (good && run key ok lo xs) ≡ whole → (good' && run key ok lo' rest) ≡ whole
+  -- a pass goes on behind an item that fits, and ends at one that does not
+  pub run-again : (lo : ℕ) (fits : Bool) (lo' : ℕ) (x : A) (xs rest : List A) (whole : Bool) → xs ≡ x ∷ rest → fits ≡ (leb lo (key x) && ok x)
+      → fits ≡ true → lo' ≡ key x + 1 → run key ok lo xs ≡ whole → run key ok lo' rest ≡ whole
   unfolding run
-  run-again lo good good' lo' x xs rest whole e f g w =
-      ap₂ (λ (b : Bool) (k : ℕ). b && run key ok k rest) f g
-      ∙ and-assoc good (leb lo (key x) && ok x) (run key ok (key x + 1) rest) ∙ ap (λ (ys : List A). good && run key ok lo ys) (sym e) ∙ w
+  run-again lo fits lo' x xs rest whole e f t g w =
+      ap₂ (λ (b : Bool) (k : ℕ). b && run key ok k rest) (sym t ∙ f) g ∙ ap (run key ok lo) (sym e) ∙ w
 
-  pub run-end : (lo : ℕ) (good : Bool) (xs : List A) (whole : Bool) → xs ≡ [] → (good && run key ok lo xs) ≡ whole → good ≡ whole
+  pub run-stop : (lo : ℕ) (fits : Bool) (x : A) (xs rest : List A) (whole : Bool) → xs ≡ x ∷ rest → fits ≡ (leb lo (key x) && ok x)
+      → fits ≡ false → run key ok lo xs ≡ whole → false ≡ whole
   unfolding run
-  run-end lo good xs whole e w = sym (and-true good) ∙ ap (λ (ys : List A). good && run key ok lo ys) (sym e) ∙ w
+  run-stop lo fits x xs rest whole e f t w =
+      ap (λ (b : Bool). b && run key ok (key x + 1) rest) (sym t ∙ f) ∙ ap (run key ok lo) (sym e) ∙ w
+
+  pub run-end : (lo : ℕ) (xs : List A) (whole : Bool) → xs ≡ [] → run key ok lo xs ≡ whole → true ≡ whole
+  unfolding run
+  run-end lo xs whole e w = ap (run key ok lo) (sym e) ∙ w
 
   pub run-one : (x : A) → run key ok 0 (x ∷ []) ≡ ok x
   unfolding run

@@ -110,10 +110,10 @@ pub(crate) fn entry_ok(kind: u8, e: Entry) -> bool
 }
 
 // One more entry: its object is at least lo, and it is well formed.
-pub(crate) fn entry_fits(ok: bool, kind: u8, lo: usize, e: Entry) -> bool
-    ensures { λ r. ⌜ r ≡ (ok && (leb lo (e .object) && entryOk kind e)) ⌝ }
+pub(crate) fn entry_fits(kind: u8, lo: usize, e: Entry) -> bool
+    ensures { λ r. ⌜ r ≡ (leb lo (e .object) && entryOk kind e) ⌝ }
 {
-    both(ok, both(lo <= e.object as usize, entry_ok(kind, e)))
+    both(lo <= e.object as usize, entry_ok(kind, e))
 }
 
 // A yield goes to its rival's owner.
@@ -137,13 +137,10 @@ pub(crate) fn rival_ok(kind: u8, owner: u8, to: u8, r: Rival) -> bool
 }
 
 // One more rival: its owner is at least lo, and it is well formed.
-fn rival_fits(ok: bool, kind: u8, owner: u8, to: u8, lo: usize, r: Rival) -> bool
-    ensures { λ x. ⌜ x ≡ (ok && (leb lo (r .owner) && rivalOk kind owner to r)) ⌝ }
+fn rival_fits(kind: u8, owner: u8, to: u8, lo: usize, r: Rival) -> bool
+    ensures { λ x. ⌜ x ≡ (leb lo (r .owner) && rivalOk kind owner to r) ⌝ }
 {
-    both(
-        ok,
-        both(lo <= r.owner as usize, rival_ok(kind, owner, to, r)),
-    )
+    both(lo <= r.owner as usize, rival_ok(kind, owner, to, r))
 }
 
 // One above an item's key.
@@ -158,19 +155,20 @@ fn entries_ok(s: &[u8], kind: u8, n: usize) -> bool
     requires { ⌜ (n < 256) × (13 + 14 * n ≤ length (now s)) ⌝ }
     ensures { λ r. ⌜ r ≡ run objectOf (entryOk kind) 0 (itemsFrom entryAt entrySize n (now (s .entry)) entriesPlace) ⌝ }
 {
-    let mut ok = true;
     let mut lo: usize = 0;
     let mut at = HEADER + 1;
     let mut left = n;
     while 0 < left {
         let end = at + ENTRY;
         let e = entry_at(&s[at..end], 0);
-        ok = entry_fits(ok, kind, lo, e);
+        if !entry_fits(kind, lo, e) {
+            return false;
+        }
         lo = above(e.object);
         at = end;
         left = left - 1;
     }
-    ok
+    true
 }
 
 // The rivals from a place on ascend strictly, and each is well formed.
@@ -178,19 +176,20 @@ fn rivals_ok(s: &[u8], kind: u8, owner: u8, to: u8, place: usize, n: usize) -> b
     requires { ⌜ (n < 256) × (place < 4096) × (place + 5 * n ≤ length (now s)) ⌝ }
     ensures { λ r. ⌜ r ≡ run ownerIn (rivalOk kind owner to) 0 (itemsFrom rivalAt rivalSize n (now (s .entry)) place) ⌝ }
 {
-    let mut ok = true;
     let mut lo: usize = 0;
     let mut at = place;
     let mut left = n;
     while 0 < left {
         let end = at + RIVAL;
         let r = rival_at(&s[at..end], 0);
-        ok = rival_fits(ok, kind, owner, to, lo, r);
+        if !rival_fits(kind, owner, to, lo, r) {
+            return false;
+        }
         lo = above(r.owner);
         at = end;
         left = left - 1;
     }
-    ok
+    true
 }
 
 // The names of nodes, serial and stamp; odd kinds come from the owner, even ones go to it.

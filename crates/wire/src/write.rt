@@ -258,16 +258,17 @@ fn array_ok(entries: [Entry; 8], n: usize) -> bool
     ensures { λ r. ⌜ r ≡ run objectOf (entryOk 3) 0 (take n entries) ⌝ }
     ensures { λ r. ⌜ length (take n entries) ≡ n ⌝ }
 {
-    let mut ok = true;
     let mut lo: usize = 0;
     let mut i = 0;
     while i < n {
         let e = entries[i];
-        ok = entry_fits(ok, ASK, lo, e);
+        if !entry_fits(ASK, lo, e) {
+            return false;
+        }
         lo = above(e.object);
         i += 1;
     }
-    ok
+    true
 }
 
 // At most eight.

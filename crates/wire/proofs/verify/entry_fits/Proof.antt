@@ -12,12 +12,8 @@ entry-ok-requires c κs = search needs
 both-requires : tie.Need-both-requires
 both-requires c κs = search needs
 
-both-requires-2 : tie.Need-both-requires-2
-both-requires-2 c κs = search needs
-
 returns : tie.Need-returns
-returns c = simp (c .both2 .ensures, c .before .both .ensures, c .before .before .entry-ok .ensures)
+returns c = simp (c .both .ensures, c .before .entry-ok .ensures)
 
 pub entry-fits-spec : {M : Type 1} → statement M
-entry-fits-spec =
-    tie.close (tie.spec cast-both entry-ok-requires both-requires both-requires-2 returns)
+entry-fits-spec = tie.close (tie.spec cast-both entry-ok-requires both-requires returns)

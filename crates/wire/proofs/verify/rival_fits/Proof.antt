@@ -12,12 +12,8 @@ rival-ok-requires c κs = search needs
 both-requires : tie.Need-both-requires
 both-requires c κs = search needs
 
-both-requires-2 : tie.Need-both-requires-2
-both-requires-2 c κs = search needs
-
 returns : tie.Need-returns
-returns c = simp (c .both2 .ensures, c .before .both .ensures, c .before .before .rival-ok .ensures)
+returns c = simp (c .both .ensures, c .before .rival-ok .ensures)
 
 pub rival-fits-spec : {M : Type 1} → statement M
-rival-fits-spec =
-    tie.close (tie.spec cast-both rival-ok-requires both-requires both-requires-2 returns)
+rival-fits-spec = tie.close (tie.spec cast-both rival-ok-requires both-requires returns)
