@@ -114,7 +114,7 @@ ne-T n f = not-T (eqb n 0) (λ t. f (eqb→eq n 0 t))
 T-ne : (n : ℕ) → T (not (eqb n 0)) → n ≡ 0 → ⊥
 T-ne n t e = T-not (eqb n 0) t (eq-T n 0 e)
 
-two-in : (a b : Bool) → T (a && b) → T a × T b
+pub two-in : (a b : Bool) → T (a && b) → T a × T b
 two-in a b t = (and-left a b t, and-right a b t)
 
 -- ---- sizes
@@ -203,7 +203,7 @@ module _ (contacted : ℕ) (x : Object) where
 made : (x : Object) → x .object ≡ 0 → x .mode ≡ 0 → x .came ≡ 0 → x .version ≡ 0 → x .value ≡ 0 → x .given ≡ false → x .new ≡ 0 → x ≡ noObject
 made x a b c d e f g = λ i. record { object = a i; mode = b i; came = c i; version = d i; value = e i; given = f i; new = g i }
 
-blank-out : (x : Object) → T (objectBlank x) → x ≡ noObject
+pub blank-out : (x : Object) → T (objectBlank x) → x ≡ noObject
 unfolding objectBlank
 blank-out x t =
     let a = two-in (eqb (x .object) 0) _ t in
@@ -215,7 +215,7 @@ blank-out x t =
     made x (eqb→eq _ 0 (a .0)) (eqb→eq _ 0 (b .0)) (eqb→eq _ 0 (c .0)) (eqb→eq _ 0 (d .0)) (eqb→eq _ 0 (e .0))
     (T-false (x .given) (T-not (x .given) (f .0))) (eqb→eq _ 0 (f .1))
 
-blank-in : (x : Object) → x ≡ noObject → T (objectBlank x)
+pub blank-in : (x : Object) → x ≡ noObject → T (objectBlank x)
 unfolding objectBlank
 blank-in x e = subst (λ (y : Object). T (objectBlank y)) (sym e) tt
 

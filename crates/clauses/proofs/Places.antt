@@ -59,6 +59,18 @@ none-from f k (x ∷ l) e (suc i) h =
 pub across-none : (f : ℕ → Object → Bool) (l : List Object) → across (somePlace f) false 0 l ≡ false → (i : ℕ) → i < length l → f i (at l i) ≡ false
 across-none f l e i h = subst (λ (n : ℕ). f n (at l i) ≡ false) (omega arith) (none-from f 0 l e i h)
 
+-- and one that fails at each fails
+none-at-all : (f : ℕ → Object → Bool) (k : ℕ) (l : List Object) → ((i : ℕ) → i < length l → f (k + i) (at l i) ≡ false)
+    → across (somePlace f) false k l ≡ false
+none-at-all f k [] h = refl
+none-at-all f k (x ∷ l) h =
+    let a : f k x ≡ false = subst (λ (n : ℕ). f n x ≡ false) (omega arith) (h 0 (omega arith)) in
+    let b = none-at-all f (k + 1) l (λ i j. subst (λ (n : ℕ). f n (at l i) ≡ false) (omega arith) (h (suc i) (omega arith))) in
+    simp (a, b)
+
+pub none-across : (f : ℕ → Object → Bool) (l : List Object) → ((i : ℕ) → i < length l → f i (at l i) ≡ false) → across (somePlace f) false 0 l ≡ false
+none-across f l h = none-at-all f 0 l (λ i k. subst (λ (n : ℕ). f n (at l i) ≡ false) (omega arith) (h i k))
+
 -- ---- where an object stands
 -- at a place below the count that has it, or at 8 and no place below the count has it; the places are those from k on
 abbrev Placed : List Object → ℕ → ℕ → ℕ → ℕ → Type 0

@@ -1,18 +1,14 @@
 -- A loop that fills an array with the items of a list of bytes: one item more, and all of them.
 use mathlib.Core.Path.{_≡_, sym, ap, _∙_}
-use mathlib.Core.Bool.{_&&_}
 use mathlib.Core.List.{List}
 use Prim.Native.Nat.{ℕ, zero, suc, _+_, _*_, _<_}
 use native.Mathlib.Nat.{mul-suc}
-use native.Mathlib.Numerals.{add-one}
 use native.Mathlib.Omega.{arith}
 use borrow.Author.Count.{below-more}
-use lib.Dec.{leb}
 use lib.ListN.{length, getD, set}
 use lib.Seq.{ext-getD, getD-set-same, getD-set-other}
 use Rattle.wire.specs.Decode.{itemsFrom}
 use Rattle.wire.proofs.Accepted.{length-items}
-use Rattle.record.specs.Record.{givenOk}
 
 module _ {A : Type 0} (at : List ℕ → ℕ → A) (size : ℕ) (l : List ℕ) (d : A) where
   pub getD-items : (n i j : ℕ) → j < n → getD (itemsFrom at size n l i) j d ≡ at l (i + size * j)
@@ -33,8 +29,3 @@ module _ {A : Type 0} (at : List ℕ → ℕ → A) (size : ℕ) (l : List ℕ) 
       → v ≡ at l (base + size * i) → (j : ℕ) → j < i + 1 → getD (set a i v) j d ≡ at l (base + size * j)
   one-more a i base v h f e =
       below-more _ i (λ j k. getD-set-other a i j v d (λ q. omega arith) ∙ f j k) (getD-set-same a i v d h ∙ e)
-
--- one test more, as a loop counts
-pub given-more : (l : List ℕ) (i : ℕ) → givenOk (i + 1) l ≡ (givenOk i l && leb (getD l (43 + 25 * i + 16) 0) 1)
-unfolding givenOk
-given-more l i = ap (λ (n : ℕ). givenOk n l) (add-one i)

@@ -2,11 +2,13 @@
 -- bytes (OnBytes). The laws of the layout (RoundTrip), and that every call leaves a
 -- record (Kept).
 pub mod Made
+pub mod Zero
 pub mod Items
 pub mod Stores
 pub mod Pieces
 pub mod Places
 pub mod OnBytes
+pub mod Valid
 pub mod RoundTrip
 pub mod Kept
 pub mod Stored
