@@ -1,4 +1,4 @@
--- What the proofs of the functions share, and the laws of the clauses: as facts (Facts), kept by every call (Keep) and delivery (Deliver); the
+-- The laws of the clauses: as facts (Facts), kept by every call (Keep) and delivery (Deliver); the
 -- widths (Fits) and the own place among the rivals (Own), kept too; what was found stays (Found); what else the clauses and the calls imply (Laws).
 -- Cases and Deliveries take a call apart by its cases. Samples has computed records. The rest are small laws that these use.
 pub mod Parts

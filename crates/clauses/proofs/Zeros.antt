@@ -1,27 +1,12 @@
--- A loop that goes down over a list computes `zeros`: one turn of it, and where it starts. And `zeros` as a fact.
-use mathlib.Core.Path.{_≡_, refl, ap, _∙_}
-use mathlib.Core.Bool.{true, _&&_}
+-- Every number of a list is 0: the test `zeros` as a fact, a list of zeros.
+use mathlib.Core.Path.{_≡_, refl}
 use mathlib.Core.List.{List, [], _∷_}
-use Prim.Native.Nat.{ℕ, zero, suc, _-_, _<_, _≤_}
-use native.Mathlib.Omega.{arith}
+use Prim.Native.Nat.{ℕ, zero, suc}
 use lib.Dec.{T, eqb, eqb→eq}
-use lib.ListN.{length, getD, drop, replicate, drop-of-length-le}
-use lib.Seq.{drop-cons}
+use lib.ListN.{length, replicate}
 use Rattle.mask.proofs.Tests.{and-left, and-right}
 use Rattle.clauses.specs.Clauses.{zeros}
 
-pub zeros-turn : (l : List ℕ) (i : ℕ) → 0 < i → i ≤ length l → zeros (drop (i - 1) l) ≡ (eqb (getD l (i - 1) 0) 0 && zeros (drop i l))
-unfolding zeros
-zeros-turn l i h k =
-    let j : ℕ = i - 1 in
-    let s : suc j ≡ i = omega arith in
-    ap zeros (drop-cons l j 0 (omega arith)) ∙ ap (λ (n : ℕ). eqb (getD l j 0) 0 && zeros (drop n l)) s
-
-pub zeros-start : (l : List ℕ) (n : ℕ) → length l ≤ n → zeros (drop n l) ≡ true
-unfolding zeros
-zeros-start l n h = rw (drop-of-length-le l h)
-
--- every number is 0, as a fact: a list of zeros
 pub zeros-are : (l : List ℕ) → T (zeros l) → l ≡ replicate (length l) 0
 unfolding zeros
 zeros-are [] t = refl

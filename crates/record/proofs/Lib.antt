@@ -1,5 +1,5 @@
--- What the proofs of the functions share: equal fields (Made), loops that read items (Items), bytes stored piece by piece (Stores), a call on
--- bytes (OnBytes). The laws of the layout (RoundTrip), and that every call leaves a
+-- What the proofs of the functions share: equal fields (Made), bytes that are 0 (Zero), loops that read items (Items), bytes stored piece by
+-- piece (Stores), a call on bytes (OnBytes), the check as the clauses ask (Valid). The laws of the layout (RoundTrip), and that every call leaves a
 -- record (Kept).
 pub mod Made
 pub mod Zero
