@@ -39,7 +39,8 @@ loop-again c =
     let l = c .before .before .before .before .before .loop in
     let k = c .before .before .strike-here in
     let x = c .before .before .before .before .before .before .before .before .args in
-    (omega arith, k .kept .0 ∙ l .inv .1, rw (k .ensures, c .before .before .before .before .before .before .single .ensures, l .inv .2) (struck-next (now (x .image)) (x .o) (l .t)))
+    let own = c .before .before .before .before .before .before .single .ensures in
+    (omega arith, k .kept .0 ∙ l .inv .1, rw (k .ensures, own, l .inv .2) (struck-next (now (x .image)) (x .o) (l .t)))
 
 same-length : tie.Need-same-length Inv-loop μ-loop
 same-length c = c .before .loop .inv .1

@@ -14,16 +14,25 @@ place-requires : tie.Need-place-requires
 place-requires c κs = search needs
 
 add-next : tie.Need-add-next
-add-next c = omega (arith, place-here (c .before .before .args .f) (length (now (c .before .before .args .image))) (c .before .before .args .i) (c .before .before .pre .0), c .place .ensures, c .before .before .pre .1)
+add-next c =
+    let x = c .before .before .args in
+    let p = c .before .before .pre in
+    omega (arith, place-here (x .f) (length (now (x .image))) (x .i) (p .0), c .place .ensures, p .1)
 
 shared-slice-read-result : tie.Need-shared-slice-read-result
-shared-slice-read-result c = omega (arith, place-here (c .before .before .before .args .f) (length (now (c .before .before .before .args .image))) (c .before .before .before .args .i) (c .before .before .before .pre .0), c .before .place .ensures, c .before .before .before .pre .1)
+shared-slice-read-result c =
+    let x = c .before .before .before .args in
+    let p = c .before .before .before .pre in
+    omega (arith, place-here (x .f) (length (now (x .image))) (x .i) (p .0), c .before .place .ensures, p .1)
 
 cast-result : tie.Need-cast-result
 cast-result c = omega (arith, c .shared-slice-known2 .given (c .before .place .result))
 
 shared-slice-read-result-2 : tie.Need-shared-slice-read-result-2
-shared-slice-read-result-2 c = omega (arith, place-here (c .before .before .before .before .args .f) (length (now (c .before .before .before .before .args .image))) (c .before .before .before .before .args .i) (c .before .before .before .before .pre .0), c .before .before .place .ensures, c .before .before .before .before .pre .1)
+shared-slice-read-result-2 c =
+    let x = c .before .before .before .before .args in
+    let p = c .before .before .before .before .pre in
+    omega (arith, place-here (x .f) (length (now (x .image))) (x .i) (p .0), c .before .before .place .ensures, p .1)
 
 cast-result-2 : tie.Need-cast-result-2
 cast-result-2 c = omega (arith, c .shared-slice-known3 .given (c .before .before .place .result + 1))
@@ -32,7 +41,8 @@ mul-result : tie.Need-mul-result
 mul-result c = omega (arith, c .shared-slice-known3 .given (c .before .before .place .result + 1))
 
 add-result : tie.Need-add-result
-add-result c = omega (arith, c .shared-slice-known3 .given (c .before .before .place .result), c .shared-slice-known3 .given (c .before .before .place .result + 1))
+add-result c =
+    omega (arith, c .shared-slice-known3 .given (c .before .before .place .result), c .shared-slice-known3 .given (c .before .before .place .result + 1))
 
 returns : tie.Need-returns
 returns c =

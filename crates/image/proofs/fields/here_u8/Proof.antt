@@ -11,7 +11,10 @@ place-requires : tie.Need-place-requires
 place-requires c κs = search needs
 
 shared-slice-read-result : tie.Need-shared-slice-read-result
-shared-slice-read-result c = omega (arith, place-here (c .before .before .before .args .f) (length (now (c .before .before .before .args .image))) (c .before .before .before .args .i) (c .before .before .before .pre .0), c .before .place .ensures, c .before .before .before .pre .1)
+shared-slice-read-result c =
+    let x = c .before .before .before .args in
+    let p = c .before .before .before .pre in
+    omega (arith, place-here (x .f) (length (now (x .image))) (x .i) (p .0), c .before .place .ensures, p .1)
 
 returns : tie.Need-returns
 returns c =

@@ -14,13 +14,19 @@ place-requires : tie.Need-place-requires
 place-requires c κs = search needs
 
 add-next : tie.Need-add-next
-add-next c = omega (arith, place-here (c .before .before .args .f) (length (now (c .before .before .args .image))) (c .before .before .args .i) (c .before .before .pre .0), c .place .ensures, c .before .before .pre .1)
+add-next c =
+    let x = c .before .before .args in
+    let p = c .before .before .pre in
+    omega (arith, place-here (x .f) (length (now (x .image))) (x .i) (p .0), c .place .ensures, p .1)
 
 cast-image : tie.Need-cast-image
 cast-image c = search needs
 
 slice-write-image : tie.Need-slice-write-image
-slice-write-image c = omega (arith, place-here (c .before .before .args .f) (length (now (c .before .before .args .image))) (c .before .before .args .i) (c .before .before .pre .0), c .place .ensures, c .before .before .pre .1)
+slice-write-image c =
+    let x = c .before .before .args in
+    let p = c .before .before .pre in
+    omega (arith, place-here (x .f) (length (now (x .image))) (x .i) (p .0), c .place .ensures, p .1)
 
 cast-image-2 : tie.Need-cast-image-2
 cast-image-2 c = search needs

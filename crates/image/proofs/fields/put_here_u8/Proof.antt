@@ -11,7 +11,10 @@ place-requires : tie.Need-place-requires
 place-requires c κs = search needs
 
 slice-write-image : tie.Need-slice-write-image
-slice-write-image c = omega (arith, place-here (c .before .before .args .f) (length (now (c .before .before .args .image))) (c .before .before .args .i) (c .before .before .pre .0), c .place .ensures, c .before .before .pre .1)
+slice-write-image c =
+    let x = c .before .before .args in
+    let p = c .before .before .pre in
+    omega (arith, place-here (x .f) (length (now (x .image))) (x .i) (p .0), c .place .ensures, p .1)
 
 same-length : tie.Need-same-length
 same-length c = search needs

@@ -77,16 +77,23 @@ loop-less c = search needs
 
 loop-again : tie.Need-loop-again Inv-loop μ-loop
 loop-again c =
-    let l = c .before .before .before .before .before .before .before .before .loop in
-    let x = c .before .before .before .before .before .before .before .before .before .before .args in
+    let c3 = c .before .before .before in
+    let c4 = c3 .before in
+    let c5 = c4 .before in
+    let c6 = c5 .before in
+    let c8 = c6 .before .before in
+    let c10 = c8 .before .before in
+    let l = c8 .loop in
+    let x = c10 .args in
     let p = fit (x .held) (now (x .image)) in
     let q = inside (x .listed) (now (x .image)) in
     let e : p (l .t) ≡ true =
-    ap (holderFits (x .held)) (sym (c .before .before .before .before .before .before .here-u8 .ensures)) ∙ sym (c .before .before .before .before .before .holder-ok .ensures) ∙ indeed _ (c .before .before .before .before .if1 .left) in (
+    ap (holderFits (x .held)) (sym (c6 .here-u8 .ensures)) ∙ sym (c5 .holder-ok .ensures) ∙ indeed _ (c4 .if1 .left) in (
       omega arith,
       each-more p (l .t) ∙ rw (l .inv .1, e),
-      rw (c .join2 .ensures, c .before .join .ensures, c .before .before .here-u162 .ensures, c .before .before .before .here-u16 .ensures)
-          (within-joined (l .lists) (joined (readers (now (x .image)) (l .t)) (writers (now (x .image)) (l .t))) (x .listed) ∙ ap (λ (b : Bool). b && q (l .t)) (l .inv .2) ∙ sym (each-more q (l .t))),
+      rw (c .join2 .ensures, c .before .join .ensures, c .before .before .here-u162 .ensures, c3 .here-u16 .ensures)
+          (within-joined (l .lists) (joined (readers (now (x .image)) (l .t)) (writers (now (x .image)) (l .t))) (x .listed)
+          ∙ ap (λ (b : Bool). b && q (l .t)) (l .inv .2) ∙ sym (each-more q (l .t))),
     )
 
 subset-requires : tie.Need-subset-requires Inv-loop μ-loop

@@ -22,9 +22,12 @@ both-requires-2 c κs = search needs
 
 returns : tie.Need-returns
 returns c =
-    let l = now (c .before .before .before .before .before .before .args .image) in
-    let w = c .before .before .before .before .walk in
-    rw (c .both2 .ensures, c .before .before .both .ensures, c .before .before .before .counts-ok .ensures, w .ensures .each-fits, c .before .copies-ok .ensures)
+    let c3 = c .before .before .before in
+    let c4 = c3 .before in
+    let c6 = c4 .before .before in
+    let l = now (c6 .args .image) in
+    let w = c4 .walk in
+    rw (c .both2 .ensures, c .before .before .both .ensures, c3 .counts-ok .ensures, w .ensures .each-fits, c .before .copies-ok .ensures)
     (passes l (w .result .listed) (w .result .held) (w .ensures .in-listed) (w .ensures .in-held))
 
 pub is-valid-spec : {M : Type 1} → statement M

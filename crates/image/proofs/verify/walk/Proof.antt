@@ -51,11 +51,16 @@ loop-less c = search needs
 loop-again : tie.Need-loop-again Inv-loop μ-loop
 unfolding ownerOf
 loop-again c =
-    let l = c .before .before .before .before .before .before .before .before .loop in
-    let i = now (c .before .before .before .before .before .before .before .before .before .before .args .image) in
-    let w = c .before .before .before .before .before .before .owner-of .ensures in (
+    let c4 = c .before .before .before .before in
+    let c5 = c4 .before in
+    let c6 = c5 .before in
+    let c8 = c6 .before .before in
+    let c10 = c8 .before .before in
+    let l = c8 .loop in
+    let i = now (c10 .args .image) in
+    let w = c6 .owner-of .ensures in (
       omega arith,
-      rw (c .before .before .before .before .both .ensures, c .before .before .before .before .before .owner-ok .ensures, w, l .inv .1) (sym (each-more (ownerFits i) (l .o))),
+      rw (c4 .both .ensures, c5 .owner-ok .ensures, w, l .inv .1) (sym (each-more (ownerFits i) (l .o))),
       rw (c .before .before .mark .ensures, w) (marks-next (λ (k : ℕ). eqb (state i k) 1) (l .listed) (l .o) (omega arith) (l .inv .2)),
       rw (c .mark2 .ensures, w) (marks-next (λ (k : ℕ). eqb (state i k) 2) (l .held) (l .o) (omega arith) (l .inv .3)),
     )

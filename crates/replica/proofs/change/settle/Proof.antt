@@ -65,10 +65,13 @@ decide-requires c κs = search needs
 release-requires : tie.Need-release-requires
 unfolding decode
 release-requires c κs =
-    let p = c .before .before .before .before .before .before .before .before .before .before .before .before .pre .1 in
-    let l = now (c .before .before .before .before .before .before .before .before .before .before .before .before .args .image) in
-    let m = decode (now (c .before .before .before .before .before .before .before .before .before .before .before .before .args .message)) in
-    (rw (c .before .before .before .decide .ensures) (sound-check (decided l m) (keeps-decided l m (check-sound l (p .0)))), rw (c .before .before .before .before .before .before .before .owner .ensures) (p .1))
+    let c3 = c .before .before .before in
+    let c7 = c3 .before .before .before .before in
+    let c12 = c7 .before .before .before .before .before in
+    let p = c12 .pre .1 in
+    let l = now (c12 .args .image) in
+    let m = decode (now (c12 .args .message)) in
+    (rw (c3 .decide .ensures) (sound-check (decided l m) (keeps-decided l m (check-sound l (p .0)))), rw (c7 .owner .ensures) (p .1))
 
 same-length-3 : tie.Need-same-length-3
 same-length-3 c = search needs

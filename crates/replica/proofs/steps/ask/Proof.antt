@@ -25,12 +25,18 @@ enter-requires c κs = search needs
 
 judge-requires : tie.Need-judge-requires
 judge-requires c κs =
-    let x = c .before .before .before .before .before .before .before .before .before .before .before .before .before .before .args in
-    let p = c .before .before .before .before .before .before .before .before .before .before .before .before .before .before .pre in
+    let c4 = c .before .before .before .before in
+    let c6 = c4 .before .before in
+    let c7 = c6 .before in
+    let c9 = c7 .before .before in
+    let c13 = c9 .before .before .before .before in
+    let c14 = c13 .before in
+    let x = c14 .args in
+    let p = c14 .pre in
     let l = now (x .image) in
-    λ n. rw (c .before .before .before .before .enter .ensures)
-    (unlist-entered l (decode (now (x .message))) (check-sound l (p .0)) (p .1) (λ j. omega (arith, c .before .before .before .before .before .before .before .before .before .before .before .before .before .slice-known .given j))
-    (sym (c .before .before .before .before .before .before .before .is-active .ensures) ∙ c .before .before .before .before .before .before .if1 .taken) (ap (λ (k : ℕ). eqb k 1) (sym (c .before .before .before .before .before .before .before .before .before .standing .ensures)) ∙ n))
+    λ n. rw (c4 .enter .ensures)
+    (unlist-entered l (decode (now (x .message))) (check-sound l (p .0)) (p .1) (λ j. omega (arith, c13 .slice-known .given j))
+    (sym (c7 .is-active .ensures) ∙ c6 .if1 .taken) (ap (λ (k : ℕ). eqb k 1) (sym (c9 .standing .ensures)) ∙ n))
 
 same-length : tie.Need-same-length
 same-length c = search needs
@@ -41,9 +47,13 @@ same-length-2 c = search needs
 returns : tie.Need-returns
 unfolding askImage askAnswer
 returns c =
-    let e = c .before .before .before .before .before .before .before .before .before .enter .ensures in
-    let j = c .before .before .before .before .judge .ensures in
-    let t = sym (c .before .before .before .before .before .before .before .before .before .before .before .before .is-active .ensures) ∙ c .before .before .before .before .before .before .before .before .before .before .before .if1 .taken in
+    let c4 = c .before .before .before .before in
+    let c9 = c4 .before .before .before .before .before in
+    let c11 = c9 .before .before in
+    let c12 = c11 .before in
+    let e = c9 .enter .ensures in
+    let j = c4 .judge .ensures in
+    let t = sym (c12 .is-active .ensures) ∙ c11 .if1 .taken in
     (simp t (rw (j .0, e)), (simp t (rw (j .1 .0, e)), simp t (rw (j .1 .1, e))))
 
 say-vote-requires : tie.Need-say-vote-requires
@@ -76,10 +86,15 @@ same-length-6 c = search needs
 returns-3 : tie.Need-returns-3
 unfolding writtenAs filledBy askImage askAnswer
 returns-3 c =
-    let t = sym (c .before .before .before .before .before .before .before .is-active .ensures) ∙ c .before .before .before .before .before .before .if1 .left in
-    let s = c .before .before .before .before .before .before .before .before .before .standing .ensures in
-    let n = ne-eqb _ 2 (c .before .before .before .before .before .if2 .left) in
-    let u = eq-eqb _ 3 (c .before .before .before .before .if3 .taken) in
+    let c4 = c .before .before .before .before in
+    let c5 = c4 .before in
+    let c6 = c5 .before in
+    let c7 = c6 .before in
+    let c9 = c7 .before .before in
+    let t = sym (c7 .is-active .ensures) ∙ c6 .if1 .left in
+    let s = c9 .standing .ensures in
+    let n = ne-eqb _ 2 (c5 .if2 .left) in
+    let u = eq-eqb _ 3 (c4 .if3 .taken) in
     let v = c .before .before .say-vote2 .ensures in
     (simp t (rw (← s) (simp (n, u) (v .0))), (simp t, simp t (rw (← s) (simp (n, u) (v .1)))))
 

@@ -33,7 +33,10 @@ either-requires c κs = search needs
 
 leave-requires : tie.Need-leave-requires
 unfolding decode
-leave-requires c κs = λ n. rw (c .before .before .before .before .before .before .before .owner .ensures) (c .before .before .before .before .before .before .before .before .before .before .before .pre n)
+leave-requires c κs =
+    let c7 = c .before .before .before .before .before .before .before in
+    let c11 = c7 .before .before .before .before in
+    λ n. rw (c7 .owner .ensures) (c11 .pre n)
 
 say-vote-requires : tie.Need-say-vote-requires
 say-vote-requires c κs = search needs
@@ -47,13 +50,20 @@ same-length-2 c = search needs
 returns : tie.Need-returns
 unfolding writtenAs filledBy judgedImage judgedAnswer decode
 returns c =
-    let x = c .before .before .before .before .before .before .before .before .before .before .before .before .before .before .before .before .before .before .args in
-    let w = c .before .before .before .before .before .before .before .before .before .before .before .before .weigh in
-    let v = voted (now (x .image)) (now (x .message)) (w .result) (c .before .before .before .before .before .before .before .before .before .before .before .before .before .before .owner .result) (c .before .before .before .before .before .before .before .before .before .either .result) (c .before .before .before .before .before .before .before .before .before .before .older-among .result) (w .ensures)
-    (c .before .before .before .before .before .before .before .before .before .before .before .before .before .before .owner .ensures) (c .before .before .before .before .before .before .before .before .before .before .older-among .ensures) (c .before .before .before .before .before .before .before .before .before .either .ensures) in
-    let t = sym v ∙ c .before .before .before .before .before .before .before .before .if1 .taken in (
+    let c6 = c .before .before .before .before .before .before in
+    let c8 = c6 .before .before in
+    let c9 = c8 .before in
+    let c10 = c9 .before in
+    let c12 = c10 .before .before in
+    let c14 = c12 .before .before in
+    let c18 = c14 .before .before .before .before in
+    let x = c18 .args in
+    let w = c12 .weigh in
+    let v = voted (now (x .image)) (now (x .message)) (w .result) (c14 .owner .result) (c9 .either .result) (c10 .older-among .result) (w .ensures)
+    (c14 .owner .ensures) (c10 .older-among .ensures) (c9 .either .ensures) in
+    let t = sym v ∙ c8 .if1 .taken in (
       simp t (c .before .before .say-vote .ensures .0),
-      (simp t (rw (c .before .before .before .before .before .before .leave .ensures, c .before .before .before .before .before .before .before .before .before .before .before .before .before .before .owner .ensures)), simp t (c .before .before .say-vote .ensures .1)),
+      (simp t (rw (c6 .leave .ensures, c14 .owner .ensures)), simp t (c .before .before .say-vote .ensures .1)),
     )
 
 serials-of-requires : tie.Need-serials-of-requires
@@ -61,7 +71,10 @@ serials-of-requires c κs = search needs
 
 leave-requires-2 : tie.Need-leave-requires-2
 unfolding decode
-leave-requires-2 c κs = λ n. rw (c .before .before .before .before .before .before .before .before .before .owner .ensures) (c .before .before .before .before .before .before .before .before .before .before .before .before .before .pre n)
+leave-requires-2 c κs =
+    let c9 = c .before .before .before .before .before .before .before .before .before in
+    let c13 = c9 .before .before .before .before in
+    λ n. rw (c9 .owner .ensures) (c13 .pre n)
 
 hold-requires : tie.Need-hold-requires
 hold-requires c κs = search needs
@@ -78,15 +91,24 @@ same-length-4 c = search needs
 returns-2 : tie.Need-returns-2
 unfolding writtenAs filledBy judgedImage judgedAnswer decode
 returns-2 c =
-    let x = c .before .before .before .before .before .before .before .before .before .before .before .before .before .before .before .before .before .before .before .before .before .before .before .before .args in
-    let w = c .before .before .before .before .before .before .before .before .before .before .before .before .before .before .before .before .before .before .weigh in
-    let v = voted (now (x .image)) (now (x .message)) (w .result) (c .before .before .before .before .before .before .before .before .before .before .before .before .before .before .before .before .before .before .before .before .owner .result) (c .before .before .before .before .before .before .before .before .before .before .before .before .before .before .before .either .result) (c .before .before .before .before .before .before .before .before .before .before .before .before .before .before .before .before .older-among .result) (w .ensures)
-    (c .before .before .before .before .before .before .before .before .before .before .before .before .before .before .before .before .before .before .before .before .owner .ensures) (c .before .before .before .before .before .before .before .before .before .before .before .before .before .before .before .before .older-among .ensures) (c .before .before .before .before .before .before .before .before .before .before .before .before .before .before .before .either .ensures) in
-    let t = sym v ∙ c .before .before .before .before .before .before .before .before .before .before .before .before .before .before .if1 .left in (
-      simp t (rw (c .before .before .say-vote2 .ensures .0, c .before .before .before .before .before .before .before .before .before .before .before .before .serials-of .ensures, w .ensures .rivals)),
+    let c6 = c .before .before .before .before .before .before in
+    let c10 = c6 .before .before .before .before in
+    let c12 = c10 .before .before in
+    let c14 = c12 .before .before in
+    let c15 = c14 .before in
+    let c16 = c15 .before in
+    let c18 = c16 .before .before in
+    let c20 = c18 .before .before in
+    let c24 = c20 .before .before .before .before in
+    let x = c24 .args in
+    let w = c18 .weigh in
+    let v = voted (now (x .image)) (now (x .message)) (w .result) (c20 .owner .result) (c15 .either .result) (c16 .older-among .result) (w .ensures)
+    (c20 .owner .ensures) (c16 .older-among .ensures) (c15 .either .ensures) in
+    let t = sym v ∙ c14 .if1 .left in (
+      simp t (rw (c .before .before .say-vote2 .ensures .0, c12 .serials-of .ensures, w .ensures .rivals)),
       (
-        simp t (rw (c .before .before .before .before .before .before .hold .ensures, c .before .before .before .before .before .before .before .before .before .before .leave2 .ensures, c .before .before .before .before .before .before .before .before .before .before .before .before .before .before .before .before .before .before .before .before .owner .ensures)),
-        simp t (rw (c .before .before .say-vote2 .ensures .1, c .before .before .before .before .before .before .before .before .before .before .before .before .serials-of .ensures, w .ensures .rivals)),
+        simp t (rw (c6 .hold .ensures, c10 .leave2 .ensures, c20 .owner .ensures)),
+        simp t (rw (c .before .before .say-vote2 .ensures .1, c12 .serials-of .ensures, w .ensures .rivals)),
       ),
     )
 
