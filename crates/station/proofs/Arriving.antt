@@ -21,12 +21,12 @@ use Rattle.pool.proofs.Laws.{length-waiting, getD-waiting}
 use Rattle.station.specs.declared.Answer.{Answer}
 use Rattle.station.specs.Station.{Station, putAt}
 use Rattle.station.specs.Step.{delivery, Outcome, refusedWith, atReplica, atCoordinator, arriving, deliveryOf, step}
-use Rattle.station.specs.Buffers.{Buffers, wrong, lower, lengthsNumber, ownNumber, onOf, recordDamaged, stationOf, answerWith, told, recordsAfter}
+use Rattle.station.specs.Buffers.{Buffers, wrong, lower, lengthsNumber, ownNumber, onOf, recordDamaged, recordFirst, stationOf, answerWith, told, recordsAfter}
 use Rattle.station.specs.Buffers.{all, buffersNumber, messageIn, reaches}
 use Rattle.station.specs.Buffers.{withImageAt, deliveryFirst, deliveryTold, imagesAfter, deliveryImages, deliveryRecords, leaving, exchanged}
 use Rattle.station.specs.Buffers.{putInto, deliveryPool}
 use Rattle.station.proofs.Hosted.{long, lower-none}
-use Rattle.station.proofs.Delivering.{image-in, image-same, Leaves, images-kept}
+use Rattle.station.proofs.Delivering.{image-in, image-same, Leaves, images-first}
 
 -- ---- what the numbers of the buffers and of the message tell
 pub buffers-are : (I R P O : List ℕ) → buffersNumber (all I R P O) ≡ lower (lengthsNumber (length I) (length R)) (lower (check P) (ownNumber O))
@@ -187,18 +187,13 @@ module _ (I R P O : List ℕ) (k : ℕ) (kept : Bool) where
           unfolding arriving
           there = arrives ∙ simp (u, v)
 
-          pub bad-record : (y : ℕ) → y ≡ toOf m → recordDamaged R y ≡ true → Left (answerWith 2 0) I R P
-          unfolding told imagesAfter recordsAfter exchanged
-          bad-record y j d =
-              by-parts 2 true (toOf m) (atCoordinator st k kept (toOf m) m) (met true (ap (recordDamaged R) (sym j) ∙ d)) (reaches-is true false u v)
-              (ap toOf is-m) there
-              (answerWith 2 0) I R P refl refl refl refl
-
-          pub at-coordinator : (y : ℕ) → y ≡ toOf m → recordDamaged R y ≡ false → (a : Answer) (r p : List ℕ)
-              → a ≡ told 0 (atCoordinator st k kept y m) → r ≡ recordsAfter 0 (atCoordinator st k kept y m) y R
-              → p ≡ exchanged 0 (atCoordinator st k kept y m) k kept P → Left a I r p
-          at-coordinator y j d a r p ha hr hp =
-              by-parts 0 true (toOf m) (atCoordinator st k kept (toOf m) m) (met false (ap (recordDamaged R) (sym j) ∙ d)) (reaches-is true false u v)
-              (ap toOf is-m) there a I r p (ha ∙ ap (λ (n : ℕ). told 0 (atCoordinator st k kept n m)) j) (images-kept I R P O (toOf m) k kept node)
-              (hr ∙ ap (λ (n : ℕ). recordsAfter 0 (atCoordinator st k kept n m) n R) j)
-              (hp ∙ ap (λ (n : ℕ). exchanged 0 (atCoordinator st k kept n m) k kept P) j)
+          pub at-coordinator : (y : ℕ) → y ≡ toOf m → (a : Answer) (r p : List ℕ)
+              → a ≡ told (recordFirst R y) (atCoordinator st k kept y m) → r ≡ recordsAfter (recordFirst R y) (atCoordinator st k kept y m) y R
+              → p ≡ exchanged (recordFirst R y) (atCoordinator st k kept y m) k kept P → Left a I r p
+          at-coordinator y j a r p ha hr hp =
+              by-parts (recordFirst R (toOf m)) true (toOf m) (atCoordinator st k kept (toOf m) m) (met (recordDamaged R (toOf m)) refl)
+              (reaches-is true false u v) (ap toOf is-m) there a I r p
+              (ha ∙ ap (λ (n : ℕ). told (recordFirst R n) (atCoordinator st k kept n m)) j)
+              (images-first I R P O (toOf m) k kept node (recordFirst R (toOf m)))
+              (hr ∙ ap (λ (n : ℕ). recordsAfter (recordFirst R n) (atCoordinator st k kept n m) n R) j)
+              (hp ∙ ap (λ (n : ℕ). exchanged (recordFirst R n) (atCoordinator st k kept n m) k kept P) j)

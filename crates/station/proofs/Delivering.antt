@@ -10,14 +10,16 @@ use lib.ListN.{length, take, drop, take-append-drop}
 use lib.Seq.{take-append-seam}
 use borrow.Author.Tests.{eq-eqb, ne-eqb, eqb-true, eqb-false, lt-ltb, ltb-true, not-false}
 use Rattle.parts.specs.Parts.{part, splice}
+use Rattle.parts.proofs.Laws.{length-part}
 use Rattle.wire.specs.Encode.{encode}
-use Rattle.wire.specs.Decode.{decode}
+use Rattle.wire.specs.Decode.{decode, checkOf}
 use Rattle.wire.proofs.Theorems.{length-bounds}
 use Rattle.replica.specs.declared.Received.{Received}
 use Rattle.replica.specs.Steps.{Answer, silent, says}
 use Rattle.replica.specs.Receive.{refusal, step, Delivered, deliver, lengthOf, filled, receivedOf, spoken}
 use Rattle.replica.proofs.Spoken.{false-true, named-of}
 use Rattle.replica.proofs.Delivered.{Fine, cleared, step-fine, entries-of, refused-is, delivered-is}
+use Rattle.coordinator.specs.declared.Coordinator.{Coordinator}
 use Rattle.coordinator.specs.declared.Step.{Step}
 use Rattle.coordinator.specs.System.{tree}
 use Rattle.coordinator.specs.Receive.{receiveOf}
@@ -25,9 +27,16 @@ use Rattle.pool.specs.Pool.{count, waiting, messageAt, check}
 use Rattle.pool.specs.Change.{added, addAfter}
 use Rattle.pool.proofs.Numbers.{Room, fine, add-after}
 use Rattle.pool.proofs.Laws.{length-waiting, count-removed}
-use Rattle.record.specs.Record.{bytesOf}
+use Rattle.record.specs.declared.Called.{Called}
+use Rattle.clauses.specs.Clauses.{meets}
+use Rattle.record.specs.Record.{recordOf, bytesOf, givenOk}
+use Rattle.record.specs.Record.{check as checkRecord}
+use Rattle.record.specs.Call.{called, toldBy, calledOf, kept, recordAfter}
+use Rattle.record.specs.Call.{receivedOf as calledBy}
+use Rattle.record.proofs.OnBytes.{long-answer}
 use Rattle.station.specs.Station.{Station, putAt}
 use Rattle.station.specs.Step.{Outcome, refusedWith, answered, atReplica, atCoordinator}
+use Rattle.station.specs.Buffers.{recordAt, recordDamaged, recordFirst, handedOver}
 use Rattle.station.specs.Buffers.{imageAt, withImageAt, imageIn, withRecordAt, recordIn, stationOf, answerWith, told, recordsAfter, all, imagesAfter}
 use Rattle.station.specs.Buffers.{leaving, exchanged, putInto, blocked}
 use Rattle.station.proofs.Waiting.{there-of, check-leaving}
@@ -237,14 +246,14 @@ module _ (I R P O : List ℕ) (n k : ℕ) (kept : Bool) where
   abbrev got : Step
   got = receiveOf tree (recordIn R n) n (messageAt P k)
 
-  pub stopped-all : (s : Step) → s ≡ got → (s .number ≡ 0 → ⊥)
+  stopped-all : (s : Step) → s ≡ got → (s .number ≡ 0 → ⊥)
       → (answerWith (s .number) 0 ≡ told 0 there) × ((R ≡ recordsAfter 0 there n R) × (P ≡ exchanged 0 there k kept P))
   unfolding told recordsAfter exchanged atCoordinator
   stopped-all s i h =
       let e : eqb (got .number) 0 ≡ false = ap (λ (x : Step). eqb (x .number) 0) (sym i) ∙ ne-eqb (s .number) 0 h in
       (ap (λ (x : Step). answerWith (x .number) 0) i ∙ simp e, (simp e, simp e))
 
-  pub heard-all : (s : Step) → s ≡ got → s .number ≡ 0
+  heard-all : (s : Step) → s ≡ got → s .number ≡ 0
       → (answerWith 0 (s .answer) ≡ told 0 there)
       × ((withRecordAt R n (bytesOf (s .coordinator)) ≡ recordsAfter 0 there n R) × (leaving P k kept ≡ exchanged 0 there k kept P))
   unfolding told recordsAfter exchanged atCoordinator putInto putAt
@@ -263,3 +272,121 @@ module _ (I R P O : List ℕ) (n k : ℕ) (kept : Bool) where
       go : (t : Bool) → eqb (got .number) 0 ≡ t → I ≡ imagesAfter 0 there n I
       go true e = simp e (sym (ap (withImageAt I n) (image-in I n h) ∙ image-same I n))
       go false e = simp e
+
+  -- whatever the record's number is
+  pub images-first : n < 13 → (j : ℕ) → I ≡ imagesAfter j there n I
+  unfolding imagesAfter
+  images-first h j = by (eqb j 0) refl
+    where
+      by : (b : Bool) → eqb j 0 ≡ b → I ≡ imagesAfter j there n I
+      by true e = subst (λ (i : ℕ). I ≡ imagesAfter i there n I) (sym (eqb-true j 0 e)) (images-kept h)
+      by false e = simp e
+
+-- ---- a coordinator that works on its record's bytes: damaged bytes are refused, else the call decides
+pub length-record : (R : List ℕ) (n : ℕ) → n < 13 → length R ≡ 3913 → length (recordAt R n) ≡ 301
+unfolding recordAt
+length-record R n h e = length-part 301 (301 * n) R (omega arith)
+
+record-same : (R : List ℕ) (n : ℕ) → withRecordAt R n (recordAt R n) ≡ R
+unfolding withRecordAt recordAt
+record-same R n = splice-same 301 (301 * n) R
+
+two : (a b : Bool) → a ≡ true → (_≡_ {A = ℕ} (cond a (cond b 0 2) 1) 0 → ⊥) → _≡_ {A = ℕ} (cond a (cond b 0 2) 1) 2
+two true true e h = absurd (h refl)
+two true false e h = refl
+two false b e h = absurd (false-true e)
+
+-- bytes of a record's length that are none are damaged
+damaged-two : (l : List ℕ) → length l ≡ 301 → (checkRecord l ≡ 0 → ⊥) → checkRecord l ≡ 2
+unfolding checkRecord
+damaged-two l e h = two (eqb (length l) 301) (givenOk 8 l && meets tree (recordOf l)) (eq-eqb (length l) 301 e) h
+
+module _ (I R P O : List ℕ) (n k : ℕ) (stays : Bool) (h : n < 13) (long : length R ≡ 3913) (well : checkOf (messageAt P k) ≡ 0) where
+  abbrev f : Coordinator → Step
+  f c = receiveOf tree c n (messageAt P k)
+
+  abbrev l : List ℕ
+  l = recordAt R n
+
+  abbrev place : Outcome
+  place = atCoordinator (stationOf (all I R P O)) k stays n (messageAt P k)
+
+  abbrev by-value : Step
+  by-value = f (recordIn R n)
+
+  -- the message is one, so only the record's bytes can be refused before the call
+  asked : calledBy n (messageAt P k) l ≡ calledOf f l
+  asked = sym (long-answer n (messageAt P k) l (let z : checkOf (messageAt P k) ≡ 1 → ⊥ = (λ e. omega arith) in ne-eqb (checkOf (messageAt P k)) 1 z))
+
+  here : recordIn R n ≡ recordOf l
+  unfolding recordIn
+  here = simp (lt-ltb n 13 h)
+
+  -- the bytes are a record, or they are damaged
+  sound-bytes : checkRecord l ≡ 0
+      → (recordFirst R n ≡ 0) × ((calledBy n (messageAt P k) l ≡ toldBy by-value) × (recordAfter f l ≡ kept by-value l))
+  unfolding recordDamaged calledOf recordAfter
+  sound-bytes e =
+      let t = eq-eqb (checkRecord l) 0 e in
+      (simp (lt-ltb n 13 h, t), (asked ∙ simp t (ap (λ (c : Coordinator). toldBy (f c)) (sym here)), simp t (ap (λ (c : Coordinator). kept (f c) l) (sym here))))
+
+  broken-bytes : (checkRecord l ≡ 0 → ⊥) → (recordFirst R n ≡ 2) × ((calledBy n (messageAt P k) l ≡ called 2 0) × (recordAfter f l ≡ l))
+  unfolding recordDamaged calledOf recordAfter
+  broken-bytes e =
+      let t = ne-eqb (checkRecord l) 0 e in
+      let d = damaged-two l (length-record R n h long) e in
+      (simp (lt-ltb n 13 h, t), (asked ∙ simp t (ap (λ (j : ℕ). called j 0) d), simp t))
+
+  pub away : (s : Called) → s ≡ calledBy n (messageAt P k) l → (s .number ≡ 0 → ⊥)
+      → (answerWith (s .number) 0 ≡ told (recordFirst R n) place)
+      × ((handedOver R P n k ≡ recordsAfter (recordFirst R n) place n R) × (P ≡ exchanged (recordFirst R n) place k stays P))
+  unfolding told recordsAfter exchanged kept
+  away s i z = by (eqb (checkRecord l) 0) refl
+    where
+      by : (b : Bool) → eqb (checkRecord l) 0 ≡ b
+          → (answerWith (s .number) 0 ≡ told (recordFirst R n) place)
+          × ((handedOver R P n k ≡ recordsAfter (recordFirst R n) place n R) × (P ≡ exchanged (recordFirst R n) place k stays P))
+      by true e =
+          let g = sound-bytes (eqb-true (checkRecord l) 0 e) in
+          let same = i ∙ g .1 .0 in
+          let no : by-value .number ≡ 0 → ⊥ = λ q. z (ap (λ (x : Called). x .number) same ∙ q) in
+          let w = stopped-all I R P O n k stays by-value refl no in (
+            ap (λ (x : Called). answerWith (x .number) 0) same ∙ w .0 ∙ ap (λ (j : ℕ). told j place) (sym (g .0)),
+            (
+              ap (withRecordAt R n) (g .1 .1 ∙ simp (ne-eqb (by-value .number) 0 no)) ∙ record-same R n ∙ w .1 .0
+                  ∙ ap (λ (j : ℕ). recordsAfter j place n R) (sym (g .0)),
+              w .1 .1 ∙ ap (λ (j : ℕ). exchanged j place k stays P) (sym (g .0)),
+            ),
+          )
+      by false e =
+          let g = broken-bytes (eqb-false (checkRecord l) 0 e) in (
+            ap (λ (x : Called). answerWith (x .number) 0) (i ∙ g .1 .0) ∙ ap (λ (j : ℕ). told j place) (sym (g .0)),
+            (
+              ap (withRecordAt R n) (g .1 .1) ∙ record-same R n ∙ ap (λ (j : ℕ). recordsAfter j place n R) (sym (g .0)),
+              ap (λ (j : ℕ). exchanged j place k stays P) (sym (g .0)),
+            ),
+          )
+
+  pub heard : (s : Called) → s ≡ calledBy n (messageAt P k) l → s .number ≡ 0
+      → (answerWith 0 (s .answer) ≡ told (recordFirst R n) place)
+      × ((handedOver R P n k ≡ recordsAfter (recordFirst R n) place n R) × (leaving P k stays ≡ exchanged (recordFirst R n) place k stays P))
+  unfolding kept
+  heard s i z = by (eqb (checkRecord l) 0) refl
+    where
+      by : (b : Bool) → eqb (checkRecord l) 0 ≡ b
+          → (answerWith 0 (s .answer) ≡ told (recordFirst R n) place)
+          × ((handedOver R P n k ≡ recordsAfter (recordFirst R n) place n R) × (leaving P k stays ≡ exchanged (recordFirst R n) place k stays P))
+      by true e =
+          let g = sound-bytes (eqb-true (checkRecord l) 0 e) in
+          let same = i ∙ g .1 .0 in
+          let yes : by-value .number ≡ 0 = sym (ap (λ (x : Called). x .number) same) ∙ z in
+          let w = heard-all I R P O n k stays by-value refl yes in (
+            ap (λ (x : Called). answerWith 0 (x .answer)) same ∙ w .0 ∙ ap (λ (j : ℕ). told j place) (sym (g .0)),
+            (
+              ap (withRecordAt R n) (g .1 .1 ∙ simp (eq-eqb (by-value .number) 0 yes)) ∙ w .1 .0 ∙ ap (λ (j : ℕ). recordsAfter j place n R) (sym (g .0)),
+              w .1 .1 ∙ ap (λ (j : ℕ). exchanged j place k stays P) (sym (g .0)),
+            ),
+          )
+      by false e =
+          let g = broken-bytes (eqb-false (checkRecord l) 0 e) in
+          absurd (let q : _≡_ {A = ℕ} 2 0 = sym (ap (λ (x : Called). x .number) (i ∙ g .1 .0)) ∙ z in omega arith)

@@ -18,9 +18,11 @@ use Rattle.replica.specs.Receive.{Delivered, deliver, spoken}
 use Rattle.coordinator.specs.declared.Coordinator.{Coordinator}
 use Rattle.coordinator.specs.declared.Step.{Step}
 use Rattle.coordinator.specs.State.{thirteen, everyNode, blankRecord}
-use Rattle.coordinator.specs.Receive.{forReplica}
+use Rattle.coordinator.specs.System.{tree}
+use Rattle.coordinator.specs.Receive.{forReplica, receiveOf}
 use Rattle.record.specs.Layout.{recordSize}
 use Rattle.record.specs.Record.{recordOf, bytesOf, check}
+use Rattle.record.specs.Call.{recordAfter}
 use Rattle.pool.specs.Pool.{poolSize, slots, count, messageAt, waiting}
 use Rattle.pool.specs.Pool.{check as checkPool}
 use Rattle.pool.specs.Change.{added, addAfter, removed}
@@ -82,6 +84,10 @@ ownDamaged l = ltb everyNode (onOf l)
 
 unfoldable pub recordDamaged : List ℕ → ℕ → Bool
 recordDamaged l n = ltb n thirteen && not (eqb (check (recordAt l n)) 0)
+
+-- and its number
+abbrev pub recordFirst : List ℕ → ℕ → ℕ
+recordFirst l n = cond (recordDamaged l n) damaged 0
 
 -- ---- what the caller is told: the buffers' number, else the step's own number and answer
 abbrev pub answerWith : ℕ → ℕ → Answer
@@ -207,6 +213,11 @@ handed size images pool n k = deliver size (imageAt images n) n (messageAt pool 
 abbrev pub imagesHanded : ℕ → List ℕ → List ℕ → ℕ → ℕ → List ℕ
 imagesHanded size images pool n k = withImageAt images n (handed size images pool n k .image)
 
+-- the records with what a coordinator leaves of its own
+abbrev pub handedOver : List ℕ → List ℕ → ℕ → ℕ → List ℕ
+handedOver records pool n k =
+    withRecordAt records n (recordAfter (λ (c : Coordinator). receiveOf tree c n (messageAt pool k)) (recordAt records n))
+
 -- the pool with an answer, if there is one, at its end
 abbrev pub answeredBy : List ℕ → List ℕ → List ℕ
 answeredBy pool m = cond (ltb 0 (length m)) (addAfter pool m) pool
@@ -244,11 +255,14 @@ replicaImages b n k kept = imagesAfter 0 (replicaAt b n k kept) n (b .images)
 abbrev pub replicaPool : Buffers → ℕ → ℕ → Bool → List ℕ
 replicaPool b n k kept = exchanged 0 (replicaAt b n k kept) k kept (b .pool)
 
+abbrev pub coordinatorTold : Buffers → ℕ → ℕ → Bool → Answer
+coordinatorTold b n k kept = told (recordFirst (b .records) n) (coordinatorAt b n k kept)
+
 abbrev pub coordinatorRecords : Buffers → ℕ → ℕ → Bool → List ℕ
-coordinatorRecords b n k kept = recordsAfter 0 (coordinatorAt b n k kept) n (b .records)
+coordinatorRecords b n k kept = recordsAfter (recordFirst (b .records) n) (coordinatorAt b n k kept) n (b .records)
 
 abbrev pub coordinatorPool : Buffers → ℕ → ℕ → Bool → List ℕ
-coordinatorPool b n k kept = exchanged 0 (coordinatorAt b n k kept) k kept (b .pool)
+coordinatorPool b n k kept = exchanged (recordFirst (b .records) n) (coordinatorAt b n k kept) k kept (b .pool)
 
 -- ---- a blank station made: 1 another length, 4 a mask that names what is no node
 -- the first n parts of a width are m

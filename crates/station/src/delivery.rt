@@ -3,18 +3,16 @@ ghost use mathlib.Core.Path.{_≡_};
 ghost use mathlib.Core.List.{List};
 ghost use Prim.Native.Nat.{ℕ, _<_};
 ghost use lib.ListN.{length};
-ghost use Rattle.pool.specs.Pool.{count};
+ghost use Rattle.wire.specs.Decode.{checkOf};
+ghost use Rattle.pool.specs.Pool.{count, messageAt};
 ghost use Rattle.pool.specs.Pool.{check as checkPool};
-ghost use Rattle.station.specs.Buffers.{all, replicaAt, replicaImages, replicaPool, coordinatorAt, coordinatorRecords, coordinatorPool, told, lower};
+ghost use Rattle.station.specs.Buffers.{all, replicaAt, replicaImages, replicaPool, coordinatorTold, coordinatorRecords, coordinatorPool, told, lower};
 ghost use Rattle.station.specs.Buffers.{lengthsNumber, ownNumber};
 ghost use Rattle.station.specs.Buffers.{blocked, deliveryTold, deliveryImages, deliveryRecords, deliveryPool};
 use crate::Answer;
 use crate::IMAGES;
 use crate::RECORDS;
-use crate::common::is_damaged;
 use crate::common::on;
-use crate::common::put_record;
-use crate::common::record_of;
 use crate::common::refused;
 use crate::common::wide;
 use crate::messages::exchange;
@@ -75,19 +73,17 @@ fn at_replica(images: &mut [u8], pool: &mut [u8], node: u8, k: u8, kept: bool) -
     refused(0)
 }
 
-// At a coordinator: refused, or its record written back.
+// At a coordinator: refused, also where its record is damaged, or its record changed.
 fn at_coordinator(records: &mut [u8], pool: &mut [u8], node: u8, k: u8, kept: bool) -> Answer
-    requires { ⌜ (length (now records) ≡ 3913) × (node < 13) × (checkPool (now pool) ≡ 0) × (k < count (now pool)) ⌝ }
-    ensures { λ r. ⌜ ((I O : List ℕ) → r ≡ told 0 (coordinatorAt (all I (now (records .entry)) (now (pool .entry)) O) node k kept)) ⌝ }
+    requires { ⌜ (length (now records) ≡ 3913) × (node < 13) × (checkPool (now pool) ≡ 0) × (k < count (now pool)) × (checkOf (messageAt (now pool) k) ≡ 0) ⌝ }
+    ensures { λ r. ⌜ ((I O : List ℕ) → r ≡ coordinatorTold (all I (now (records .entry)) (now (pool .entry)) O) node k kept) ⌝ }
     ensures { λ r. ⌜ ((I O : List ℕ) → now (records .exit) ≡ coordinatorRecords (all I (now (records .entry)) (now (pool .entry)) O) node k kept) ⌝ }
     ensures { λ r. ⌜ ((I O : List ℕ) → now (pool .exit) ≡ coordinatorPool (all I (now (records .entry)) (now (pool .entry)) O) node k kept) ⌝ }
 {
-    let s = hand_over(record_of(records, node), pool, node, k);
+    let s = hand_over(records, pool, node, k);
     if s.number != 0 {
         return refused(s.number);
     }
-    let c = s.coordinator;
-    put_record(records, node, c);
     take_out(pool, k, kept);
     Answer {
         number: 0,
@@ -125,9 +121,6 @@ pub fn deliver(
     }
     if is_for_replica(pool, k) {
         return at_replica(images, pool, node, k, kept);
-    }
-    if is_damaged(records, node) {
-        return refused(numbers::DAMAGED);
     }
     at_coordinator(records, pool, node, k, kept)
 }

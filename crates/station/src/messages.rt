@@ -6,15 +6,14 @@ ghost use Prim.Native.Nat.{_<_};
 ghost use lib.Dec.{ltb};
 ghost use lib.ListN.{length};
 ghost use Rattle.wire.specs.Decode.{kindOf, toOf, checkOf, longest};
-ghost use Rattle.coordinator.specs.System.{tree};
-ghost use Rattle.coordinator.specs.Receive.{forReplica, receiveOf};
+ghost use Rattle.coordinator.specs.Receive.{forReplica};
+ghost use Rattle.record.specs.Call.{receivedOf as calledBy};
 ghost use Rattle.replica.specs.Receive.{receivedOf, bufferOf, spoken};
 ghost use Rattle.pool.specs.Pool.{check, count, messageAt};
-ghost use Rattle.station.specs.Buffers.{imageAt, handed, imagesHanded, answeredBy, leaving};
+ghost use Rattle.station.specs.Buffers.{imageAt, recordAt, handed, imagesHanded, handedOver, answeredBy, leaving};
 use crate::common::wide;
-use coordinator::Coordinator;
-use coordinator::Step;
 use numbers::either;
+use record::Called;
 use replica::Received;
 
 // The number of a waiting message: 5 where none waits, 1 or 3 where what waits is no message.
@@ -81,14 +80,17 @@ pub(crate) fn hand(images: &mut [u8], pool: &[u8], node: u8, k: u8, answer: &mut
     replica::receive(&mut images[first..last], node, &pool[start..end], answer)
 }
 
-// Hands it to a coordinator.
-pub(crate) fn hand_over(c: Coordinator, pool: &[u8], node: u8, k: u8) -> Step
-    requires { ⌜ (check (now pool) ≡ 0) × (k < count (now pool)) ⌝ }
-    ensures { λ r. ⌜ r ≡ receiveOf tree c node (messageAt (now (pool .entry)) k) ⌝ }
+// Hands it to a coordinator, whose record is lent onward from the middle of the records.
+pub(crate) fn hand_over(records: &mut [u8], pool: &[u8], node: u8, k: u8) -> Called
+    requires { ⌜ (length (now records) ≡ 3913) × (node < 13) × (check (now pool) ≡ 0) × (k < count (now pool)) ⌝ }
+    ensures number { λ r. ⌜ r ≡ calledBy node (messageAt (now (pool .entry)) k) (recordAt (now (records .entry)) node) ⌝ }
+    ensures records { λ r. ⌜ now (records .exit) ≡ handedOver (now (records .entry)) (now (pool .entry)) node k ⌝ }
 {
+    let first = record::SIZE * wide(node);
+    let last = first + record::SIZE;
     let start = pool::place(k);
     let end = start + pool::length(pool, k);
-    coordinator::receive(c, node, &pool[start..end])
+    record::receive(&mut records[first..last], node, &pool[start..end])
 }
 
 // It is gone, unless it is kept.

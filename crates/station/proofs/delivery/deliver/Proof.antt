@@ -8,8 +8,7 @@ use Rattle.mask.specs.Mask.{contains}
 use Rattle.wire.specs.Decode.{toOf}
 use Rattle.pool.specs.Pool.{messageAt}
 use Rattle.station.specs.Buffers.{Buffers, onOf, recordDamaged, answerWith, all, buffersNumber}
-use Rattle.station.proofs.Arriving.{buffers-are, Sized, sized, Waits, waits-of, receiver-node, bad-buffers, no-message, off, at-replica, bad-record}
-use Rattle.station.proofs.Arriving.{at-coordinator}
+use Rattle.station.proofs.Arriving.{buffers-are, Sized, sized, Waits, waits-of, receiver-node, bad-buffers, no-message, off, at-replica, at-coordinator}
 use borrow.Author.Needs.{needs}
 use Rattle.station.proofs.delivery.deliver.Statement.{statement}
 use Rattle.station.proofs.delivery.deliver.Tie as tie
@@ -177,21 +176,18 @@ returns-4 c =
     at-replica I R P O (x .k) (x .kept) z (w .message) (w .well) u (sym (c6 .before .before .is-for-replica .ensures) ∙ c6 .before .if4 .taken) _ n _ _ _
     (t .0 R O, (t .1 .0 R O, t .1 .1 R O))
 
-is-damaged-requires : tie.Need-is-damaged-requires
-is-damaged-requires c κs =
-    let c6 = c .before .before .before .before .before .before in
-    let c12 = c6 .before .before .before .before .before .before in
-    let c18 = c12 .before .before .before .before .before .before in
-    let x = c18 .before .args in
+at-coordinator-requires : tie.Need-at-coordinator-requires
+at-coordinator-requires c κs =
+    let x = c .before .before .before .before .before .before .before .before .before .before .before .before .before .before .before .before .before .before .before .before .args in
     let I = now (x .images) in
     let R = now (x .records) in
     let P = now (x .pool) in
     let O = now (x .own) in
-    let z : buffersNumber (all I R P O) ≡ 0 = buffers-are I R P O ∙ sym (c12 .before .buffers-number .ensures) ∙ c12 .if1 .left in
-    sized I R P O z .records
-
-refused-requires-4 : tie.Need-refused-requires-4
-refused-requires-4 c κs = search needs
+    let z : buffersNumber (all I R P O) ≡ 0 = buffers-are I R P O ∙ sym (c .before .before .before .before .before .before .before .before .before .before .before .before .before .before .buffers-number .ensures) ∙ c .before .before .before .before .before .before .before .before .before .before .before .before .before .if1 .left in
+    let w = waits-of P (x .k) (sym (c .before .before .before .before .before .before .before .before .before .before .before .message-number .ensures) ∙ c .before .before .before .before .before .before .before .before .before .before .if2 .left) in
+    let n = c .before .before .before .before .before .before .before .before .receiver .ensures in
+    let s = sized I R P O z in
+    (s .records, subst (λ (y : ℕ). y < 13) (sym n) (receiver-node (messageAt P (x .k)) (w .well)), s .pool, w .message, w .well)
 
 same-length-6 : tie.Need-same-length-6
 same-length-6 c = search needs
@@ -201,69 +197,19 @@ same-length-7 c = search needs
 
 returns-5 : tie.Need-returns-5
 returns-5 c =
-    let c6 = c .before .before .before .before .before .before in
-    let c12 = c6 .before .before .before .before .before .before in
-    let c18 = c12 .before .before .before .before .before .before in
-    let x = c18 .before .before .before .before .args in
+    let x = c .before .before .before .before .before .before .before .before .before .before .before .before .before .before .before .before .before .before .before .before .before .before .before .before .before .args in
     let I = now (x .images) in
     let R = now (x .records) in
     let P = now (x .pool) in
     let O = now (x .own) in
-    let z : buffersNumber (all I R P O) ≡ 0 = buffers-are I R P O ∙ sym (c12 .before .before .before .before .buffers-number .ensures)
-    ∙ c12 .before .before .before .if1 .left in
-    let w = waits-of P (x .k) (sym (c12 .before .message-number .ensures) ∙ c12 .if2 .left) in
-    let n = c6 .before .before .before .before .receiver .ensures in
+    let z : buffersNumber (all I R P O) ≡ 0 = buffers-are I R P O ∙ sym (c .before .before .before .before .before .before .before .before .before .before .before .before .before .before .before .before .before .before .before .buffers-number .ensures) ∙ c .before .before .before .before .before .before .before .before .before .before .before .before .before .before .before .before .before .before .if1 .left in
+    let w = waits-of P (x .k) (sym (c .before .before .before .before .before .before .before .before .before .before .before .before .before .before .before .before .message-number .ensures) ∙ c .before .before .before .before .before .before .before .before .before .before .before .before .before .before .before .if2 .left) in
+    let n = c .before .before .before .before .before .before .before .before .before .before .before .before .before .receiver .ensures in
     let u : contains (onOf O) (toOf (messageAt P (x .k))) ≡ true =
-    ap₂ contains (sym (c6 .before .before .before .on .ensures)) (sym n) ∙ sym (c6 .before .before .has .ensures) ∙ not-false _ (c6 .before .if3 .left) in
-    let b = bad-record I R P O (x .k) (x .kept) z (w .message) (w .well) u
-    (sym (c .before .before .before .before .before .is-for-replica .ensures) ∙ c .before .before .before .before .if4 .left) _ n
-    (sym (c .before .before .is-damaged .ensures) ∙ c .before .if5 .taken) in
-    (c .refused4 .ensures ∙ b .0, b .1)
-
-at-coordinator-requires : tie.Need-at-coordinator-requires
-at-coordinator-requires c κs =
-    let c6 = c .before .before .before .before .before .before in
-    let c12 = c6 .before .before .before .before .before .before in
-    let c18 = c12 .before .before .before .before .before .before in
-    let x = c18 .before .before .before .before .before .args in
-    let I = now (x .images) in
-    let R = now (x .records) in
-    let P = now (x .pool) in
-    let O = now (x .own) in
-    let z : buffersNumber (all I R P O) ≡ 0 = buffers-are I R P O ∙ sym (c12 .before .before .before .before .before .buffers-number .ensures)
-    ∙ c12 .before .before .before .before .if1 .left in
-    let w = waits-of P (x .k) (sym (c12 .before .before .message-number .ensures) ∙ c12 .before .if2 .left) in
-    let n = c6 .before .before .before .before .before .receiver .ensures in
-    let s = sized I R P O z in
-    (s .records, subst (λ (y : ℕ). y < 13) (sym n) (receiver-node (messageAt P (x .k)) (w .well)), s .pool, w .message)
-
-same-length-8 : tie.Need-same-length-8
-same-length-8 c = search needs
-
-same-length-9 : tie.Need-same-length-9
-same-length-9 c = search needs
-
-returns-6 : tie.Need-returns-6
-returns-6 c =
-    let c6 = c .before .before .before .before .before .before in
-    let c12 = c6 .before .before .before .before .before .before in
-    let c18 = c12 .before .before .before .before .before .before in
-    let c24 = c18 .before .before .before .before .before .before in
-    let x = c24 .before .before .before .before .args in
-    let I = now (x .images) in
-    let R = now (x .records) in
-    let P = now (x .pool) in
-    let O = now (x .own) in
-    let z : buffersNumber (all I R P O) ≡ 0 = buffers-are I R P O ∙ sym (c18 .before .before .before .before .buffers-number .ensures)
-    ∙ c18 .before .before .before .if1 .left in
-    let w = waits-of P (x .k) (sym (c18 .before .message-number .ensures) ∙ c18 .if2 .left) in
-    let n = c12 .before .before .before .before .receiver .ensures in
-    let u : contains (onOf O) (toOf (messageAt P (x .k))) ≡ true =
-    ap₂ contains (sym (c12 .before .before .before .on .ensures)) (sym n) ∙ sym (c12 .before .before .has .ensures) ∙ not-false _ (c12 .before .if3 .left) in
+    ap₂ contains (sym (c .before .before .before .before .before .before .before .before .before .before .before .before .on .ensures)) (sym n) ∙ sym (c .before .before .before .before .before .before .before .before .before .before .before .has .ensures) ∙ not-false _ (c .before .before .before .before .before .before .before .before .before .before .if3 .left) in
     let t = c .before .before .before .before .at-coordinator .ensures in
     at-coordinator I R P O (x .k) (x .kept) z (w .message) (w .well) u
-    (sym (c6 .before .before .before .before .before .is-for-replica .ensures) ∙ c6 .before .before .before .before .if4 .left) _ n
-    (sym (c6 .before .before .is-damaged .ensures) ∙ c6 .before .if5 .left) _ _ _ (t .0 I O) (t .1 .0 I O) (t .1 .1 I O)
+    (sym (c .before .before .before .before .before .before .before .before .is-for-replica .ensures) ∙ c .before .before .before .before .before .before .before .if4 .left) _ n _ _ _ (t .0 I O) (t .1 .0 I O) (t .1 .1 I O)
 
 pub deliver-spec : {M : Type 1} → statement M
 deliver-spec =
@@ -289,12 +235,7 @@ deliver-spec =
     same-length-4
     same-length-5
     returns-4
-    is-damaged-requires
-    refused-requires-4
+    at-coordinator-requires
     same-length-6
     same-length-7
-    returns-5
-    at-coordinator-requires
-    same-length-8
-    same-length-9
-    returns-6)
+    returns-5)

@@ -1,15 +1,36 @@
--- `station::messages::hand_over`: the coordinator is lent the message.
-use mathlib.Core.Path.{_≡_, refl, sym, ap, _∙_}
-use Prim.Native.Nat.{ℕ, _+_, _≤_}
-use native.Mathlib.Omega.{arith}
+-- `station::messages::hand_over`: the record lent from the middle comes back as the coordinator leaves it.
+use mathlib.Core.Path.{_≡_, ap, ap₂, _∙_}
 use mathlib.Core.List.{List}
+use Prim.Native.Nat.{ℕ, _+_, _*_, _-_}
+use native.Mathlib.Omega.{arith}
 use denote.Ref.{now}
-use Rattle.station.proofs.Waiting.{message-lent, Inside, inside}
+use lib.ListN.{take, drop}
+use Rattle.parts.specs.Parts.{part, splice}
+use Rattle.parts.proofs.Laws.{lent}
+use Rattle.pool.specs.Pool.{messageAt}
+use Rattle.coordinator.specs.declared.Coordinator.{Coordinator}
 use Rattle.coordinator.specs.System.{tree}
 use Rattle.coordinator.specs.Receive.{receiveOf}
+use Rattle.record.specs.Call.{recordAfter}
+use Rattle.record.specs.Call.{receivedOf as calledBy}
+use Rattle.station.specs.Buffers.{recordAt, withRecordAt}
+use Rattle.station.proofs.Waiting.{message-lent, Inside, inside}
 use borrow.Author.Needs.{needs}
 use Rattle.station.proofs.messages.hand_over.Statement.{statement}
 use Rattle.station.proofs.messages.hand_over.Tie as tie
+
+record-lent : (R : List ℕ) (n w : ℕ) → 301 * w + 301 - 301 * w ≡ 301 → w ≡ n → take (301 * w + 301 - 301 * w) (drop (301 * w) R) ≡ recordAt R n
+unfolding recordAt part
+record-lent R n w e i = rw (e, i)
+
+wide-requires : tie.Need-wide-requires
+wide-requires c κs = search needs
+
+mul-first : tie.Need-mul-first
+mul-first c = search needs
+
+add-last : tie.Need-add-last
+add-last c = search needs
 
 place-requires : tie.Need-place-requires
 place-requires c κs = search needs
@@ -19,9 +40,8 @@ length-requires c κs = search needs
 
 add-end : tie.Need-add-end
 add-end c =
-    let x = c .before .before .before .args in
-    let i = inside (now (x .pool)) (x .k) _ _ (c .before .before .before .pre .0) (c .before .before .before .pre .1) (c .before .place .ensures)
-    (c .length .ensures) .ends in
+    let x = c .before .before .before .before .before .args in
+    let i = inside (now (x .pool)) (x .k) _ _ (c .before .before .before .before .before .pre .2) (c .before .before .before .before .before .pre .3) (c .before .place .ensures) (c .length .ensures) .ends in
     omega arith
 
 sub-receive : tie.Need-sub-receive
@@ -31,10 +51,18 @@ part-receive-start : tie.Need-part-receive-start
 part-receive-start c = search needs
 
 part-receive-end : tie.Need-part-receive-end
-part-receive-end c =
-    let x = c .before .before .before .args in
-    let i = inside (now (x .pool)) (x .k) _ _ (c .before .before .before .pre .0) (c .before .before .before .pre .1) (c .before .place .ensures)
-    (c .length .ensures) in
+part-receive-end c = search needs
+
+sub-receive-2 : tie.Need-sub-receive-2
+sub-receive-2 c = search needs
+
+part-receive-start-2 : tie.Need-part-receive-start-2
+part-receive-start-2 c = search needs
+
+part-receive-end-2 : tie.Need-part-receive-end-2
+part-receive-end-2 c =
+    let x = c .before .before .before .before .before .before .args in
+    let i = inside (now (x .pool)) (x .k) _ _ (c .before .before .before .before .before .before .pre .2) (c .before .before .before .before .before .before .pre .3) (c .before .before .place .ensures) (c .before .length .ensures) in
     let l = i .long in
     let e = i .ends in
     omega arith
@@ -42,21 +70,45 @@ part-receive-end c =
 receive-requires : tie.Need-receive-requires
 receive-requires c κs = search needs
 
+same-length : tie.Need-same-length
+same-length c = search needs
+
 returns : tie.Need-returns
+unfolding recordAt withRecordAt
 returns c =
-    let x = c .before .before .before .before .before .args in
-    c .receive .ensures ∙ ap (receiveOf tree (x .c) (x .node))
-    (message-lent (now (x .pool)) (x .k) _ _ (c .before .before .before .place .ensures) (c .before .before .length .ensures))
+    let x = c .before .before .before .before .before .before .before .before .before .before .args in
+    let R = now (x .records) in
+    let w = c .before .before .before .before .before .before .before .wide .result in
+    let e : 301 * w + 301 - 301 * w ≡ 301 = omega arith in
+    let i = c .before .before .before .before .before .before .before .wide .ensures in
+    let m = message-lent (now (x .pool)) (x .k) _ _ (c .before .before .before .before .before .before .place .ensures) (c .before .before .before .before .before .length .ensures) in
+    let s = c .before .before .before .before .before .before .place .result in
+    let n = c .before .before .before .before .before .length .result in
+    let b : List ℕ = take (s + n - s) (drop s (now (x .pool))) in
+    let t = c .before .before .receive .ensures in
+    let p : take (301 * w + 301 - 301 * w) (drop (301 * w) R) ≡ recordAt R (x .node) = record-lent R (x .node) w e i in (
+      t .0 ∙ ap₂ (λ (l b : List ℕ). calledBy (x .node) b l) p m,
+      lent (recordAfter (λ (d : Coordinator). receiveOf tree d (x .node) b)) 301 (301 * w) (301 * w + 301 - 301 * w) R _ e (t .1)
+          ∙ ap (λ (b : List ℕ). splice 301 (301 * w) (recordAfter (λ (d : Coordinator). receiveOf tree d (x .node) b) (part 301 (301 * w) R)) R) m
+          ∙ ap (λ (k : ℕ). splice 301 (301 * k) (recordAfter (λ (d : Coordinator). receiveOf tree d (x .node) (messageAt (now (x .pool)) (x .k))) (part 301 (301 * k) R)) R) i,
+    )
 
 pub hand-over-spec : {M : Type 1} → statement M
 hand-over-spec =
     tie.close
     (tie.spec
+    wide-requires
+    mul-first
+    add-last
     place-requires
     length-requires
     add-end
     sub-receive
     part-receive-start
     part-receive-end
+    sub-receive-2
+    part-receive-start-2
+    part-receive-end-2
     receive-requires
+    same-length
     returns)
