@@ -21,7 +21,8 @@ use Rattle.coordinator.specs.declared.Coordinator.{Coordinator}
 use Rattle.clauses.proofs.Parts.{by-test, true-T}
 use Rattle.clauses.proofs.Places.{at}
 use Rattle.clauses.proofs.Fits.{ObjectFits, Fits}
-use Rattle.record.specs.Record.{frontOf, quorumOf, votesOf, objectOf, distancesOf, objectsOf, rivalsOf, recordOf, objectBytes, frontBytes, quorumBytes, voteBytes, bytesOf, givenOk}
+use Rattle.record.specs.Record.{frontOf, quorumOf, votesOf}
+use Rattle.record.specs.Record.{objectOf, distancesOf, objectsOf, rivalsOf, recordOf, objectBytes, frontBytes, quorumBytes, voteBytes, bytesOf, givenOk}
 use Rattle.record.proofs.Made.{made-object, made-record}
 use Rattle.record.proofs.Stores.{length-object, length-front, length-quorum, length-votes}
 

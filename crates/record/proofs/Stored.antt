@@ -83,7 +83,8 @@ module _ (l : List ℕ) (b : Bytes l) (e : check l ≡ 0) where
       let n : ℕ = c .count + 1 in
       let d : Coordinator = withObjects c k n (c .objects) in
       ap (λ (m : List ℕ). sets (sets m 38 (quorumOf (c .quorum) k n)) (43 + 25 * c .count) (objectBytes (fresh object mode))) (sym (same-bytes l b e))
-      ∙ ap (λ (m : List ℕ). sets m (43 + 25 * c .count) (objectBytes (fresh object mode))) (quorum-changed c (z .distances-13) (z .objects-8) (z .rivals-13) k n)
+      ∙ ap (λ (m : List ℕ). sets m (43 + 25 * c .count) (objectBytes (fresh object mode))) (quorum-changed c (z .distances-13) (z .objects-8)
+      (z .rivals-13) k n)
       ∙ object-changed d (z .distances-13) (z .objects-8) (z .rivals-13) (c .count) (fresh object mode) h
 
   -- outcome and phase; who said done; the rivals
@@ -129,7 +130,8 @@ module _ (l : List ℕ) (b : Bytes l) (e : check l ≡ 0) where
     pub yes-commits : within (recordOf l .participants) (joined (recordOf l .yes) (only (fromOf m))) ≡ true
         → (called 0 1 ≡ toldBy (yesTaken (recordOf l) m))
         × (set
-        (set (put 2 (bytesOf (withRivals (recordOf l) (raiseFrom m (rivalCount m) 0 (recordOf l .rivals)))) 245 (joined (recordOf l .yes) (only (fromOf m)))) 8 1)
+        (set (put 2 (bytesOf (withRivals (recordOf l) (raiseFrom m (rivalCount m) 0 (recordOf l .rivals)))) 245 (joined (recordOf l .yes) (only
+        (fromOf m)))) 8 1)
         9 3 ≡ bytesOf (yesTaken (recordOf l) m .coordinator))
     unfolding withYes
     yes-commits t =

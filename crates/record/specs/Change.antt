@@ -12,6 +12,10 @@ use Rattle.coordinator.specs.Receive.{raiseFrom, withYes}
 abbrev pub withRivals : Coordinator → List ℕ → Coordinator
 withRivals c rivals = withPhase c (c .phase) (c .outcome) (c .participants) (c .yes) (c .done) rivals
 
+-- the serials with every rival that a message names
+abbrev pub raisedBy : Coordinator → List ℕ → List ℕ
+raisedBy c m = raiseFrom m (rivalCount m) 0 (c .rivals)
+
 -- a yes that fits
 abbrev pub yesTaken : Coordinator → List ℕ → Step
-yesTaken c m = withYes c (joined (c .yes) (only (fromOf m))) (raiseFrom m (rivalCount m) 0 (c .rivals))
+yesTaken c m = withYes c (joined (c .yes) (only (fromOf m))) (raisedBy c m)

@@ -6,10 +6,9 @@ ghost use lib.ListN.{length, set};
 ghost use Rattle.coordinator.specs.System.{tree};
 ghost use Rattle.coordinator.specs.State.{idleAfter};
 ghost use Rattle.coordinator.specs.Calls.{endedAborted};
-ghost use Rattle.wire.specs.Decode.{rivalCount};
-ghost use Rattle.coordinator.specs.Receive.{answers, copyFits, copyTaken, raiseFrom, voteTaken, doneTaken, yieldTaken, delivered, receiveOf};
+ghost use Rattle.coordinator.specs.Receive.{answers, copyFits, copyTaken, voteTaken, doneTaken, yieldTaken, delivered, receiveOf};
 ghost use Rattle.record.specs.Layout.{outcomePlace, phasePlace};
-ghost use Rattle.record.specs.Change.{withRivals, yesTaken};
+ghost use Rattle.record.specs.Change.{withRivals, raisedBy, yesTaken};
 ghost use Rattle.record.specs.Record.{recordOf, bytesOf, check};
 ghost use Rattle.record.specs.Call.{toldBy, kept};
 use crate::CONTACTED;
@@ -126,8 +125,8 @@ pub(crate) fn end_aborted(bytes: &mut [u8])
 // The rivals that a message names, each with the highest serial.
 fn raise_rivals(bytes: &mut [u8], m: &[u8])
     requires { ⌜ check (now bytes) ≡ 0 ⌝ }
-    ensures { λ r. ⌜ now (bytes .exit) ≡ bytesOf (withRivals (recordOf (now (bytes .entry))) (raiseFrom (now (m .entry)) (rivalCount (now (m .entry))) 0 ((recordOf (now (bytes .entry))) .rivals))) ⌝ }
-    ensures { λ r. ⌜ length (raiseFrom (now (m .entry)) (rivalCount (now (m .entry))) 0 ((recordOf (now (bytes .entry))) .rivals)) ≡ 13 ⌝ }
+    ensures { λ r. ⌜ now (bytes .exit) ≡ bytesOf (withRivals (recordOf (now (bytes .entry))) (raisedBy (recordOf (now (bytes .entry))) (now (m .entry)))) ⌝ }
+    ensures { λ r. ⌜ length (raisedBy (recordOf (now (bytes .entry))) (now (m .entry))) ≡ 13 ⌝ }
 {
     if wire::rivals(m) == 0 {
         return;

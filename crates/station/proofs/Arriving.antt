@@ -21,7 +21,8 @@ use Rattle.pool.proofs.Laws.{length-waiting, getD-waiting}
 use Rattle.station.specs.declared.Answer.{Answer}
 use Rattle.station.specs.Station.{Station, putAt}
 use Rattle.station.specs.Step.{delivery, Outcome, refusedWith, atReplica, atCoordinator, arriving, deliveryOf, step}
-use Rattle.station.specs.Buffers.{Buffers, wrong, lower, lengthsNumber, ownNumber, onOf, recordDamaged, recordFirst, stationOf, answerWith, told, recordsAfter}
+use Rattle.station.specs.Buffers.{Buffers, wrong, lower, lengthsNumber, ownNumber, onOf, recordDamaged}
+use Rattle.station.specs.Buffers.{recordFirst, stationOf, answerWith, told, recordsAfter}
 use Rattle.station.specs.Buffers.{all, buffersNumber, messageIn, reaches}
 use Rattle.station.specs.Buffers.{withImageAt, deliveryFirst, deliveryTold, imagesAfter, deliveryImages, deliveryRecords, leaving, exchanged}
 use Rattle.station.specs.Buffers.{putInto, deliveryPool}

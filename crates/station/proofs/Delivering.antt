@@ -327,8 +327,14 @@ module _ (I R P O : List ℕ) (n k : ℕ) (stays : Bool) (h : n < 13) (long : le
       → (recordFirst R n ≡ 0) × ((calledBy n (messageAt P k) l ≡ toldBy by-value) × (recordAfter f l ≡ kept by-value l))
   unfolding recordDamaged calledOf recordAfter
   sound-bytes e =
-      let t = eq-eqb (checkRecord l) 0 e in
-      (simp (lt-ltb n 13 h, t), (asked ∙ simp t (ap (λ (c : Coordinator). toldBy (f c)) (sym here)), simp t (ap (λ (c : Coordinator). kept (f c) l) (sym here))))
+      let t = eq-eqb (checkRecord l) 0 e in (
+        simp (lt-ltb n 13 h, t),
+        (
+          asked ∙ simp t (ap (λ (c : Coordinator). toldBy (f c)) (sym here)),
+          simp t (ap (λ (c : Coordinator). kept (f c) l)
+              (sym here)),
+        ),
+      )
 
   broken-bytes : (checkRecord l ≡ 0 → ⊥) → (recordFirst R n ≡ 2) × ((calledBy n (messageAt P k) l ≡ called 2 0) × (recordAfter f l ≡ l))
   unfolding recordDamaged calledOf recordAfter

@@ -14,14 +14,24 @@ refused-requires c κs = search needs
 
 returns : tie.Need-returns
 unfolding receiveOf
-returns c = simp (c .refused .ensures, sym (c .before .before .receive-number .ensures (c .before .before .before .before .args .c)), ne-eqb _ 0 (c .before .if1 .taken))
+returns c = simp (
+  c .refused .ensures,
+  sym (c .before .before .receive-number .ensures (c .before .before .before .before .args .c)),
+  ne-eqb _ 0
+      (c .before .if1 .taken),
+)
 
 deliver-requires : tie.Need-deliver-requires
 deliver-requires c κs = search needs
 
 returns-2 : tie.Need-returns-2
 unfolding receiveOf
-returns-2 c = simp (c .deliver .ensures, sym (c .before .before .receive-number .ensures (c .before .before .before .before .args .c)), eq-eqb _ 0 (c .before .if1 .left))
+returns-2 c = simp (
+  c .deliver .ensures,
+  sym (c .before .before .receive-number .ensures (c .before .before .before .before .args .c)),
+  eq-eqb _ 0
+      (c .before .if1 .left),
+)
 
 pub receive-spec : {M : Type 1} → statement M
 receive-spec =

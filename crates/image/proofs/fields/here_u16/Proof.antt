@@ -48,7 +48,8 @@ returns : tie.Need-returns
 returns c =
     let x = c .before .before .before .before .args in
     let p = c .before .before .place in
-    read-at (x .f) (now (x .image)) (x .i) 2 (p .result) (c .before .before .before .before .pre .1) (p .ensures) _ (sym (get-two (now (x .image)) (p .result)))
+    read-at (x .f) (now (x .image)) (x .i) 2 (p .result) (c .before .before .before .before .pre .1) (p .ensures) _ (sym (get-two (now (x .image))
+    (p .result)))
 
 pub here-u16-spec : {M : Type 1} → statement M
 here-u16-spec =

@@ -26,8 +26,10 @@ same-length c = search needs
 returns : tie.Need-returns
 unfolding written recordOf idleAfter
 returns c =
-    let full = eq-eqb (length (now (c .before .before .before .before .before .before .before .before .before .before .args .bytes))) 301 (c .before .before .before .before .before .before .before .before .before .before .pre) in
-    rw (c .before .before .write .ensures) (simp (full, c .before .before .before .before .before .before .before .before .blank .ensures, c .before .before .before .before .get-u322 .ensures, c .before .before .before .before .before .before .get-u32 .ensures))
+    let c4 = c .before .before .before .before in
+    let c8 = c4 .before .before .before .before in
+    let full = eq-eqb (length (now (c8 .before .before .args .bytes))) 301 (c8 .before .before .pre) in
+    rw (c .before .before .write .ensures) (simp (full, c8 .blank .ensures, c4 .get-u322 .ensures, c4 .before .before .get-u32 .ensures))
 
 pub become-idle-spec : {M : Type 1} → statement M
 become-idle-spec =

@@ -25,7 +25,9 @@ same-length c = search needs
 
 returns : tie.Need-returns
 unfolding endedAborted
-returns c = rw (c .before .before .become-idle .ensures) (simp (eq-eqb _ 0 (sym (c .before .before .before .before .before .awaited-in .ensures) ∙ c .before .before .before .before .if1 .taken)))
+returns c =
+    let c4 = c .before .before .before .before in
+    rw (c .before .before .become-idle .ensures) (simp (eq-eqb _ 0 (sym (c4 .before .awaited-in .ensures) ∙ c4 .if1 .taken)))
 
 same-length-2 : tie.Need-same-length-2
 same-length-2 c = search needs

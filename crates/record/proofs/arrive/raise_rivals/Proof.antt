@@ -35,13 +35,15 @@ same-length c = search needs
 returns-2 : tie.Need-returns-2
 unfolding recordOf
 returns-2 c =
-    let x = c .before .before .before .before .before .before .before .before .before .before .before .args in
+    let c4 = c .before .before .before .before in
+    let c8 = c4 .before .before .before .before in
+    let x = c8 .before .before .before .args in
     let l = now (x .bytes) in
-    let small : Bytes l = λ j. omega (arith, c .before .before .before .before .before .before .before .before .before .before .slice-known .given j) in
-    let raised = c .before .before .before .before .raised-by .ensures in
-    let read = c .before .before .before .before .before .rivals-of .ensures in
+    let small : Bytes l = λ j. omega (arith, c8 .before .before .slice-known .given j) in
+    let raised = c4 .raised-by .ensures in
+    let read = c4 .before .rivals-of .ensures in
     let long = rw (raised, read) at (c .before .before .put-rivals .ensures .1) in
-    (rw (c .before .before .put-rivals .ensures .0, raised, read) (rivals-stored l small (c .before .before .before .before .before .before .before .before .before .before .before .pre) _ long), long)
+    (rw (c .before .before .put-rivals .ensures .0, raised, read) (rivals-stored l small (c8 .before .before .before .pre) _ long), long)
 
 pub raise-rivals-spec : {M : Type 1} → statement M
 raise-rivals-spec =

@@ -31,8 +31,10 @@ same-length c = search needs
 returns-2 : tie.Need-returns-2
 unfolding receiveOf
 returns-2 c =
-    let e = sym (c .before .before .before .before .before .receive-number .ensures (recordOf (now (c .before .before .before .before .before .before .before .before .args .bytes)))) in
-    let t = eq-eqb _ 0 (c .before .before .before .before .if1 .left) in
+    let c4 = c .before .before .before .before in
+    let c8 = c4 .before .before .before .before in
+    let e = sym (c4 .before .receive-number .ensures (recordOf (now (c8 .args .bytes)))) in
+    let t = eq-eqb _ 0 (c4 .if1 .left) in
     let w = c .before .before .deliver .ensures in
     (w .0 ∙ simp (e, t), w .1 ∙ simp (e, t))
 

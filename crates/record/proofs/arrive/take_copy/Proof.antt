@@ -57,19 +57,23 @@ same-length c = search needs
 returns : tie.Need-returns
 unfolding copyTaken kept
 returns c =
-    let x = c .before .before .before .before .before .before .before .before .before .before .before .before .before .before .before .before .before .before .before .args in
+    let c4 = c .before .before .before .before in
+    let c8 = c4 .before .before .before .before in
+    let c12 = c8 .before .before .before .before in
+    let c16 = c12 .before .before .before .before in
+    let x = c16 .before .before .before .args in
     let l = now (x .bytes) in
-    let small : Bytes l = λ j. omega (arith, c .before .before .before .before .before .before .before .before .before .before .before .before .before .before .before .before .before .before .slice-known .given j) in
-    let t = sym (c .before .before .before .before .before .before .before .before .before .before .before .before .before .before .before .copy-fits .ensures) ∙ c .before .before .before .before .before .before .before .before .before .before .before .before .before .before .if1 .taken in
+    let small : Bytes l = λ j. omega (arith, c16 .before .before .slice-known .given j) in
+    let t = sym (c12 .before .before .before .copy-fits .ensures) ∙ c12 .before .before .if1 .taken in
     let e = entryOf (now (x .m)) 0 in
     let y = withCopy (objectAt (recordOf l) (e .object)) (fromOf (now (x .m))) e in
-    let copied = c .before .before .before .before .before .before .before .copied .ensures in
-    let from = c .before .before .before .before .before .before .before .before .from .ensures in
-    let named = c .before .before .before .before .before .before .before .before .before .object-named .ensures in
-    let entry = c .before .before .before .before .before .before .before .before .before .before .before .before .before .nth-entry .ensures in (
+    let copied = c4 .before .before .before .copied .ensures in
+    let from = c8 .from .ensures in
+    let named = c8 .before .object-named .ensures in
+    let entry = c12 .before .nth-entry .ensures in (
       rw (c .taken .ensures, c .before .ready-or-not .ensures, c .before .before .is-ready .ensures, copied, from, named, entry) (simp t),
-      rw (c .before .before .before .before .before .put-object .ensures, copied, from, named, c .before .before .before .before .before .before .before .before .before .before .before .place .ensures .0, entry)
-          (object-stored l small (c .before .before .before .before .before .before .before .before .before .before .before .before .before .before .before .before .before .before .before .pre) (placeOf (recordOf l) (e .object)) y (copied-open (recordOf l) (now (x .m)) t) ∙ simp t),
+      rw (c4 .before .put-object .ensures, copied, from, named, c8 .before .before .before .place .ensures .0, entry)
+          (object-stored l small (c16 .before .before .before .pre) (placeOf (recordOf l) (e .object)) y (copied-open (recordOf l) (now (x .m)) t) ∙ simp t),
     )
 
 cast-taken : tie.Need-cast-taken

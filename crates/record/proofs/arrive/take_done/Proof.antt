@@ -38,7 +38,12 @@ get-u8-requires : tie.Need-get-u8-requires
 get-u8-requires c κs = search needs
 
 become-idle-requires : tie.Need-become-idle-requires
-become-idle-requires c κs = checked-length _ (c .before .before .before .before .before .before .before .before .before .before .before .before .before .before .before .before .before .pre)
+become-idle-requires c κs =
+    let c4 = c .before .before .before .before in
+    let c8 = c4 .before .before .before .before in
+    let c12 = c8 .before .before .before .before in
+    let c16 = c12 .before .before .before .before in
+    checked-length _ (c16 .before .pre)
 
 cast-taken : tie.Need-cast-taken
 cast-taken c = search needs
@@ -52,14 +57,18 @@ same-length c = search needs
 returns : tie.Need-returns
 unfolding doneTaken withDone kept recordOf
 returns c =
-    let await = c .before .before .before .before .before .before .before .before .before .before .before .before .before .before .before .before .before .awaited-in .ensures in
-    let fits = rw await at (sym (c .before .before .before .before .before .before .before .before .before .before .before .before .before .before .before .is-answer .ensures) ∙ c .before .before .before .before .before .before .before .before .before .before .before .before .before .before .if1 .taken) in
-    let join = c .before .before .before .before .before .before .before .before .before .join .ensures in
-    let single = c .before .before .before .before .before .before .before .before .before .before .single .ensures in
-    let from = c .before .before .before .before .before .before .before .before .before .before .before .from .ensures in
-    let before = c .before .before .before .before .before .before .before .before .before .before .before .before .get-u16 .ensures in
-    let all = rw (await, join, single, from, before) at (sym (c .before .before .before .before .before .before .before .before .subset .ensures) ∙ c .before .before .before .before .before .before .before .if2 .taken) in
-    (c .taken .ensures ∙ simp (fits, all), rw (c .before .before .before .become-idle .ensures, c .before .before .before .before .before .get-u8 .ensures) (simp (fits, all)))
+    let c4 = c .before .before .before .before in
+    let c8 = c4 .before .before .before .before in
+    let c12 = c8 .before .before .before .before in
+    let c16 = c12 .before .before .before .before in
+    let await = c16 .before .awaited-in .ensures in
+    let fits = rw await at (sym (c12 .before .before .before .is-answer .ensures) ∙ c12 .before .before .if1 .taken) in
+    let join = c8 .before .join .ensures in
+    let single = c8 .before .before .single .ensures in
+    let from = c8 .before .before .before .from .ensures in
+    let before = c12 .get-u16 .ensures in
+    let all = rw (await, join, single, from, before) at (sym (c8 .subset .ensures) ∙ c4 .before .before .before .if2 .taken) in
+    (c .taken .ensures ∙ simp (fits, all), rw (c .before .before .before .become-idle .ensures, c4 .before .get-u8 .ensures) (simp (fits, all)))
 
 put-u16-requires : tie.Need-put-u16-requires
 put-u16-requires c κs = search needs
@@ -76,17 +85,24 @@ same-length-2 c = search needs
 returns-2 : tie.Need-returns-2
 unfolding doneTaken withDone kept recordOf
 returns-2 c =
-    let x = c .before .before .before .before .before .before .before .before .before .before .before .before .before .before .before .before .before .before .before .args in
+    let c4 = c .before .before .before .before in
+    let c8 = c4 .before .before .before .before in
+    let c12 = c8 .before .before .before .before in
+    let c16 = c12 .before .before .before .before in
+    let x = c16 .before .before .before .args in
     let l = now (x .bytes) in
-    let small : Bytes l = λ j. omega (arith, c .before .before .before .before .before .before .before .before .before .before .before .before .before .before .before .before .before .before .slice-known .given j) in
-    let await = c .before .before .before .before .before .before .before .before .before .before .before .before .before .before .before .awaited-in .ensures in
-    let fits = rw await at (sym (c .before .before .before .before .before .before .before .before .before .before .before .before .before .is-answer .ensures) ∙ c .before .before .before .before .before .before .before .before .before .before .before .before .if1 .taken) in
-    let join = c .before .before .before .before .before .before .before .join .ensures in
-    let single = c .before .before .before .before .before .before .before .before .single .ensures in
-    let from = c .before .before .before .before .before .before .before .before .before .from .ensures in
-    let before = c .before .before .before .before .before .before .before .before .before .before .get-u16 .ensures in
-    let all = rw (await, join, single, from, before) at (sym (c .before .before .before .before .before .before .subset .ensures) ∙ c .before .before .before .before .before .if2 .left) in
-    (c .taken2 .ensures ∙ simp (fits, all), rw (c .before .before .before .put-u16 .ensures, join, single, from, before) (done-stored l small (c .before .before .before .before .before .before .before .before .before .before .before .before .before .before .before .before .before .before .before .pre) _ ∙ simp (fits, all)))
+    let small : Bytes l = λ j. omega (arith, c16 .before .before .slice-known .given j) in
+    let await = c12 .before .before .before .awaited-in .ensures in
+    let fits = rw await at (sym (c12 .before .is-answer .ensures) ∙ c12 .if1 .taken) in
+    let join = c4 .before .before .before .join .ensures in
+    let single = c8 .single .ensures in
+    let from = c8 .before .from .ensures in
+    let before = c8 .before .before .get-u16 .ensures in
+    let all = rw (await, join, single, from, before) at (sym (c4 .before .before .subset .ensures) ∙ c4 .before .if2 .left) in (
+      c .taken2 .ensures ∙ simp (fits, all),
+      rw (c .before .before .before .put-u16 .ensures, join, single, from, before) (done-stored l small
+          (c16 .before .before .before .pre) _ ∙ simp (fits, all)),
+    )
 
 cast-taken-3 : tie.Need-cast-taken-3
 cast-taken-3 c = search needs

@@ -37,14 +37,18 @@ same-length c = search needs
 returns : tie.Need-returns
 unfolding voteTaken kept recordOf
 returns c =
-    let fits = rw (c .before .before .before .before .before .before .before .before .before .before .get-u16 .ensures) at (sym (c .before .before .before .before .before .before .before .before .is-answer .ensures) ∙ c .before .before .before .before .before .before .before .if1 .taken) in
-    let no = eq-eqb _ 0 (sym (c .before .before .before .before .before .before .word .ensures) ∙ c .before .before .before .before .before .if2 .taken) in
+    let c4 = c .before .before .before .before in
+    let c8 = c4 .before .before .before .before in
+    let fits = rw (c8 .before .before .get-u16 .ensures) at (sym (c8 .is-answer .ensures) ∙ c4 .before .before .before .if1 .taken) in
+    let no = eq-eqb _ 0 (sym (c4 .before .before .word .ensures) ∙ c4 .before .if2 .taken) in
     (c .taken .ensures ∙ simp (fits, no), rw (c .before .before .before .end-aborted .ensures) (simp (fits, no)))
 
 take-yes-requires : tie.Need-take-yes-requires
 take-yes-requires c κs =
-    let fits = sym (c .before .before .before .before .is-answer .ensures) ∙ c .before .before .before .if1 .taken in
-    (c .before .before .before .before .before .before .before .before .before .before .pre, answers-phase (recordOf (now (c .before .before .before .before .before .before .before .before .before .before .args .bytes))) 2 _ (now (c .before .before .before .before .before .before .before .before .before .before .args .m)) fits)
+    let c4 = c .before .before .before .before in
+    let c8 = c4 .before .before .before .before in
+    let fits = sym (c4 .is-answer .ensures) ∙ c .before .before .before .if1 .taken in
+    (c8 .before .before .pre, answers-phase (recordOf (now (c8 .before .before .args .bytes))) 2 _ (now (c8 .before .before .args .m)) fits)
 
 same-length-2 : tie.Need-same-length-2
 same-length-2 c = search needs
@@ -52,9 +56,12 @@ same-length-2 c = search needs
 returns-2 : tie.Need-returns-2
 unfolding voteTaken recordOf
 returns-2 c =
-    let x = c .before .before .before .before .before .before .before .before .before .before .before .before .before .args in
-    let fits = rw (c .before .before .before .before .before .before .before .before .before .get-u16 .ensures) at (sym (c .before .before .before .before .before .before .before .is-answer .ensures) ∙ c .before .before .before .before .before .before .if1 .taken) in
-    let no = ne-eqb _ 0 (λ z. c .before .before .before .before .if2 .left (c .before .before .before .before .before .word .ensures ∙ z)) in
+    let c4 = c .before .before .before .before in
+    let c8 = c4 .before .before .before .before in
+    let c12 = c8 .before .before .before .before in
+    let x = c12 .before .args in
+    let fits = rw (c8 .before .get-u16 .ensures) at (sym (c4 .before .before .before .is-answer .ensures) ∙ c4 .before .before .if1 .taken) in
+    let no = ne-eqb _ 0 (λ z. c4 .if2 .left (c4 .before .word .ensures ∙ z)) in
     let w = c .before .before .take-yes .ensures in
     (w .0 ∙ simp (fits, no), w .1 ∙ yes-kept (recordOf (now (x .bytes))) (now (x .m)) (now (x .bytes)) ∙ simp (fits, no))
 

@@ -48,17 +48,24 @@ same-length c = search needs
 returns : tie.Need-returns
 unfolding recordOf
 returns c =
-    let x = c .before .before .before .before .before .before .before .before .before .before .before .before .before .before .before .before .before .before .before .before .before .before .before .before .args in
+    let c4 = c .before .before .before .before in
+    let c8 = c4 .before .before .before .before in
+    let c12 = c8 .before .before .before .before in
+    let c16 = c12 .before .before .before .before in
+    let c20 = c16 .before .before .before .before in
+    let c24 = c20 .before .before .before .before in
+    let x = c24 .args in
     let l = now (x .bytes) in
-    let small : Bytes l = λ j. omega (arith, c .before .before .before .before .before .before .before .before .before .before .before .before .before .before .before .before .before .before .before .before .before .before .before .slice-known .given j) in
-    let join = c .before .before .before .before .before .before .before .before .before .before .before .before .before .before .before .join .ensures in
-    let single = c .before .before .before .before .before .before .before .before .before .before .before .before .before .before .before .before .single .ensures in
-    let from = c .before .before .before .before .before .before .before .before .before .before .before .before .before .before .before .before .before .from .ensures in
-    let said = c .before .before .before .before .before .before .before .before .before .before .before .before .before .before .before .before .before .before .get-u162 .ensures in
-    let asked = c .before .before .before .before .before .before .before .before .before .before .before .before .before .before .before .before .before .before .before .before .get-u16 .ensures in
-    let t = rw (join, single, from, said, asked) at (sym (c .before .before .before .before .before .before .subset .ensures) ∙ c .before .before .before .before .before .if1 .taken) in
-    let w = yes-commits l small (c .before .before .before .before .before .before .before .before .before .before .before .before .before .before .before .before .before .before .before .before .before .before .before .before .pre .0) (now (x .m)) (c .before .before .before .before .before .before .before .before .before .before .before .before .before .raise-rivals .ensures .1) t in
-    (c .taken .ensures ∙ w .0, rw (c .before .before .before .turn .ensures, c .before .before .before .before .before .before .before .before .before .put-u16 .ensures, c .before .before .before .before .before .before .before .before .before .before .before .before .before .raise-rivals .ensures .0, join, single, from, said) (w .1))
+    let small : Bytes l = λ j. omega (arith, c20 .before .before .before .slice-known .given j) in
+    let join = c12 .before .before .before .join .ensures in
+    let single = c16 .single .ensures in
+    let from = c16 .before .from .ensures in
+    let said = c16 .before .before .get-u162 .ensures in
+    let asked = c20 .get-u16 .ensures in
+    let t = rw (join, single, from, said, asked) at (sym (c4 .before .before .subset .ensures) ∙ c4 .before .if1 .taken) in
+    let w = yes-commits l small (c24 .pre .0) (now (x .m)) (c12 .before .raise-rivals .ensures .1) t in
+    let turned = c .before .before .before .turn .ensures in
+    (c .taken .ensures ∙ w .0, rw (turned, c8 .before .put-u16 .ensures, c12 .before .raise-rivals .ensures .0, join, single, from, said) (w .1))
 
 cast-taken-2 : tie.Need-cast-taken-2
 cast-taken-2 c = search needs
@@ -72,17 +79,22 @@ same-length-2 c = search needs
 returns-2 : tie.Need-returns-2
 unfolding recordOf
 returns-2 c =
-    let x = c .before .before .before .before .before .before .before .before .before .before .before .before .before .before .before .before .before .before .before .before .args in
+    let c4 = c .before .before .before .before in
+    let c8 = c4 .before .before .before .before in
+    let c12 = c8 .before .before .before .before in
+    let c16 = c12 .before .before .before .before in
+    let c20 = c16 .before .before .before .before in
+    let x = c20 .args in
     let l = now (x .bytes) in
-    let small : Bytes l = λ j. omega (arith, c .before .before .before .before .before .before .before .before .before .before .before .before .before .before .before .before .before .before .before .slice-known .given j) in
-    let join = c .before .before .before .before .before .before .before .before .before .before .before .join .ensures in
-    let single = c .before .before .before .before .before .before .before .before .before .before .before .before .single .ensures in
-    let from = c .before .before .before .before .before .before .before .before .before .before .before .before .before .from .ensures in
-    let said = c .before .before .before .before .before .before .before .before .before .before .before .before .before .before .get-u162 .ensures in
-    let asked = c .before .before .before .before .before .before .before .before .before .before .before .before .before .before .before .before .get-u16 .ensures in
+    let small : Bytes l = λ j. omega (arith, c16 .before .before .before .slice-known .given j) in
+    let join = c8 .before .before .before .join .ensures in
+    let single = c12 .single .ensures in
+    let from = c12 .before .from .ensures in
+    let said = c12 .before .before .get-u162 .ensures in
+    let asked = c16 .get-u16 .ensures in
     let t = rw (join, single, from, said, asked) at (sym (c .before .before .subset .ensures) ∙ c .before .if1 .left) in
-    let w = yes-waits l small (c .before .before .before .before .before .before .before .before .before .before .before .before .before .before .before .before .before .before .before .before .pre .0) (now (x .m)) (c .before .before .before .before .before .before .before .before .before .raise-rivals .ensures .1) t (c .before .before .before .before .before .before .before .before .before .before .before .before .before .before .before .before .before .before .before .before .pre .1) in
-    (c .taken2 .ensures ∙ w .0, rw (c .before .before .before .before .before .put-u16 .ensures, c .before .before .before .before .before .before .before .before .before .raise-rivals .ensures .0, join, single, from, said) (w .1))
+    let w = yes-waits l small (c20 .pre .0) (now (x .m)) (c8 .before .raise-rivals .ensures .1) t (c20 .pre .1) in
+    (c .taken2 .ensures ∙ w .0, rw (c4 .before .put-u16 .ensures, c8 .before .raise-rivals .ensures .0, join, single, from, said) (w .1))
 
 pub take-yes-spec : {M : Type 1} → statement M
 take-yes-spec =

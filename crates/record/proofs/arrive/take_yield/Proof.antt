@@ -41,7 +41,13 @@ same-length c = search needs
 returns : tie.Need-returns
 unfolding yieldTaken kept recordOf
 returns c =
-    let t = rw (c .before .before .before .before .before .before .before .either .ensures, c .before .before .before .before .before .before .before .before .before .get-u32 .ensures, c .before .before .before .before .before .before .before .before .before .before .before .phase .ensures, c .before .before .before .before .before .before .before .before .before .before .before .before .before .nth-rival .ensures) at (sym (c .before .before .before .before .before .before .both .ensures) ∙ c .before .before .before .before .before .if1 .taken) in
+    let c4 = c .before .before .before .before in
+    let c8 = c4 .before .before .before .before in
+    let c12 = c8 .before .before .before .before in
+    let both = sym (c4 .before .before .both .ensures) ∙ c4 .before .if1 .taken in
+    let serial = c8 .before .get-u32 .ensures in
+    let phase = c8 .before .before .before .phase .ensures in
+    let t = rw (c4 .before .before .before .either .ensures, serial, phase, c12 .before .nth-rival .ensures) at both in
     (c .taken .ensures ∙ simp t, rw (c .before .before .before .end-aborted .ensures) (simp t))
 
 cast-taken-2 : tie.Need-cast-taken-2
@@ -56,11 +62,17 @@ same-length-2 c = search needs
 returns-2 : tie.Need-returns-2
 unfolding yieldTaken kept recordOf
 returns-2 c =
-    let x = c .before .before .before .before .before .before .before .before .before .before .before .before .args in
+    let c4 = c .before .before .before .before in
+    let c8 = c4 .before .before .before .before in
+    let c12 = c8 .before .before .before .before in
+    let x = c12 .args in
     let l = now (x .bytes) in
-    let small : Bytes l = λ j. omega (arith, c .before .before .before .before .before .before .before .before .before .before .before .slice-known .given j) in
-    let t = rw (c .before .before .before .either .ensures, c .before .before .before .before .before .get-u32 .ensures, c .before .before .before .before .before .before .before .phase .ensures, c .before .before .before .before .before .before .before .before .before .nth-rival .ensures) at (sym (c .before .before .both .ensures) ∙ c .before .if1 .left) in
-    (c .taken2 .ensures ∙ simp t, simp t (sym (same-bytes l small (c .before .before .before .before .before .before .before .before .before .before .before .before .pre))))
+    let small : Bytes l = λ j. omega (arith, c8 .before .before .before .slice-known .given j) in
+    let both = sym (c .before .before .both .ensures) ∙ c .before .if1 .left in
+    let serial = c4 .before .get-u32 .ensures in
+    let phase = c4 .before .before .before .phase .ensures in
+    let t = rw (c .before .before .before .either .ensures, serial, phase, c8 .before .nth-rival .ensures) at both in
+    (c .taken2 .ensures ∙ simp t, simp t (sym (same-bytes l small (c12 .pre))))
 
 pub take-yield-spec : {M : Type 1} → statement M
 take-yield-spec =

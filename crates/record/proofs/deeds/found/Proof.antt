@@ -23,7 +23,8 @@ unfolding foundOf
 returns c =
     let x = c .before .before .before .before .args in
     let l = now (x .bytes) in
-    c .refused .ensures ∙ told-refused _ (objectAt (recordOf l) (x .object) .value) (recordOf l) (recordOf l) l _ (c .before .before .found-number .ensures) (c .before .if1 .taken)
+    c .refused .ensures ∙ told-refused _ (objectAt (recordOf l) (x .object) .value) (recordOf l) (recordOf l) l _
+    (c .before .before .found-number .ensures) (c .before .if1 .taken)
 
 object-named-requires : tie.Need-object-named-requires
 object-named-requires c κs = readable _ (c .before .before .before .pre)
@@ -34,11 +35,13 @@ taken-requires c κs = search needs
 returns-2 : tie.Need-returns-2
 unfolding foundOf
 returns-2 c =
-    let x = c .before .before .before .before .before .args in
+    let c4 = c .before .before .before .before in
+    let x = c4 .before .args in
     let l = now (x .bytes) in
     c .taken .ensures
     ∙ ap (λ (y : Object). called 0 (y .value)) (c .before .object-named .ensures)
-    ∙ told-taken _ (objectAt (recordOf l) (x .object) .value) (recordOf l) (recordOf l) l (sym (c .before .before .before .found-number .ensures) ∙ c .before .before .if1 .left)
+    ∙ told-taken _ (objectAt (recordOf l) (x .object) .value) (recordOf l) (recordOf l) l (sym (c .before .before .before .found-number .ensures)
+    ∙ c .before .before .if1 .left)
 
 pub found-spec : {M : Type 1} → statement M
 found-spec =

@@ -46,19 +46,38 @@ join-requires : tie.Need-join-requires
 join-requires c κs = search needs
 
 add-put-quorum : tie.Need-add-put-quorum
-add-put-quorum c = omega (arith, c .before .before .before .before .before .before .count .ensures, readable _ (c .before .before .before .before .before .before .before .before .before .before .before .before .pre) .1)
+add-put-quorum c =
+    let c4 = c .before .before .before .before in
+    let c8 = c4 .before .before .before .before in
+    let c12 = c8 .before .before .before .before in
+    omega (arith, c4 .before .before .count .ensures, readable _ (c12 .pre) .1)
 
 put-quorum-requires : tie.Need-put-quorum-requires
 put-quorum-requires c κs = search needs
 
 mul-put-object : tie.Need-mul-put-object
-mul-put-object c = omega (arith, c .before .before .before .before .before .before .before .before .before .before .count .ensures, readable _ (c .before .before .before .before .before .before .before .before .before .before .before .before .before .before .before .before .pre) .1)
+mul-put-object c =
+    let c4 = c .before .before .before .before in
+    let c8 = c4 .before .before .before .before in
+    let c12 = c8 .before .before .before .before in
+    let c16 = c12 .before .before .before .before in
+    omega (arith, c8 .before .before .count .ensures, readable _ (c16 .pre) .1)
 
 add-put-object : tie.Need-add-put-object
-add-put-object c = omega (arith, c .before .before .before .before .before .before .before .before .before .before .count .ensures, readable _ (c .before .before .before .before .before .before .before .before .before .before .before .before .before .before .before .before .pre) .1)
+add-put-object c =
+    let c4 = c .before .before .before .before in
+    let c8 = c4 .before .before .before .before in
+    let c12 = c8 .before .before .before .before in
+    let c16 = c12 .before .before .before .before in
+    omega (arith, c8 .before .before .count .ensures, readable _ (c16 .pre) .1)
 
 put-object-requires : tie.Need-put-object-requires
-put-object-requires c κs = omega (arith, c .before .before .before .before .before .before .before .before .before .before .count .ensures, readable _ (c .before .before .before .before .before .before .before .before .before .before .before .before .before .before .before .before .pre) .1)
+put-object-requires c κs =
+    let c4 = c .before .before .before .before in
+    let c8 = c4 .before .before .before .before in
+    let c12 = c8 .before .before .before .before in
+    let c16 = c12 .before .before .before .before in
+    omega (arith, c8 .before .before .count .ensures, readable _ (c16 .pre) .1)
 
 taken-requires : tie.Need-taken-requires
 taken-requires c κs = search needs

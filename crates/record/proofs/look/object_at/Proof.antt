@@ -23,7 +23,8 @@ object-of-requires c κs = search needs
 
 returns : tie.Need-returns
 unfolding objectsOf
-returns c = c .object-of .ensures ∙ sym (getD-items objectOf 25 (now (c .before .before .before .args .bytes)) noObject 8 43 (c .before .before .before .args .p) (omega arith))
+returns c = c .object-of .ensures ∙ sym (getD-items objectOf 25 (now (c .before .before .before .args .bytes)) noObject 8 43
+    (c .before .before .before .args .p) (omega arith))
 
 returns-2 : tie.Need-returns-2
 unfolding objectsOf

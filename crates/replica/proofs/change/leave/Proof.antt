@@ -25,7 +25,9 @@ same-length-2 c = search needs
 
 returns-2 : tie.Need-returns-2
 unfolding leaves
-returns-2 c = rw (c .before .before .set-state2 .ensures, c .before .before .before .before .before .before .pre (c .before .before .before .before .if1 .left))
+returns-2 c =
+    let c4 = c .before .before .before .before in
+    rw (c .before .before .set-state2 .ensures, c4 .before .before .pre (c4 .if1 .left))
 
 pub leave-spec : {M : Type 1} → statement M
 leave-spec =

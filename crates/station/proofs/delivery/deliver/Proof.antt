@@ -178,14 +178,19 @@ returns-4 c =
 
 at-coordinator-requires : tie.Need-at-coordinator-requires
 at-coordinator-requires c κs =
-    let x = c .before .before .before .before .before .before .before .before .before .before .before .before .before .before .before .before .before .before .before .before .args in
+    let c4 = c .before .before .before .before in
+    let c8 = c4 .before .before .before .before in
+    let c12 = c8 .before .before .before .before in
+    let c16 = c12 .before .before .before .before in
+    let c20 = c16 .before .before .before .before in
+    let x = c20 .args in
     let I = now (x .images) in
     let R = now (x .records) in
     let P = now (x .pool) in
     let O = now (x .own) in
-    let z : buffersNumber (all I R P O) ≡ 0 = buffers-are I R P O ∙ sym (c .before .before .before .before .before .before .before .before .before .before .before .before .before .before .buffers-number .ensures) ∙ c .before .before .before .before .before .before .before .before .before .before .before .before .before .if1 .left in
-    let w = waits-of P (x .k) (sym (c .before .before .before .before .before .before .before .before .before .before .before .message-number .ensures) ∙ c .before .before .before .before .before .before .before .before .before .before .if2 .left) in
-    let n = c .before .before .before .before .before .before .before .before .receiver .ensures in
+    let z : buffersNumber (all I R P O) ≡ 0 = buffers-are I R P O ∙ sym (c12 .before .before .buffers-number .ensures) ∙ c12 .before .if1 .left in
+    let w = waits-of P (x .k) (sym (c8 .before .before .before .message-number .ensures) ∙ c8 .before .before .if2 .left) in
+    let n = c8 .receiver .ensures in
     let s = sized I R P O z in
     (s .records, subst (λ (y : ℕ). y < 13) (sym n) (receiver-node (messageAt P (x .k)) (w .well)), s .pool, w .message, w .well)
 
@@ -197,19 +202,26 @@ same-length-7 c = search needs
 
 returns-5 : tie.Need-returns-5
 returns-5 c =
-    let x = c .before .before .before .before .before .before .before .before .before .before .before .before .before .before .before .before .before .before .before .before .before .before .before .before .before .args in
+    let c4 = c .before .before .before .before in
+    let c8 = c4 .before .before .before .before in
+    let c12 = c8 .before .before .before .before in
+    let c16 = c12 .before .before .before .before in
+    let c20 = c16 .before .before .before .before in
+    let c24 = c20 .before .before .before .before in
+    let x = c24 .before .args in
     let I = now (x .images) in
     let R = now (x .records) in
     let P = now (x .pool) in
     let O = now (x .own) in
-    let z : buffersNumber (all I R P O) ≡ 0 = buffers-are I R P O ∙ sym (c .before .before .before .before .before .before .before .before .before .before .before .before .before .before .before .before .before .before .before .buffers-number .ensures) ∙ c .before .before .before .before .before .before .before .before .before .before .before .before .before .before .before .before .before .before .if1 .left in
-    let w = waits-of P (x .k) (sym (c .before .before .before .before .before .before .before .before .before .before .before .before .before .before .before .before .message-number .ensures) ∙ c .before .before .before .before .before .before .before .before .before .before .before .before .before .before .before .if2 .left) in
-    let n = c .before .before .before .before .before .before .before .before .before .before .before .before .before .receiver .ensures in
+    let z : buffersNumber (all I R P O) ≡ 0 = buffers-are I R P O ∙ sym (c16 .before .before .before .buffers-number .ensures)
+    ∙ c16 .before .before .if1 .left in
+    let w = waits-of P (x .k) (sym (c16 .message-number .ensures) ∙ c12 .before .before .before .if2 .left) in
+    let n = c12 .before .receiver .ensures in
     let u : contains (onOf O) (toOf (messageAt P (x .k))) ≡ true =
-    ap₂ contains (sym (c .before .before .before .before .before .before .before .before .before .before .before .before .on .ensures)) (sym n) ∙ sym (c .before .before .before .before .before .before .before .before .before .before .before .has .ensures) ∙ not-false _ (c .before .before .before .before .before .before .before .before .before .before .if3 .left) in
-    let t = c .before .before .before .before .at-coordinator .ensures in
+    ap₂ contains (sym (c12 .on .ensures)) (sym n) ∙ sym (c8 .before .before .before .has .ensures) ∙ not-false _ (c8 .before .before .if3 .left) in
+    let t = c4 .at-coordinator .ensures in
     at-coordinator I R P O (x .k) (x .kept) z (w .message) (w .well) u
-    (sym (c .before .before .before .before .before .before .before .before .is-for-replica .ensures) ∙ c .before .before .before .before .before .before .before .if4 .left) _ n _ _ _ (t .0 I O) (t .1 .0 I O) (t .1 .1 I O)
+    (sym (c8 .is-for-replica .ensures) ∙ c4 .before .before .before .if4 .left) _ n _ _ _ (t .0 I O) (t .1 .0 I O) (t .1 .1 I O)
 
 pub deliver-spec : {M : Type 1} → statement M
 deliver-spec =

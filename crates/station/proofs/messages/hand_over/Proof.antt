@@ -40,8 +40,9 @@ length-requires c κs = search needs
 
 add-end : tie.Need-add-end
 add-end c =
-    let x = c .before .before .before .before .before .args in
-    let i = inside (now (x .pool)) (x .k) _ _ (c .before .before .before .before .before .pre .2) (c .before .before .before .before .before .pre .3) (c .before .place .ensures) (c .length .ensures) .ends in
+    let c4 = c .before .before .before .before in
+    let x = c4 .before .args in
+    let i = inside (now (x .pool)) (x .k) _ _ (c4 .before .pre .2) (c4 .before .pre .3) (c .before .place .ensures) (c .length .ensures) .ends in
     omega arith
 
 sub-receive : tie.Need-sub-receive
@@ -61,8 +62,10 @@ part-receive-start-2 c = search needs
 
 part-receive-end-2 : tie.Need-part-receive-end-2
 part-receive-end-2 c =
-    let x = c .before .before .before .before .before .before .args in
-    let i = inside (now (x .pool)) (x .k) _ _ (c .before .before .before .before .before .before .pre .2) (c .before .before .before .before .before .before .pre .3) (c .before .before .place .ensures) (c .before .length .ensures) in
+    let c4 = c .before .before .before .before in
+    let x = c4 .before .before .args in
+    let i = inside (now (x .pool)) (x .k) _ _ (c4 .before .before .pre .2) (c4 .before .before .pre .3) (c .before .before .place .ensures)
+    (c .before .length .ensures) in
     let l = i .long in
     let e = i .ends in
     omega arith
@@ -76,21 +79,24 @@ same-length c = search needs
 returns : tie.Need-returns
 unfolding recordAt withRecordAt
 returns c =
-    let x = c .before .before .before .before .before .before .before .before .before .before .args in
+    let c4 = c .before .before .before .before in
+    let c8 = c4 .before .before .before .before in
+    let x = c8 .before .before .args in
     let R = now (x .records) in
-    let w = c .before .before .before .before .before .before .before .wide .result in
+    let w = c4 .before .before .before .wide .result in
     let e : 301 * w + 301 - 301 * w ≡ 301 = omega arith in
-    let i = c .before .before .before .before .before .before .before .wide .ensures in
-    let m = message-lent (now (x .pool)) (x .k) _ _ (c .before .before .before .before .before .before .place .ensures) (c .before .before .before .before .before .length .ensures) in
-    let s = c .before .before .before .before .before .before .place .result in
-    let n = c .before .before .before .before .before .length .result in
+    let i = c4 .before .before .before .wide .ensures in
+    let m = message-lent (now (x .pool)) (x .k) _ _ (c4 .before .before .place .ensures) (c4 .before .length .ensures) in
+    let s = c4 .before .before .place .result in
+    let n = c4 .before .length .result in
     let b : List ℕ = take (s + n - s) (drop s (now (x .pool))) in
     let t = c .before .before .receive .ensures in
     let p : take (301 * w + 301 - 301 * w) (drop (301 * w) R) ≡ recordAt R (x .node) = record-lent R (x .node) w e i in (
       t .0 ∙ ap₂ (λ (l b : List ℕ). calledBy (x .node) b l) p m,
       lent (recordAfter (λ (d : Coordinator). receiveOf tree d (x .node) b)) 301 (301 * w) (301 * w + 301 - 301 * w) R _ e (t .1)
           ∙ ap (λ (b : List ℕ). splice 301 (301 * w) (recordAfter (λ (d : Coordinator). receiveOf tree d (x .node) b) (part 301 (301 * w) R)) R) m
-          ∙ ap (λ (k : ℕ). splice 301 (301 * k) (recordAfter (λ (d : Coordinator). receiveOf tree d (x .node) (messageAt (now (x .pool)) (x .k))) (part 301 (301 * k) R)) R) i,
+          ∙ ap (λ (k : ℕ). splice 301 (301 * k) (recordAfter (λ (d : Coordinator). receiveOf tree d (x .node) (messageAt (now (x .pool)) (x .k)))
+          (part 301 (301 * k) R)) R) i,
     )
 
 pub hand-over-spec : {M : Type 1} → statement M
