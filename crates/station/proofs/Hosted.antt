@@ -1,23 +1,31 @@
 -- A host call over the buffers: by whether the buffers refuse it, whether the node is on, and whether the call is refused.
-use mathlib.Core.Path.{_≡_, refl, sym, ap, ap₂, _∙_}
+use mathlib.Core.Path.{_≡_, refl, sym, ap, _∙_}
 use mathlib.Core.Bool.{Bool, true, false, cond, not, _||_, _&&_}
-use mathlib.Core.List.{List}
-use Prim.Native.Nat.{ℕ, _<_, _≤_, _^_}
+use mathlib.Core.List.{List, _++_}
+use Prim.Native.Nat.{ℕ, _+_, _-_, _*_, _<_, _≤_, _^_}
 use native.Mathlib.Omega.{arith}
 use lib.Dec.{eqb, ltb}
-use lib.ListN.{length}
+use lib.ListN.{length, take, drop, take-append-drop}
 use lib.Pow.{pow-mono}
-use borrow.Author.Tests.{eq-eqb, ne-eqb, eqb-true, eqb-false, ltb-true, ltb-false, not-false}
+use borrow.Author.Tests.{eq-eqb, ne-eqb, eqb-true, eqb-false, lt-ltb, le-ltb, ltb-true, ltb-false, not-true, not-false}
 use Rattle.mask.specs.Mask.{contains}
 use Rattle.mask.proofs.Laws.{bit-high}
 use Rattle.coordinator.specs.declared.Coordinator.{Coordinator}
 use Rattle.coordinator.specs.declared.Step.{Step}
-use Rattle.record.specs.Record.{bytesOf}
+use Rattle.parts.specs.Parts.{part, splice}
+use Rattle.parts.proofs.Laws.{lent, length-part}
+use Rattle.record.specs.declared.Called.{Called}
+use Rattle.clauses.specs.Clauses.{meets}
+use Rattle.coordinator.specs.System.{tree}
+use Rattle.record.specs.Record.{givenOk, recordOf, bytesOf, check}
+use Rattle.record.specs.Call.{toldBy, calledOf, kept, recordAfter}
 use Rattle.replica.proofs.Delivered.{past, or-neither}
 use Rattle.station.specs.Station.{putAt}
 use Rattle.station.specs.Step.{Outcome, whenOff, hosted}
 use Rattle.station.specs.Buffers.{withRecordAt, recordDamaged, onOf, ownDamaged, wrong, stationOf, answerWith, told, recordsAfter, ends, hostFirst}
-use Rattle.station.specs.Buffers.{lower}
+use Rattle.station.specs.Buffers.{lower, recordAt, recordIn}
+use Rattle.station.specs.declared.Answer.{Answer}
+use Rattle.station.specs.OnBytes.{isOn, answerOf}
 
 -- ---- what the buffers' number tells
 pub told-first : (n m : ℕ) (o : Outcome) → n ≡ m → (n ≡ 0 → ⊥) → answerWith n 0 ≡ told m o
@@ -114,11 +122,148 @@ module _ (R O : List ℕ) (n : ℕ) (s : Step) where
   unfolding recordsAfter hosted putAt
   taken-written e h = simp (e, eq-eqb (s .number) 0 h, eq-eqb n n refl)
 
--- ---- a call by value that is settled at its node, where the buffers are sound
-module _ (R O : List ℕ) (n : ℕ) (e : hostFirst (ends R O) n ≡ 0) {s t : Step} (p : s ≡ t) where
-  pub settled-told : told 0 (hosted (stationOf (ends R O)) n s) ≡ told (hostFirst (ends R O) n) (hosted (stationOf (ends R O)) n t)
-  settled-told = ap₂ (λ (k : ℕ) (x : Step). told k (hosted (stationOf (ends R O)) n x)) (sym e) p
+-- ---- a node that is on, in buffers of their lengths
+both : (a b : Bool) → (a && b) ≡ true → (a ≡ true) × (b ≡ true)
+both true b e = (refl, e)
+both false b e = absurd (let z : _≡_ {A = ℕ} 0 1 = ap (λ (t : Bool). cond t 1 0) e in omega arith)
 
-  pub settled-records : recordsAfter 0 (hosted (stationOf (ends R O)) n s) n R
-      ≡ recordsAfter (hostFirst (ends R O) n) (hosted (stationOf (ends R O)) n t) n R
-  settled-records = ap₂ (λ (k : ℕ) (x : Step). recordsAfter k (hosted (stationOf (ends R O)) n x) n R) (sym e) p
+pub record On (R O : List ℕ) (n : ℕ) : Type 0 where
+  pub records-long : length R ≡ 3913
+  pub own-long : length O ≡ 2
+  pub mask : onOf O ≤ 8191
+  pub on : contains (onOf O) n ≡ true
+  pub node : n < 13
+
+pub on-is : (R O : List ℕ) (n : ℕ) → isOn (length R) O n ≡ true → On R O n
+unfolding isOn
+on-is R O n e =
+    let a = both _ _ e in
+    let w = or-neither (not (eqb (length R) 3913)) (wrong O 2) (not-true _ (a .0)) in
+    let d = both _ _ (a .1) in
+    let m = ltb-false 8191 (onOf O) (not-true _ (d .0)) in
+    record {
+      records-long = long R 3913 (w .0);
+      own-long = long O 2 (w .1);
+      mask = m;
+      on = d .1;
+      node = node-on (onOf O) n m (d .1);
+    }
+
+-- sound buffers in which the node is not on
+pub off-is : (R O : List ℕ) (n : ℕ) → hostFirst (ends R O) n ≡ 0 → isOn (length R) O n ≡ false → contains (onOf O) n ≡ false
+unfolding isOn
+off-is R O n z e =
+    let s = sound R O n z in
+    sym (simp (eq-eqb (length R) 3913 (s .records-long), eq-eqb (length O) 2 (s .own-long), le-ltb 8191 (onOf O) (s .mask))) ∙ e
+
+pub off-all : (R O : List ℕ) (n : ℕ) → hostFirst (ends R O) n ≡ 0 → isOn (length R) O n ≡ false
+    → (s t : Step) → s ≡ t → (k : ℕ) → k ≡ whenOff (s .number) → (a : Answer) → a ≡ answerWith k 0
+    → (a ≡ told (hostFirst (ends R O) n) (hosted (stationOf (ends R O)) n t))
+    × (R ≡ recordsAfter (hostFirst (ends R O) n) (hosted (stationOf (ends R O)) n t) n R)
+off-all R O n z e s t p k q a g =
+    let h = off-is R O n z e in
+    let o = hosted (stationOf (ends R O)) n t in (
+      g ∙ ap (λ (j : ℕ). answerWith j 0) (q ∙ ap (λ (x : Step). whenOff (x .number)) p) ∙ off-told R O n t h ∙ ap (λ (j : ℕ). told j o) (sym z),
+      off-left R O n t h ∙ ap (λ (j : ℕ). recordsAfter j o n R) (sym z),
+    )
+
+-- ---- a call on the bytes of a node's record: damaged bytes are refused, else the call decides
+splice-same : (n a : ℕ) (l : List ℕ) → splice n a (part n a l) l ≡ l
+unfolding splice part
+splice-same n a l = ap (_++_ (take a l)) (take-append-drop n (drop a l)) ∙ take-append-drop a l
+
+record-same : (R : List ℕ) (n : ℕ) → withRecordAt R n (recordAt R n) ≡ R
+unfolding withRecordAt recordAt
+record-same R n = splice-same 301 (301 * n) R
+
+-- bytes of a record's length that are none are damaged
+two : (a b : Bool) → a ≡ true → (_≡_ {A = ℕ} (cond a (cond b 0 2) 1) 0 → ⊥) → _≡_ {A = ℕ} (cond a (cond b 0 2) 1) 2
+two true true e h = absurd (h refl)
+two true false e h = refl
+two false b e h = absurd (let z : _≡_ {A = ℕ} 0 1 = ap (λ (t : Bool). cond t 1 0) e in omega arith)
+
+damaged-two : (l : List ℕ) → length l ≡ 301 → (check l ≡ 0 → ⊥) → check l ≡ 2
+unfolding check
+damaged-two l e h = two (eqb (length l) 301) (givenOk 8 l && meets tree (recordOf l)) (eq-eqb (length l) 301 e) h
+
+module _ (R O : List ℕ) (n : ℕ) (f : Coordinator → Step) (t : On R O n) where
+  abbrev l : List ℕ
+  l = recordAt R n
+
+  abbrev first : ℕ
+  first = hostFirst (ends R O) n
+
+  abbrev s : Step
+  s = f (recordIn R n)
+
+  abbrev here : Outcome
+  here = hosted (stationOf (ends R O)) n s
+
+  first-is : (b : Bool) → recordDamaged R n ≡ b → first ≡ cond b 2 0
+  unfolding hostFirst
+  first-is true e = simp (eq-eqb (length R) 3913 (t .records-long), eq-eqb (length O) 2 (t .own-long), le-ltb 8191 (onOf O) (t .mask), e)
+  first-is false e = simp (eq-eqb (length R) 3913 (t .records-long), eq-eqb (length O) 2 (t .own-long), le-ltb 8191 (onOf O) (t .mask), e)
+
+  there : recordIn R n ≡ recordOf l
+  unfolding recordIn
+  there = simp (lt-ltb n 13 (t .node))
+
+  abbrev Goal : Type 0
+  Goal = (answerOf (calledOf f l) ≡ told first here) × (withRecordAt R n (recordAfter f l) ≡ recordsAfter first here n R)
+
+  -- the bytes are no record
+  broken : eqb (check l) 0 ≡ false → Goal
+  unfolding recordDamaged calledOf recordAfter answerOf told recordsAfter recordAt
+  broken e =
+      let d = damaged-two l (length-part 301 (301 * n) R (let w = t .records-long in let v = t .node in omega arith)) (eqb-false (check l) 0 e) in
+      let z = first-is true (simp (lt-ltb n 13 (t .node), e)) in
+      (simp (e, d, z), simp (e, z) (record-same R n))
+
+  -- they are one
+  same-called : eqb (check l) 0 ≡ true → calledOf f l ≡ toldBy s
+  unfolding calledOf
+  same-called e = simp e (ap (λ (c : Coordinator). toldBy (f c)) (sym there))
+
+  same-after : eqb (check l) 0 ≡ true → recordAfter f l ≡ kept s l
+  unfolding recordAfter
+  same-after e = simp e (ap (λ (c : Coordinator). kept (f c) l) (sym there))
+
+  whole : eqb (check l) 0 ≡ true → Goal
+  unfolding answerOf kept recordDamaged
+  whole e = by (eqb (s .number) 0) refl
+    where
+      z : first ≡ 0
+      z = first-is false (simp (lt-ltb n 13 (t .node), e))
+
+      by : (b : Bool) → eqb (s .number) 0 ≡ b → Goal
+      by true q =
+          let y = eqb-true (s .number) 0 q in (
+            ap answerOf (same-called e) ∙ simp q (taken-told R O n s (t .on) y) ∙ ap (λ (k : ℕ). told k here) (sym z),
+            ap (withRecordAt R n) (same-after e ∙ simp q) ∙ taken-written R O n s (t .on) y ∙ ap (λ (k : ℕ). recordsAfter k here n R) (sym z),
+          )
+      by false q =
+          let y = eqb-false (s .number) 0 q in (
+            ap answerOf (same-called e) ∙ simp q (refused-told R O n s (t .on) y) ∙ ap (λ (k : ℕ). told k here) (sym z),
+            ap (withRecordAt R n) (same-after e ∙ simp q) ∙ record-same R n ∙ refused-left R O n s (t .on) y
+                ∙ ap (λ (k : ℕ). recordsAfter k here n R) (sym z),
+          )
+
+  on-bytes : Goal
+  on-bytes = by (eqb (check l) 0) refl
+    where
+      by : (b : Bool) → eqb (check l) 0 ≡ b → Goal
+      by true e = whole e
+      by false e = broken e
+
+  -- the part is lent onward, and what the call leaves of it comes back
+  pub on-lent : (w : ℕ) → w ≡ n → (r : Called) → r ≡ calledOf f (take (301 * w + 301 - 301 * w) (drop (301 * w) R))
+      → (m : List ℕ) → m ≡ recordAfter f (take (301 * w + 301 - 301 * w) (drop (301 * w) R)) → (a : Answer) → a ≡ answerOf r
+      → (a ≡ told first here) × (take (301 * w) R ++ (m ++ drop (301 * w + 301 - 301 * w) (drop (301 * w) R)) ≡ recordsAfter first here n R)
+  unfolding recordAt withRecordAt part
+  on-lent w i r p m q a g =
+      let e : 301 * w + 301 - 301 * w ≡ 301 = omega arith in
+      let j : take (301 * w + 301 - 301 * w) (drop (301 * w) R) ≡ recordAt R n = rw (e, i) in (
+        g ∙ ap answerOf (p ∙ ap (calledOf f) j) ∙ on-bytes .0,
+        lent (recordAfter f) 301 (301 * w) (301 * w + 301 - 301 * w) R m e q
+            ∙ ap (λ (k : ℕ). splice 301 (301 * k) (recordAfter f (part 301 (301 * k) R)) R) i ∙ on-bytes .1,
+      )

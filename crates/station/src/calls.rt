@@ -1,23 +1,22 @@
-// The host's calls at a node: the buffers' own numbers first, else the node's record, the call by value, and the record written back.
+// The host's calls at a node: on the bytes of its record where the node is on, else the buffers' own numbers first and then the call's at a node that is off.
 ghost use mathlib.Core.Path.{_≡_};
-ghost use Prim.Native.Nat.{_≤_};
-ghost use lib.ListN.{length};
 ghost use Rattle.station.specs.Step.{begin, openRead, openWrite, setValue, found, reselect, requestCommit, abort};
-ghost use Rattle.station.specs.Buffers.{onOf, settled, told, recordsAfter, ends, hostFirst, hostTold, hostRecords};
+ghost use Rattle.station.specs.OnBytes.{isOn, answerOf};
+ghost use Rattle.station.specs.Buffers.{ends, hostFirst, hostTold, hostRecords};
 use crate::Answer;
 use crate::EVERY_NODE;
 use crate::OWN;
 use crate::RECORDS;
 use crate::common::is_damaged;
 use crate::common::on;
-use crate::common::put_record;
 use crate::common::record_of;
 use crate::common::refused;
 use crate::common::when_off;
+use crate::common::wide;
 use coordinator::BeginWith;
 use coordinator::NODES;
-use coordinator::Step;
 use numbers::either;
+use record::Called;
 
 // The number of the buffers that a host call reads.
 pub(crate) fn host_number(records: &[u8], own: &[u8], node: u8) -> u8
@@ -36,23 +35,30 @@ pub(crate) fn host_number(records: &[u8], own: &[u8], node: u8) -> u8
     }
 }
 
-// What a call by value brings about at a node: nothing where the node is off or the call is refused, else its record written back.
-fn settle(records: &mut [u8], own: &[u8], node: u8, s: Step) -> Answer
-    requires { ⌜ (length (now records) ≡ 3913) × (onOf (now own) ≤ 8191) ⌝ }
-    ensures { λ r. ⌜ r ≡ told 0 (settled (now (records .entry)) (now (own .entry)) node s) ⌝ }
-    ensures { λ r. ⌜ now (records .exit) ≡ recordsAfter 0 (settled (now (records .entry)) (now (own .entry)) node s) node (now (records .entry)) ⌝ }
+// Whether the buffers have their lengths, the mask names nodes alone, and the node is on: then the call works on the bytes of its record.
+fn is_on(records: usize, own: &[u8], node: u8) -> bool
+    ensures { λ r. ⌜ r ≡ isOn records (now (own .entry)) node ⌝ }
 {
-    if !mask::has(on(own), node) {
-        return refused(when_off(s.number));
+    if either(records != RECORDS, own.len() != OWN) {
+        return false;
     }
-    if s.number != 0 {
-        return refused(s.number);
+    let nodes = on(own);
+    if EVERY_NODE < nodes {
+        return false;
     }
-    let c = s.coordinator;
-    put_record(records, node, c);
+    mask::has(nodes, node)
+}
+
+// What a call on the bytes of a record answers; a refusal has no answer.
+fn answered(c: Called) -> Answer
+    ensures { λ r. ⌜ r ≡ answerOf c ⌝ }
+{
+    if c.number != 0 {
+        return refused(c.number);
+    }
     Answer {
         number: 0,
-        answer: s.answer,
+        answer: c.answer,
     }
 }
 
@@ -61,12 +67,18 @@ pub fn begin(records: &mut [u8], own: &[u8], node: u8, w: BeginWith) -> Answer
     ensures { λ r. ⌜ r ≡ hostTold (ends (now (records .entry)) (now (own .entry))) node (begin node w) ⌝ }
     ensures { λ r. ⌜ now (records .exit) ≡ hostRecords (ends (now (records .entry)) (now (own .entry))) node (begin node w) ⌝ }
 {
+    if is_on(records.len(), own, node) {
+        let start = record::SIZE * wide(node);
+        let end = start + record::SIZE;
+        let c = record::begin(&mut records[start..end], node, w);
+        return answered(c);
+    }
     let number = host_number(records, own, node);
     if number != 0 {
         return refused(number);
     }
     let s = coordinator::begin(record_of(records, node), node, w);
-    settle(records, own, node, s)
+    refused(when_off(s.number))
 }
 
 // Opens an object to read it. Ruled out: it is opened to be written; a byte of another node's record altered.
@@ -74,12 +86,18 @@ pub fn open_read(records: &mut [u8], own: &[u8], node: u8, object: u8) -> Answer
     ensures { λ r. ⌜ r ≡ hostTold (ends (now (records .entry)) (now (own .entry))) node (openRead node object) ⌝ }
     ensures { λ r. ⌜ now (records .exit) ≡ hostRecords (ends (now (records .entry)) (now (own .entry))) node (openRead node object) ⌝ }
 {
+    if is_on(records.len(), own, node) {
+        let start = record::SIZE * wide(node);
+        let end = start + record::SIZE;
+        let c = record::open_read(&mut records[start..end], node, object);
+        return answered(c);
+    }
     let number = host_number(records, own, node);
     if number != 0 {
         return refused(number);
     }
     let s = coordinator::open_read(record_of(records, node), node, object);
-    settle(records, own, node, s)
+    refused(when_off(s.number))
 }
 
 // Opens an object to write it. Ruled out: it is opened to be read; 5 for a node above 12.
@@ -87,12 +105,18 @@ pub fn open_write(records: &mut [u8], own: &[u8], node: u8, object: u8) -> Answe
     ensures { λ r. ⌜ r ≡ hostTold (ends (now (records .entry)) (now (own .entry))) node (openWrite node object) ⌝ }
     ensures { λ r. ⌜ now (records .exit) ≡ hostRecords (ends (now (records .entry)) (now (own .entry))) node (openWrite node object) ⌝ }
 {
+    if is_on(records.len(), own, node) {
+        let start = record::SIZE * wide(node);
+        let end = start + record::SIZE;
+        let c = record::open_write(&mut records[start..end], node, object);
+        return answered(c);
+    }
     let number = host_number(records, own, node);
     if number != 0 {
         return refused(number);
     }
     let s = coordinator::open_write(record_of(records, node), node, object);
-    settle(records, own, node, s)
+    refused(when_off(s.number))
 }
 
 // Gives a written object its new value. Ruled out: the value of another object set; a damaged record taken.
@@ -100,12 +124,18 @@ pub fn set_value(records: &mut [u8], own: &[u8], node: u8, object: u8, value: u6
     ensures { λ r. ⌜ r ≡ hostTold (ends (now (records .entry)) (now (own .entry))) node (setValue node object value) ⌝ }
     ensures { λ r. ⌜ now (records .exit) ≡ hostRecords (ends (now (records .entry)) (now (own .entry))) node (setValue node object value) ⌝ }
 {
+    if is_on(records.len(), own, node) {
+        let start = record::SIZE * wide(node);
+        let end = start + record::SIZE;
+        let c = record::set_value(&mut records[start..end], node, object, value);
+        return answered(c);
+    }
     let number = host_number(records, own, node);
     if number != 0 {
         return refused(number);
     }
     let s = coordinator::set_value(record_of(records, node), node, object, value);
-    settle(records, own, node, s)
+    refused(when_off(s.number))
 }
 
 // Answers the value found for a ready object. Ruled out: the new value; the value found at another node.
@@ -113,12 +143,18 @@ pub fn found(records: &mut [u8], own: &[u8], node: u8, object: u8) -> Answer
     ensures { λ r. ⌜ r ≡ hostTold (ends (now (records .entry)) (now (own .entry))) node (found node object) ⌝ }
     ensures { λ r. ⌜ now (records .exit) ≡ hostRecords (ends (now (records .entry)) (now (own .entry))) node (found node object) ⌝ }
 {
+    if is_on(records.len(), own, node) {
+        let start = record::SIZE * wide(node);
+        let end = start + record::SIZE;
+        let c = record::found(&mut records[start..end], node, object);
+        return answered(c);
+    }
     let number = host_number(records, own, node);
     if number != 0 {
         return refused(number);
     }
     let s = coordinator::found(record_of(records, node), node, object);
-    settle(records, own, node, s)
+    refused(when_off(s.number))
 }
 
 // Takes a fresh live mask and distances. Ruled out: the old quorum answered; a mask that is not the host's written to who is on.
@@ -132,12 +168,18 @@ pub fn reselect(
     ensures { λ r. ⌜ r ≡ hostTold (ends (now (records .entry)) (now (own .entry))) node (reselect node live distances) ⌝ }
     ensures { λ r. ⌜ now (records .exit) ≡ hostRecords (ends (now (records .entry)) (now (own .entry))) node (reselect node live distances) ⌝ }
 {
+    if is_on(records.len(), own, node) {
+        let start = record::SIZE * wide(node);
+        let end = start + record::SIZE;
+        let c = record::reselect(&mut records[start..end], node, live, distances);
+        return answered(c);
+    }
     let number = host_number(records, own, node);
     if number != 0 {
         return refused(number);
     }
     let s = coordinator::reselect(record_of(records, node), node, live, distances);
-    settle(records, own, node, s)
+    refused(when_off(s.number))
 }
 
 // Asks for votes; answers the participants. Ruled out: 8 before 11; a record that stays open.
@@ -145,12 +187,18 @@ pub fn request_commit(records: &mut [u8], own: &[u8], node: u8) -> Answer
     ensures { λ r. ⌜ r ≡ hostTold (ends (now (records .entry)) (now (own .entry))) node (requestCommit node) ⌝ }
     ensures { λ r. ⌜ now (records .exit) ≡ hostRecords (ends (now (records .entry)) (now (own .entry))) node (requestCommit node) ⌝ }
 {
+    if is_on(records.len(), own, node) {
+        let start = record::SIZE * wide(node);
+        let end = start + record::SIZE;
+        let c = record::request_commit(&mut records[start..end], node);
+        return answered(c);
+    }
     let number = host_number(records, own, node);
     if number != 0 {
         return refused(number);
     }
     let s = coordinator::request_commit(record_of(records, node), node);
-    settle(records, own, node, s)
+    refused(when_off(s.number))
 }
 
 // Gives the transaction up. Ruled out: 0 at a node that is off; number 0 with the record left as it was.
@@ -158,10 +206,16 @@ pub fn abort(records: &mut [u8], own: &[u8], node: u8) -> Answer
     ensures { λ r. ⌜ r ≡ hostTold (ends (now (records .entry)) (now (own .entry))) node (abort node) ⌝ }
     ensures { λ r. ⌜ now (records .exit) ≡ hostRecords (ends (now (records .entry)) (now (own .entry))) node (abort node) ⌝ }
 {
+    if is_on(records.len(), own, node) {
+        let start = record::SIZE * wide(node);
+        let end = start + record::SIZE;
+        let c = record::abort(&mut records[start..end], node);
+        return answered(c);
+    }
     let number = host_number(records, own, node);
     if number != 0 {
         return refused(number);
     }
     let s = coordinator::abort(record_of(records, node), node);
-    settle(records, own, node, s)
+    refused(when_off(s.number))
 }
