@@ -9,8 +9,6 @@ use lib.Dec.{eqb, ltb}
 use lib.ListN.{length, take, drop, take-append-drop}
 use lib.Seq.{take-append-seam}
 use borrow.Author.Tests.{eq-eqb, ne-eqb, eqb-true, eqb-false, lt-ltb, ltb-true, not-false}
-use Rattle.parts.specs.Parts.{part, splice}
-use Rattle.parts.proofs.Laws.{length-part}
 use Rattle.wire.specs.Encode.{encode}
 use Rattle.wire.specs.Decode.{decode, checkOf}
 use Rattle.wire.proofs.Theorems.{length-bounds}
@@ -28,18 +26,18 @@ use Rattle.pool.specs.Change.{added, addAfter}
 use Rattle.pool.proofs.Numbers.{Room, fine, add-after}
 use Rattle.pool.proofs.Laws.{length-waiting, count-removed}
 use Rattle.record.specs.declared.Called.{Called}
-use Rattle.clauses.specs.Clauses.{meets}
-use Rattle.record.specs.Record.{recordOf, bytesOf, givenOk}
+use Rattle.record.specs.Record.{bytesOf}
 use Rattle.record.specs.Record.{check as checkRecord}
 use Rattle.record.specs.Call.{called, toldBy, calledOf, kept, recordAfter}
 use Rattle.record.specs.Call.{receivedOf as calledBy}
 use Rattle.record.proofs.OnBytes.{long-answer}
 use Rattle.station.specs.Station.{Station, putAt}
 use Rattle.station.specs.Step.{Outcome, refusedWith, answered, atReplica, atCoordinator}
-use Rattle.station.specs.Buffers.{recordAt, recordDamaged, recordFirst, handedOver}
+use Rattle.station.specs.Buffers.{recordAt, recordFirst, handedOver}
 use Rattle.station.specs.Buffers.{imageAt, withImageAt, imageIn, withRecordAt, recordIn, stationOf, answerWith, told, recordsAfter, all, imagesAfter}
 use Rattle.station.specs.Buffers.{leaving, exchanged, putInto, blocked}
 use Rattle.station.proofs.Waiting.{there-of, check-leaving}
+use Rattle.station.proofs.Records.{splice-same, record-same, damaged-two, damaged-is, same-called, same-after}
 
 -- ---- tests joined
 pub none-said : (b : Bool) → (b && false) ≡ true → ⊥
@@ -58,11 +56,6 @@ not-said false e = refl
 pub image-in : (I : List ℕ) (n : ℕ) → n < 13 → imageIn I n ≡ imageAt I n
 unfolding imageIn
 image-in I n h = simp (lt-ltb n 13 h)
-
--- what was there written back leaves all as it was
-splice-same : (n a : ℕ) (l : List ℕ) → splice n a (part n a l) l ≡ l
-unfolding splice part
-splice-same n a l = ap (_++_ (take a l)) (take-append-drop n (drop a l)) ∙ take-append-drop a l
 
 pub image-same : (I : List ℕ) (n : ℕ) → withImageAt I n (imageAt I n) ≡ I
 unfolding withImageAt imageAt
@@ -283,24 +276,6 @@ module _ (I R P O : List ℕ) (n k : ℕ) (kept : Bool) where
       by false e = simp e
 
 -- ---- a coordinator that works on its record's bytes: damaged bytes are refused, else the call decides
-pub length-record : (R : List ℕ) (n : ℕ) → n < 13 → length R ≡ 3913 → length (recordAt R n) ≡ 301
-unfolding recordAt
-length-record R n h e = length-part 301 (301 * n) R (omega arith)
-
-record-same : (R : List ℕ) (n : ℕ) → withRecordAt R n (recordAt R n) ≡ R
-unfolding withRecordAt recordAt
-record-same R n = splice-same 301 (301 * n) R
-
-two : (a b : Bool) → a ≡ true → (_≡_ {A = ℕ} (cond a (cond b 0 2) 1) 0 → ⊥) → _≡_ {A = ℕ} (cond a (cond b 0 2) 1) 2
-two true true e h = absurd (h refl)
-two true false e h = refl
-two false b e h = absurd (false-true e)
-
--- bytes of a record's length that are none are damaged
-damaged-two : (l : List ℕ) → length l ≡ 301 → (checkRecord l ≡ 0 → ⊥) → checkRecord l ≡ 2
-unfolding checkRecord
-damaged-two l e h = two (eqb (length l) 301) (givenOk 8 l && meets tree (recordOf l)) (eq-eqb (length l) 301 e) h
-
 module _ (I R P O : List ℕ) (n k : ℕ) (stays : Bool) (h : n < 13) (long : length R ≡ 3913) (well : checkOf (messageAt P k) ≡ 0) where
   abbrev f : Coordinator → Step
   f c = receiveOf tree c n (messageAt P k)
@@ -318,30 +293,19 @@ module _ (I R P O : List ℕ) (n k : ℕ) (stays : Bool) (h : n < 13) (long : le
   asked : calledBy n (messageAt P k) l ≡ calledOf f l
   asked = sym (long-answer n (messageAt P k) l (let z : checkOf (messageAt P k) ≡ 1 → ⊥ = (λ e. omega arith) in ne-eqb (checkOf (messageAt P k)) 1 z))
 
-  here : recordIn R n ≡ recordOf l
-  unfolding recordIn
-  here = simp (lt-ltb n 13 h)
-
   -- the bytes are a record, or they are damaged
   sound-bytes : checkRecord l ≡ 0
       → (recordFirst R n ≡ 0) × ((calledBy n (messageAt P k) l ≡ toldBy by-value) × (recordAfter f l ≡ kept by-value l))
-  unfolding recordDamaged calledOf recordAfter
   sound-bytes e =
-      let t = eq-eqb (checkRecord l) 0 e in (
-        simp (lt-ltb n 13 h, t),
-        (
-          asked ∙ simp t (ap (λ (c : Coordinator). toldBy (f c)) (sym here)),
-          simp t (ap (λ (c : Coordinator). kept (f c) l)
-              (sym here)),
-        ),
-      )
+      let t = eq-eqb (checkRecord l) 0 e in
+      (ap (λ (b : Bool). cond b 2 0) (damaged-is R n h true t), (asked ∙ same-called R n f h t, same-after R n f h t))
 
   broken-bytes : (checkRecord l ≡ 0 → ⊥) → (recordFirst R n ≡ 2) × ((calledBy n (messageAt P k) l ≡ called 2 0) × (recordAfter f l ≡ l))
-  unfolding recordDamaged calledOf recordAfter
+  unfolding calledOf recordAfter
   broken-bytes e =
       let t = ne-eqb (checkRecord l) 0 e in
-      let d = damaged-two l (length-record R n h long) e in
-      (simp (lt-ltb n 13 h, t), (asked ∙ simp t (ap (λ (j : ℕ). called j 0) d), simp t))
+      let d = damaged-two R n h long e in
+      (ap (λ (b : Bool). cond b 2 0) (damaged-is R n h false t), (asked ∙ simp t (ap (λ (j : ℕ). called j 0) d), simp t))
 
   pub away : (s : Called) → s ≡ calledBy n (messageAt P k) l → (s .number ≡ 0 → ⊥)
       → (answerWith (s .number) 0 ≡ told (recordFirst R n) place)

@@ -5,20 +5,18 @@ use mathlib.Core.List.{List, _++_}
 use Prim.Native.Nat.{ℕ, _+_, _-_, _*_, _<_, _≤_, _^_}
 use native.Mathlib.Omega.{arith}
 use lib.Dec.{eqb, ltb}
-use lib.ListN.{length, take, drop, take-append-drop}
+use lib.ListN.{length, take, drop}
 use lib.Pow.{pow-mono}
-use borrow.Author.Tests.{eq-eqb, ne-eqb, eqb-true, eqb-false, lt-ltb, le-ltb, ltb-true, ltb-false, not-true, not-false}
+use borrow.Author.Tests.{eq-eqb, ne-eqb, eqb-true, eqb-false, le-ltb, ltb-true, ltb-false, not-true, not-false}
 use Rattle.mask.specs.Mask.{contains}
 use Rattle.mask.proofs.Laws.{bit-high}
 use Rattle.coordinator.specs.declared.Coordinator.{Coordinator}
 use Rattle.coordinator.specs.declared.Step.{Step}
 use Rattle.parts.specs.Parts.{part, splice}
-use Rattle.parts.proofs.Laws.{lent, length-part}
+use Rattle.parts.proofs.Laws.{lent}
 use Rattle.record.specs.declared.Called.{Called}
-use Rattle.clauses.specs.Clauses.{meets}
-use Rattle.coordinator.specs.System.{tree}
-use Rattle.record.specs.Record.{givenOk, recordOf, bytesOf, check}
-use Rattle.record.specs.Call.{toldBy, calledOf, kept, recordAfter}
+use Rattle.record.specs.Record.{bytesOf, check}
+use Rattle.record.specs.Call.{calledOf, kept, recordAfter}
 use Rattle.replica.proofs.Delivered.{past, or-neither}
 use Rattle.station.specs.Station.{putAt}
 use Rattle.station.specs.Step.{Outcome, whenOff, hosted}
@@ -26,6 +24,7 @@ use Rattle.station.specs.Buffers.{withRecordAt, recordDamaged, onOf, own
 use Rattle.station.specs.Buffers.{lower, recordAt, recordIn}
 use Rattle.station.specs.declared.Answer.{Answer}
 use Rattle.station.specs.OnBytes.{isOn, answerOf}
+use Rattle.station.proofs.Records.{record-same, damaged-two, damaged-is, same-called, same-after}
 
 -- ---- what the buffers' number tells
 pub told-first : (n m : ℕ) (o : Outcome) → n ≡ m → (n ≡ 0 → ⊥) → answerWith n 0 ≡ told m o
@@ -168,24 +167,6 @@ off-all R O n z e s t p k q a g =
     )
 
 -- ---- a call on the bytes of a node's record: damaged bytes are refused, else the call decides
-splice-same : (n a : ℕ) (l : List ℕ) → splice n a (part n a l) l ≡ l
-unfolding splice part
-splice-same n a l = ap (_++_ (take a l)) (take-append-drop n (drop a l)) ∙ take-append-drop a l
-
-record-same : (R : List ℕ) (n : ℕ) → withRecordAt R n (recordAt R n) ≡ R
-unfolding withRecordAt recordAt
-record-same R n = splice-same 301 (301 * n) R
-
--- bytes of a record's length that are none are damaged
-two : (a b : Bool) → a ≡ true → (_≡_ {A = ℕ} (cond a (cond b 0 2) 1) 0 → ⊥) → _≡_ {A = ℕ} (cond a (cond b 0 2) 1) 2
-two true true e h = absurd (h refl)
-two true false e h = refl
-two false b e h = absurd (let z : _≡_ {A = ℕ} 0 1 = ap (λ (t : Bool). cond t 1 0) e in omega arith)
-
-damaged-two : (l : List ℕ) → length l ≡ 301 → (check l ≡ 0 → ⊥) → check l ≡ 2
-unfolding check
-damaged-two l e h = two (eqb (length l) 301) (givenOk 8 l && meets tree (recordOf l)) (eq-eqb (length l) 301 e) h
-
 module _ (R O : List ℕ) (n : ℕ) (f : Coordinator → Step) (t : On R O n) where
   abbrev l : List ℕ
   l = recordAt R n
@@ -204,47 +185,35 @@ module _ (R O : List ℕ) (n : ℕ) (f : Coordinator → Step) (t : On R O n) wh
   first-is true e = simp (eq-eqb (length R) 3913 (t .records-long), eq-eqb (length O) 2 (t .own-long), le-ltb 8191 (onOf O) (t .mask), e)
   first-is false e = simp (eq-eqb (length R) 3913 (t .records-long), eq-eqb (length O) 2 (t .own-long), le-ltb 8191 (onOf O) (t .mask), e)
 
-  there : recordIn R n ≡ recordOf l
-  unfolding recordIn
-  there = simp (lt-ltb n 13 (t .node))
-
   abbrev Goal : Type 0
   Goal = (answerOf (calledOf f l) ≡ told first here) × (withRecordAt R n (recordAfter f l) ≡ recordsAfter first here n R)
 
   -- the bytes are no record
   broken : eqb (check l) 0 ≡ false → Goal
-  unfolding recordDamaged calledOf recordAfter answerOf told recordsAfter recordAt
+  unfolding calledOf recordAfter answerOf told recordsAfter
   broken e =
-      let d = damaged-two l (length-part 301 (301 * n) R (let w = t .records-long in let v = t .node in omega arith)) (eqb-false (check l) 0 e) in
-      let z = first-is true (simp (lt-ltb n 13 (t .node), e)) in
+      let d = damaged-two R n (t .node) (t .records-long) (eqb-false (check l) 0 e) in
+      let z = first-is true (damaged-is R n (t .node) false e) in
       (simp (e, d, z), simp (e, z) (record-same R n))
 
   -- they are one
-  same-called : eqb (check l) 0 ≡ true → calledOf f l ≡ toldBy s
-  unfolding calledOf
-  same-called e = simp e (ap (λ (c : Coordinator). toldBy (f c)) (sym there))
-
-  same-after : eqb (check l) 0 ≡ true → recordAfter f l ≡ kept s l
-  unfolding recordAfter
-  same-after e = simp e (ap (λ (c : Coordinator). kept (f c) l) (sym there))
-
   whole : eqb (check l) 0 ≡ true → Goal
-  unfolding answerOf kept recordDamaged
+  unfolding answerOf kept
   whole e = by (eqb (s .number) 0) refl
     where
       z : first ≡ 0
-      z = first-is false (simp (lt-ltb n 13 (t .node), e))
+      z = first-is false (damaged-is R n (t .node) true e)
 
       by : (b : Bool) → eqb (s .number) 0 ≡ b → Goal
       by true q =
           let y = eqb-true (s .number) 0 q in (
-            ap answerOf (same-called e) ∙ simp q (taken-told R O n s (t .on) y) ∙ ap (λ (k : ℕ). told k here) (sym z),
-            ap (withRecordAt R n) (same-after e ∙ simp q) ∙ taken-written R O n s (t .on) y ∙ ap (λ (k : ℕ). recordsAfter k here n R) (sym z),
+            ap answerOf (same-called R n f (t .node) e) ∙ simp q (taken-told R O n s (t .on) y) ∙ ap (λ (k : ℕ). told k here) (sym z),
+            ap (withRecordAt R n) (same-after R n f (t .node) e ∙ simp q) ∙ taken-written R O n s (t .on) y ∙ ap (λ (k : ℕ). recordsAfter k here n R) (sym z),
           )
       by false q =
           let y = eqb-false (s .number) 0 q in (
-            ap answerOf (same-called e) ∙ simp q (refused-told R O n s (t .on) y) ∙ ap (λ (k : ℕ). told k here) (sym z),
-            ap (withRecordAt R n) (same-after e ∙ simp q) ∙ record-same R n ∙ refused-left R O n s (t .on) y
+            ap answerOf (same-called R n f (t .node) e) ∙ simp q (refused-told R O n s (t .on) y) ∙ ap (λ (k : ℕ). told k here) (sym z),
+            ap (withRecordAt R n) (same-after R n f (t .node) e ∙ simp q) ∙ record-same R n ∙ refused-left R O n s (t .on) y
                 ∙ ap (λ (k : ℕ). recordsAfter k here n R) (sym z),
           )
 

@@ -1,11 +1,8 @@
 // A node's record among the records, who is on, and refusals.
 ghost use mathlib.Core.Path.{_≡_};
-ghost use mathlib.Core.List.{[]};
-ghost use Prim.Native.Nat.{_≤_, _<_};
 ghost use lib.ListN.{length};
-ghost use Rattle.record.specs.Record.{bytesOf};
 ghost use Rattle.station.specs.Step.{whenOff};
-ghost use Rattle.station.specs.Buffers.{recordDamaged, recordIn, withRecordAt, onOf, answerWith};
+ghost use Rattle.station.specs.Buffers.{recordDamaged, recordIn, onOf, answerWith};
 use crate::Answer;
 use coordinator::Coordinator;
 
@@ -67,14 +64,4 @@ pub(crate) fn record_of(records: &[u8], node: u8) -> Coordinator
     } else {
         coordinator::blank()
     }
-}
-
-// A node's record written back.
-pub(crate) fn put_record(records: &mut [u8], node: u8, c: Coordinator)
-    requires { ⌜ (length (now records) ≡ 3913) × (node < 13) ⌝ }
-    ensures { λ r. ⌜ now (records .exit) ≡ withRecordAt (now (records .entry)) node (bytesOf c) ⌝ }
-{
-    let start = record::SIZE * wide(node);
-    let end = start + record::SIZE;
-    record::write(&mut records[start..end], c);
 }
