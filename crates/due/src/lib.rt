@@ -20,13 +20,13 @@ use wire::Written;
 const OBJECTS_END: usize = 64;
 
 // The first `count` of eight entries.
-struct Gathered {
-    entries: [Entry; OBJECTS],
-    count: usize,
+pub struct Gathered {
+    pub entries: [Entry; OBJECTS],
+    pub count: usize,
 }
 
-// The entry of an opened object: a read's value is 0, a write's is the new one.
-fn entry_for(x: Object) -> Entry
+// The entry of an opened object: a read's value is 0, a write's is the new one. Ruled out: the value found; the version after it.
+pub fn entry_for(x: Object) -> Entry
     ensures { λ r. ⌜ r ≡ entryFor x ⌝ }
 {
     let value = if x.mode == 0 { 0 } else { x.new };
@@ -38,8 +38,8 @@ fn entry_for(x: Object) -> Entry
     }
 }
 
-// Room for eight entries.
-fn no_entries() -> [Entry; OBJECTS]
+// Room for eight entries. Ruled out: an object other than 0; seven entries.
+pub fn no_entries() -> [Entry; OBJECTS]
     ensures { λ r. ⌜ r ≡ replicate 8 noEntry ⌝ }
 {
     let e = Entry {

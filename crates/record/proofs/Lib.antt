@@ -1,6 +1,6 @@
 -- What the proofs of the functions share: equal fields (Made), bytes that are 0 (Zero), loops that read items (Items), bytes stored piece by
 -- piece (Stores), a call on bytes (OnBytes), the check as the clauses ask (Valid). The laws of the layout (RoundTrip), and that every call leaves a
--- record (Kept).
+-- record (Kept). The entries of what is due (Gather).
 pub mod Made
 pub mod Zero
 pub mod Items
@@ -12,3 +12,4 @@ pub mod Valid
 pub mod RoundTrip
 pub mod Kept
 pub mod Stored
+pub mod Gather

@@ -1,13 +1,13 @@
 -- A call on bytes, by whether they are a record: refused bytes are left as they were, else the call by value decides.
 use mathlib.Core.Path.{_≡_, refl, sym, ap, _∙_}
-use mathlib.Core.Bool.{Bool, true, false, cond}
+use mathlib.Core.Bool.{Bool, true, false, cond, _&&_, _||_}
 use mathlib.Core.List.{List, [], _++_, append-nil}
 use Prim.Native.Nat.{ℕ, _≤_}
 use native.Mathlib.Omega.{arith}
-use lib.Dec.{eqb}
+use lib.Dec.{eqb, ltb}
 use lib.ListN.{length, take, drop, drop-of-length-le}
 use lib.Seq.{take-all}
-use borrow.Author.Tests.{eq-eqb, ne-eqb, eqb-true}
+use borrow.Author.Tests.{eq-eqb, ne-eqb, eqb-true, eqb-false, ltb-false}
 use Rattle.numbers.specs.Refusal.{firstOf}
 use Rattle.wire.specs.Decode.{checkOf}
 use Rattle.wire.specs.Write.{answer}
@@ -16,9 +16,11 @@ use Rattle.coordinator.specs.declared.Step.{Step}
 use Rattle.coordinator.specs.System.{tree}
 use Rattle.coordinator.specs.State.{stepOf}
 use Rattle.coordinator.specs.Receive.{receiveRefusals, receiveOf}
+use Rattle.clauses.specs.Clauses.{meets}
+use Rattle.clauses.proofs.Parts.{neither-left, neither-right}
 use Rattle.due.specs.Due.{dueWritten, dueBuffer}
 use Rattle.record.specs.declared.Called.{Called}
-use Rattle.record.specs.Record.{recordOf, bytesOf, check}
+use Rattle.record.specs.Record.{recordOf, bytesOf, givenOk, check}
 use Rattle.record.specs.Call.{called, toldBy, calledOf, kept, recordAfter, receivedOf, dueFirst, recordDue, recordDueBuffer}
 
 -- bytes that are a record have its length
@@ -103,6 +105,29 @@ module _ (l : List ℕ) (me node object : ℕ) where
   due-filled out e c p =
       simp (eq-eqb (firstOf (dueFirst l (length out))) 0 e) (ap (λ (x : Coordinator). dueBuffer tree x me node object out) p)
 
+-- nothing refuses: a record, and a buffer that is long enough
+none-first : (a b : Bool) → _≡_ {A = ℕ} (cond a 1 (cond b 2 0)) 0 → (a ≡ false) × (b ≡ false)
+none-first true b e = absurd (let z : ⊥ = omega arith in z)
+none-first false true e = absurd (let z : ⊥ = omega arith in z)
+none-first false false e = (refl, refl)
+
+zero-left : (a b : Bool) (n : ℕ) → n ≡ cond a (cond b 0 2) 1 → (n ≡ 1 → ⊥) → (n ≡ 2 → ⊥) → n ≡ 0
+zero-left true true n e f g = e
+zero-left true false n e f g = absurd (g e)
+zero-left false b n e f g = absurd (f e)
+
+clear : (l : List ℕ) → (check l ≡ 1 → ⊥) → (check l ≡ 2 → ⊥) → check l ≡ 0
+unfolding check
+clear l f g = zero-left (eqb (length l) 301) (givenOk 8 l && meets tree (recordOf l)) (check l) refl f g
+
+pub due-clear : (l : List ℕ) (size : ℕ) → firstOf (dueFirst l size) ≡ 0 → (check l ≡ 0) × (128 ≤ size)
+unfolding dueFirst
+due-clear l size e =
+    let p = none-first (eqb (check l) 1 || ltb size 128) (eqb (check l) 2) e in
+    let a = neither-left (eqb (check l) 1) (ltb size 128) (p .0) in
+    let b = neither-right (eqb (check l) 1) (ltb size 128) (p .0) in
+    (clear l (eqb-false (check l) 1 a) (eqb-false (check l) 2 (p .1)), ltb-false size 128 b)
+
 -- ---- a step by value: refused, it leaves the bytes; taken, it leaves those of its record
 module _ (n a : ℕ) (c d : Coordinator) (l : List ℕ) where
   pub told-refused : (m : ℕ) → m ≡ n → (m ≡ 0 → ⊥) → called m 0 ≡ toldBy (stepOf n a c d)
@@ -123,7 +148,7 @@ module _ (n a : ℕ) (c d : Coordinator) (l : List ℕ) where
 
 -- ---- a call that is handed the 301 bytes as a part: they are all the bytes
 module _ (l : List ℕ) (e : check l ≡ 0) where
-  all-of : take 301 l ≡ l
+  pub all-of : take 301 l ≡ l
   all-of = take-all 301 l (let z = checked-length l e in omega arith)
 
   pub part-long : 301 ≤ length l

@@ -11,6 +11,7 @@ use crate::SIZE;
 use crate::arrive;
 use crate::deeds;
 use crate::deeds::open;
+use crate::duties;
 use crate::load::read;
 use crate::store::write;
 use crate::verify::check;
@@ -172,5 +173,5 @@ pub fn write_due(bytes: &[u8], me: u8, node: u8, object: u8, out: &mut [u8]) -> 
     if number != 0 {
         return Written { number, length: 0 };
     }
-    due::write(read(bytes), me, node, object, out)
+    duties::write(&bytes[..SIZE], me, node, object, out)
 }

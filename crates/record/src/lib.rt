@@ -2,6 +2,7 @@
 mod arrive;
 mod calls;
 mod deeds;
+mod duties;
 mod load;
 mod look;
 mod store;

@@ -1,10 +1,11 @@
 -- `record::calls::write_due`: either length, a damaged record, or what is due.
-use mathlib.Core.Path.{_≡_, sym, _∙_}
+use mathlib.Core.Path.{_≡_, sym, ap, _∙_}
 use denote.Ref.{now}
 use lib.ListN.{length}
 use Rattle.numbers.specs.Refusal.{firstOf}
+use Rattle.record.specs.Record.{recordOf}
 use Rattle.record.specs.Call.{dueFirst}
-use Rattle.record.proofs.OnBytes.{due-refused, due-left, due-taken, due-filled}
+use Rattle.record.proofs.OnBytes.{due-refused, due-left, due-taken, due-filled, due-clear, part-count, part-checked, all-of}
 use borrow.Author.Needs.{needs}
 use Rattle.record.proofs.calls.write_due.Statement.{statement}
 use Rattle.record.proofs.calls.write_due.Tie as tie
@@ -36,11 +37,34 @@ returns c =
       due-left (now (x .bytes)) (x .me) (x .node) (x .object) (now (x .out)) _ e (c .if1 .taken),
     )
 
-read-requires : tie.Need-read-requires
-read-requires c κs = search needs
+slice-aggregate-write : tie.Need-slice-aggregate-write
+unfolding dueFirst
+slice-aggregate-write c =
+    let x = c .before .before .before .before .before .before .before .before .args in
+    let e : c .before .before .refuse2 .result ≡ firstOf (dueFirst (now (x .bytes)) (length (now (x .out)))) =
+    rw (
+      c .before .before .refuse2 .ensures,
+      c .before .before .before .either .ensures,
+      c .before .before .before .before .refuse .ensures,
+      c .before .before .before .before .before .check .ensures,
+    ) in
+    let z = sym e ∙ c .before .if1 .left in
+    part-count _ (due-clear (now (x .bytes)) (length (now (x .out))) z .0)
 
 write-requires : tie.Need-write-requires
-write-requires c κs = search needs
+unfolding dueFirst
+write-requires c κs =
+    let x = c .before .before .before .before .before .before .before .before .before .args in
+    let e : c .before .before .before .refuse2 .result ≡ firstOf (dueFirst (now (x .bytes)) (length (now (x .out)))) =
+    rw (
+      c .before .before .before .refuse2 .ensures,
+      c .before .before .before .before .either .ensures,
+      c .before .before .before .before .before .refuse .ensures,
+      c .before .before .before .before .before .before .check .ensures,
+    ) in
+    let z = sym e ∙ c .before .before .if1 .left in
+    let q = due-clear (now (x .bytes)) (length (now (x .out))) z in
+    (part-checked _ (q .0), q .1)
 
 same-length : tie.Need-same-length
 same-length c = search needs
@@ -48,19 +72,20 @@ same-length c = search needs
 returns-2 : tie.Need-returns-2
 unfolding dueFirst
 returns-2 c =
-    let b8 = c .before .before .before .before .before .before .before .before in
-    let x = b8 .before .before .before .before .args in
+    let x = c .before .before .before .before .before .before .before .before .before .before .before .before .args in
     let e : c .before .before .before .before .before .before .refuse2 .result ≡ firstOf (dueFirst (now (x .bytes)) (length (now (x .out)))) =
     rw (
       c .before .before .before .before .before .before .refuse2 .ensures,
       c .before .before .before .before .before .before .before .either .ensures,
-      b8 .refuse .ensures,
-      b8 .before .check .ensures,
+      c .before .before .before .before .before .before .before .before .refuse .ensures,
+      c .before .before .before .before .before .before .before .before .before .check .ensures,
     ) in
     let z = sym e ∙ c .before .before .before .before .before .if1 .left in
+    let l = now (x .bytes) in
+    let same = ap recordOf (all-of l (due-clear l (length (now (x .out))) z .0)) in
     let w = c .before .before .write .ensures in (
-      w .0 ∙ due-taken (now (x .bytes)) (x .me) (x .node) (x .object) (length (now (x .out))) z _ (c .before .before .before .before .read .ensures),
-      w .1 ∙ due-filled (now (x .bytes)) (x .me) (x .node) (x .object) (now (x .out)) z _ (c .before .before .before .before .read .ensures),
+      w .0 ∙ due-taken l (x .me) (x .node) (x .object) (length (now (x .out))) z _ same,
+      w .1 ∙ due-filled l (x .me) (x .node) (x .object) (now (x .out)) z _ same,
     )
 
 pub write-due-spec : {M : Type 1} → statement M
@@ -72,7 +97,7 @@ write-due-spec =
     either-requires
     refuse-requires-2
     returns
-    read-requires
+    slice-aggregate-write
     write-requires
     same-length
     returns-2)
