@@ -54,8 +54,8 @@ unfolding recordOf objectsOf objectOf
 stands-at l j h = ap (λ (x : Object). x .object) (getD-items objectOf 25 l noObject 8 43 j h)
 
 -- so none is open there
-pub shut-between : (l : List ℕ) (lo m : ℕ) → check l ≡ 0 → Past l lo m (recordOf l .count) → (n : ℕ) → lo ≤ n → n < m → isOpen (recordOf l) n ≡ false
-shut-between l lo m e p n a b =
+pub shut-between : (l : List ℕ) (lo m : ℕ) → Past l lo m (recordOf l .count) → (n : ℕ) → lo ≤ n → n < m → isOpen (recordOf l) n ≡ false
+shut-between l lo m p n a b =
     by-test (isOpen (recordOf l) n ≡ false) (isOpen (recordOf l) n)
     (λ o.
     let h : placeOf (recordOf l) n < 8 = ltb-true (placeOf (recordOf l) n) 8 o in

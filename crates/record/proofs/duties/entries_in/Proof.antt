@@ -27,7 +27,9 @@ no-entries-requires : tie.Need-no-entries-requires Inv-loop μ-loop
 no-entries-requires c κs = search needs
 
 loop-holds : tie.Need-loop-holds Inv-loop μ-loop
-loop-holds c = (ap length (c .no-entries .ensures), (omega arith, gather-start (recordOf (now (c .before .before .before .args .bytes))) (c .no-entries .result)))
+loop-holds c =
+    let x = c .before .before .before .args in
+    (ap length (c .no-entries .ensures), (omega arith, gather-start (recordOf (now (x .bytes))) (c .no-entries .result)))
 
 next-open-requires : tie.Need-next-open-requires Inv-loop μ-loop
 next-open-requires c κs = (c .before .before .before .before .before .pre, c .before .loop .inv .1 .0)
@@ -37,7 +39,8 @@ returns c =
     let x = c .before .before .before .before .before .before .before .args in
     let k = c .before .before .before .loop in
     let m = c .before .next-open in
-    gather-end (recordOf (now (x .bytes))) (k .entries) (k .k) (k .lo) (m .result) (m .ensures .0 .0) (m .ensures .1) (k .inv .1 .1) (c .if1 .taken) (m .ensures .0 .1)
+    gather-end (recordOf (now (x .bytes))) (k .entries) (k .k) (k .lo) (m .result) (m .ensures .0 .0) (m .ensures .1) (k .inv .1 .1)
+    (c .if1 .taken) (m .ensures .0 .1)
 
 place-requires : tie.Need-place-requires Inv-loop μ-loop
 place-requires c κs = readable _ (c .before .before .before .before .before .before .before .pre)
@@ -53,20 +56,23 @@ entry-for-requires c κs = search needs
 
 mul-entries : tie.Need-mul-entries Inv-loop μ-loop
 mul-entries c =
-    let z = readable _ (c .before .before .before .before .before .before .before .before .before .before .before .pre) in
-    let q : c .before .before .before .before .before .before .before .loop .k < 8 = omega (arith, z .1, c .before .before .before .before .before .before .before .before .before .count .ensures) in
+    let b = c .before .before .before .before .before .before .before in
+    let z = readable _ (b .before .before .before .before .pre) in
+    let q : b .loop .k < 8 = omega (arith, z .1, b .before .before .count .ensures) in
     search needs
 
 array-set-from-entries : tie.Need-array-set-from-entries Inv-loop μ-loop
 array-set-from-entries c =
-    let z = readable _ (c .before .before .before .before .before .before .before .before .before .before .before .pre) in
-    let q : c .before .before .before .before .before .before .before .loop .k < 8 = omega (arith, z .1, c .before .before .before .before .before .before .before .before .before .count .ensures) in
+    let b = c .before .before .before .before .before .before .before in
+    let z = readable _ (b .before .before .before .before .pre) in
+    let q : b .loop .k < 8 = omega (arith, z .1, b .before .before .count .ensures) in
     q
 
 add-k : tie.Need-add-k Inv-loop μ-loop
 add-k c =
-    let z = readable _ (c .before .before .before .before .before .before .before .before .before .before .before .pre) in
-    let q : c .before .before .before .before .before .before .before .loop .k < 8 = omega (arith, z .1, c .before .before .before .before .before .before .before .before .before .count .ensures) in
+    let b = c .before .before .before .before .before .before .before in
+    let z = readable _ (b .before .before .before .before .pre) in
+    let q : b .loop .k < 8 = omega (arith, z .1, b .before .before .count .ensures) in
     omega arith
 
 loop-less : tie.Need-loop-less Inv-loop μ-loop
@@ -75,8 +81,9 @@ loop-less c = omega (arith, c .before .before .before .before .before .next-open
 loop-again : tie.Need-loop-again Inv-loop μ-loop
 unfolding recordOf
 loop-again c =
-    let z = readable _ (c .before .before .before .before .before .before .before .before .before .before .before .pre) in
-    let q : c .before .before .before .before .before .before .before .loop .k < 8 = omega (arith, z .1, c .before .before .before .before .before .before .before .before .before .count .ensures) in
+    let b = c .before .before .before .before .before .before .before in
+    let z = readable _ (b .before .before .before .before .pre) in
+    let q : b .loop .k < 8 = omega (arith, z .1, b .before .before .count .ensures) in
     let x = c .before .before .before .before .before .before .before .before .before .before .before .args in
     let k = c .before .before .before .before .before .before .before .loop in
     let m = c .before .before .before .before .before .next-open in
@@ -85,7 +92,8 @@ loop-again c =
       search needs,
       (
         omega (arith, c .before .before .before .before .if1 .left),
-        gather-open (recordOf (now (x .bytes))) (k .entries) (k .k) (k .lo) (m .result) (m .ensures .0 .0) (m .ensures .1) (k .inv .1 .1) (p .result) (c .entry-for .result) (k .inv .0) q (p .ensures .0) (c .before .before .if2 .taken) e,
+        gather-open (recordOf (now (x .bytes))) (k .entries) (k .k) (k .lo) (m .result) (m .ensures .0 .0) (m .ensures .1) (k .inv .1 .1)
+            (p .result) (c .entry-for .result) (k .inv .0) q (p .ensures .0) (c .before .before .if2 .taken) e,
       ),
     )
 
@@ -98,13 +106,17 @@ loop-again-2 c =
     let k = c .before .before .before .before .before .loop in
     let m = c .before .before .before .next-open in
     let p = c .before .place in
-    (k .inv .0, (omega (arith, c .before .before .if1 .left), gather-shut (recordOf (now (x .bytes))) (k .entries) (k .k) (k .lo) (m .result) (m .ensures .0 .0) (m .ensures .1) (k .inv .1 .1) (p .result) (p .ensures .0) (c .if2 .left)))
+    let s =
+    gather-shut (recordOf (now (x .bytes))) (k .entries) (k .k) (k .lo) (m .result) (m .ensures .0 .0) (m .ensures .1) (k .inv .1 .1)
+    (p .result) (p .ensures .0) (c .if2 .left) in
+    (k .inv .0, (omega (arith, c .before .before .if1 .left), s))
 
 returns-2 : tie.Need-returns-2 Inv-loop μ-loop
 returns-2 c =
     let x = c .before .before .before .before .before .args in
     let k = c .before .loop in
-    gather-full (now (x .bytes)) (c .before .before .before .before .before .pre) (k .entries) (k .k) (k .lo) (k .inv .1 .0) (omega (arith, c .before .before .before .count .ensures)) (k .inv .1 .1)
+    let n = c .before .before .before in
+    gather-full (now (x .bytes)) (n .before .before .pre) (k .entries) (k .k) (k .lo) (k .inv .1 .0) (omega (arith, n .count .ensures)) (k .inv .1 .1)
 
 pub entries-in-spec : {M : Type 1} → statement M
 entries-in-spec =

@@ -23,7 +23,9 @@ count-requires : tie.Need-count-requires Inv-loop μ-loop
 count-requires c κs = search needs
 
 loop-holds : tie.Need-loop-holds Inv-loop μ-loop
-loop-holds c = (omega arith, (omega arith, (c .before .before .pre .1, (omega arith, past-none (now (c .before .before .args .bytes)) (c .before .before .args .lo) 64))))
+loop-holds c =
+    let x = c .before .before .args in
+    (omega arith, (omega arith, (c .before .before .pre .1, (omega arith, past-none (now (x .bytes)) (x .lo) 64))))
 
 shared-slice-read-x : tie.Need-shared-slice-read-x Inv-loop μ-loop
 shared-slice-read-x c =
@@ -68,7 +70,7 @@ returns c =
     let n = c .before .before .count .ensures in
     let last : k .i ≡ recordOf (now (x .bytes)) .count = omega (arith, n, k .inv .0) in (
       (k .inv .1 .1 .0, k .inv .1 .1 .1 .0),
-      shut-between (now (x .bytes)) (x .lo) (k .m) (c .before .before .before .before .pre .0) (subst (Past (now (x .bytes)) (x .lo) (k .m)) last (k .inv .1 .1 .1 .1)),
+      shut-between (now (x .bytes)) (x .lo) (k .m) (subst (Past (now (x .bytes)) (x .lo) (k .m)) last (k .inv .1 .1 .1 .1)),
     )
 
 pub next-open-spec : {M : Type 1} → statement M

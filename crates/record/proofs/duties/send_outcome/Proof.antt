@@ -34,10 +34,11 @@ same-length c = search needs
 returns : tie.Need-returns
 unfolding recordOf
 returns c =
-    let k = eq-eqb _ 1 (sym (c .before .before .before .before .before .before .before .get-u8 .ensures) ∙ c .before .before .before .before .before .before .if1 .taken) in
+    let b = c .before .before .before .before .before .before in
+    let k = eq-eqb _ 1 (sym (b .before .get-u8 .ensures) ∙ b .if1 .taken) in
     let e = listed-all _ _ (c .before .before .before .before .before .entries-in .ensures) in
-    let s = c .before .before .before .before .before .before .before .before .before .get-u32 .ensures in
-    let t = c .before .before .before .before .before .before .before .before .get-u322 .ensures in
+    let s = b .before .before .before .get-u32 .ensures in
+    let t = b .before .before .get-u322 .ensures in
     let w = c .before .before .write-outcome .ensures in
     (simp k (simp (e, s, t) at (w .0)), simp k (simp (e, s, t) at (w .1)))
 
