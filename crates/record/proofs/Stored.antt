@@ -16,7 +16,7 @@ use Rattle.mask.specs.Mask.{only, joined, within}
 use Rattle.coordinator.specs.declared.Object.{Object}
 use Rattle.coordinator.specs.declared.Coordinator.{Coordinator}
 use Rattle.coordinator.specs.State.{openPhase, placeOf, objectAt, isOpen, ready}
-use Rattle.coordinator.specs.Calls.{withObjects, withPhase, fresh, opened}
+use Rattle.coordinator.specs.Calls.{withObjects, withPhase, fresh, opened, requested}
 use Rattle.coordinator.specs.Receive.{answers, copyFits, raiseFrom, withYes}
 use Rattle.coordinator.specs.System.{tree}
 use Rattle.wire.specs.Items.{entryOf}
@@ -25,7 +25,7 @@ use Rattle.record.specs.Call.{called, toldBy, kept}
 use Rattle.record.specs.Change.{withRivals, yesTaken}
 use Rattle.record.proofs.OnBytes.{checked-length}
 use Rattle.record.proofs.Kept.{checked-meets, same-bytes}
-use Rattle.record.proofs.Pieces.{quorum-changed, object-changed, turned, yes-put, done-put, rivals-changed}
+use Rattle.record.proofs.Pieces.{quorum-changed, object-changed, turned, participants-put, yes-put, done-put, rivals-changed}
 
 -- what the deeds ask of the bytes that they read
 pub readable : (l : List ℕ) → check l ≡ 0 → (length l ≡ 301) × (recordOf l .count ≤ 8)
@@ -95,6 +95,14 @@ module _ (l : List ℕ) (b : Bytes l) (e : check l ≡ 0) where
       let z = checked-meets l e .sizes in
       ap (λ (m : List ℕ). set (set m 8 outcome) 9 phase) (sym (same-bytes l b e))
       ∙ turned c (z .distances-13) (z .objects-8) (z .rivals-13) outcome phase
+
+  -- votes asked for
+  pub requested-stored : (v : ℕ) → put 2 (set (set l 8 (recordOf l .outcome)) 9 2) 243 v ≡ bytesOf (requested (recordOf l) v)
+  unfolding requested
+  requested-stored v =
+      let z = checked-meets l e .sizes in
+      let d : Coordinator = withPhase c 2 (c .outcome) (c .participants) (c .yes) (c .done) (c .rivals) in
+      ap (λ (m : List ℕ). put 2 m 243 v) (turned-stored (c .outcome) 2) ∙ participants-put d (z .distances-13) (z .objects-8) (z .rivals-13) v
 
   pub done-stored : (v : ℕ)
       → put 2 l 247 v

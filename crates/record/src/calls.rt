@@ -127,8 +127,7 @@ pub fn request_commit(bytes: &mut [u8], me: u8) -> Called
     if number != 0 {
         return failed(number);
     }
-    let s = coordinator::request_commit(read(bytes), me);
-    keep(bytes, s)
+    deeds::request_commit(&mut bytes[..SIZE], me)
 }
 
 // Gives the transaction up. Ruled out: a finishing one aborted; number 0 with the record left as it was.
@@ -140,8 +139,7 @@ pub fn abort(bytes: &mut [u8], me: u8) -> Called
     if number != 0 {
         return failed(number);
     }
-    let s = coordinator::abort(read(bytes), me);
-    keep(bytes, s)
+    deeds::abort(&mut bytes[..SIZE], me)
 }
 
 // Delivers a message; answers what it brought about: 1 for either length, then as any call.

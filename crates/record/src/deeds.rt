@@ -5,14 +5,19 @@ ghost use lib.ListN.{length};
 ghost use Rattle.numbers.specs.Refusal.{firstOf};
 ghost use Rattle.coordinator.specs.System.{tree};
 ghost use Rattle.coordinator.specs.State.{objectAt};
-ghost use Rattle.coordinator.specs.Calls.{openRefusals, openOf, setRefusals, setOf, foundRefusals, foundOf};
+ghost use Rattle.coordinator.specs.Calls.{openRefusals, openOf, setRefusals, setOf, foundRefusals, foundOf, requestCommitOf, abortRefusals, abortOf};
 ghost use Rattle.record.specs.Record.{recordOf, check};
 ghost use Rattle.record.specs.Call.{called, toldBy, kept};
 use crate::CONTACTED;
 use crate::Called;
 use crate::OBJECT_SIZE;
 use crate::OBJECTS_PLACE;
+use crate::OUTCOME;
+use crate::PARTICIPANTS;
 use crate::QUORUM;
+use crate::arrive::end_aborted;
+use crate::arrive::turn;
+use crate::load::read;
 use crate::look::count;
 use crate::look::object_at;
 use crate::look::phase;
@@ -23,6 +28,7 @@ use coordinator::IDLE;
 use coordinator::OBJECTS;
 use coordinator::OPEN;
 use coordinator::Object;
+use coordinator::VOTING;
 use numbers::either;
 use numbers::refuse;
 
@@ -146,4 +152,43 @@ pub(crate) fn found(bytes: &[u8], me: u8, object: u8) -> Called
     }
     let x = object_named(bytes, object);
     taken(x.value)
+}
+
+// Asks for votes: the call by value decides, and the phase and the participants alone change.
+pub(crate) fn request_commit(bytes: &mut [u8], me: u8) -> Called
+    requires { ⌜ check (now bytes) ≡ 0 ⌝ }
+    ensures { λ r. ⌜ r ≡ toldBy (requestCommitOf tree (recordOf (now (bytes .entry))) me) ⌝ }
+    ensures { λ r. ⌜ now (bytes .exit) ≡ kept (requestCommitOf tree (recordOf (now (bytes .entry))) me) (now (bytes .entry)) ⌝ }
+{
+    let s = coordinator::request_commit(read(bytes), me);
+    if s.number != 0 {
+        return refused(s.number);
+    }
+    let c = s.coordinator;
+    turn(bytes, octets::get_u8(bytes, OUTCOME), VOTING);
+    octets::put_u16(bytes, PARTICIPANTS, c.participants);
+    taken(s.answer)
+}
+
+// The number of an abort.
+fn abort_number(bytes: &[u8], me: u8) -> u8
+    ensures { λ r. ⌜ r ≡ firstOf (abortRefusals (recordOf (now (bytes .entry))) me) ⌝ }
+{
+    let at = phase(bytes);
+    let turn = refuse(numbers::OUT_OF_TURN, !either(at == OPEN, at == VOTING), 0);
+    refuse(numbers::STRANGER, !(me < 13), turn)
+}
+
+// Gives the transaction up.
+pub(crate) fn abort(bytes: &mut [u8], me: u8) -> Called
+    requires { ⌜ check (now bytes) ≡ 0 ⌝ }
+    ensures { λ r. ⌜ r ≡ toldBy (abortOf (recordOf (now (bytes .entry))) me) ⌝ }
+    ensures { λ r. ⌜ now (bytes .exit) ≡ kept (abortOf (recordOf (now (bytes .entry))) me) (now (bytes .entry)) ⌝ }
+{
+    let number = abort_number(bytes, me);
+    if number != 0 {
+        return refused(number);
+    }
+    end_aborted(bytes);
+    taken(0)
 }

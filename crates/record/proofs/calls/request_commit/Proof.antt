@@ -1,10 +1,10 @@
--- `record::calls::request_commit`: refused bytes, or the call by value.
-use mathlib.Core.Path.{sym, ap, _∙_}
+-- `record::calls::request_commit`: refused bytes, or the call on all of them.
+use mathlib.Core.Path.{sym, _∙_}
 use denote.Ref.{now}
 use Rattle.coordinator.specs.declared.Coordinator.{Coordinator}
 use Rattle.coordinator.specs.System.{tree}
 use Rattle.coordinator.specs.Calls.{requestCommitOf}
-use Rattle.record.proofs.OnBytes.{checked-length, refused-called, refused-record, taken-called, taken-record}
+use Rattle.record.proofs.OnBytes.{refused-called, refused-record, part-long, part-count, part-checked, part-called, part-record}
 use borrow.Author.Needs.{needs}
 use Rattle.record.proofs.calls.request_commit.Statement.{statement}
 use Rattle.record.proofs.calls.request_commit.Tie as tie
@@ -27,30 +27,26 @@ returns c =
       refused-record (λ (c : Coordinator). requestCommitOf tree c (x .me)) (now (x .bytes)) _ e h,
     )
 
-read-requires : tie.Need-read-requires
-read-requires c κs = search needs
+slice-relend-prefix-request-commit : tie.Need-slice-relend-prefix-request-commit
+slice-relend-prefix-request-commit c = part-long _ (sym (c .before .check .ensures) ∙ c .if1 .left)
+
+slice-aggregate-request-commit : tie.Need-slice-aggregate-request-commit
+slice-aggregate-request-commit c = part-count _ (sym (c .before .before .check .ensures) ∙ c .before .if1 .left)
 
 request-commit-requires : tie.Need-request-commit-requires
-request-commit-requires c κs = search needs
-
-keep-requires : tie.Need-keep-requires
-keep-requires c κs =
-    let b8 = c .before .before .before .before .before .before .before .before in
-    checked-length (now (b8 .args .bytes)) (sym (c .before .before .before .before .before .check .ensures) ∙ c .before .before .before .before .if1 .left)
+request-commit-requires c κs = part-checked _ (sym (c .before .before .check .ensures) ∙ c .before .if1 .left)
 
 same-length-2 : tie.Need-same-length-2
 same-length-2 c = search needs
 
 returns-2 : tie.Need-returns-2
 returns-2 c =
-    let b8 = c .before .before .before .before .before .before .before .before in
-    let x = b8 .before .before .before .args in
-    let e = sym (b8 .check .ensures) ∙ c .before .before .before .before .before .before .before .if1 .left in
-    let s = c .before .before .before .before .request-commit .ensures
-    ∙ ap (λ (c : Coordinator). requestCommitOf tree c (x .me)) (c .before .before .before .before .before .read .ensures) in
-    let w = c .before .before .keep .ensures in (
-      w .0 ∙ taken-called (λ (c : Coordinator). requestCommitOf tree c (x .me)) (now (x .bytes)) e _ s,
-      w .1 ∙ taken-record (λ (c : Coordinator). requestCommitOf tree c (x .me)) (now (x .bytes)) e _ s,
+    let x = c .before .before .before .before .before .before .before .before .args in
+    let l = now (x .bytes) in
+    let e = sym (c .before .before .before .before .before .check .ensures) ∙ c .before .before .before .before .if1 .left in
+    let w = c .before .before .request-commit .ensures in (
+      part-called l e (λ (c : Coordinator). requestCommitOf tree c (x .me)) _ (w .0),
+      part-record l e (λ (c : Coordinator). requestCommitOf tree c (x .me)) _ (w .1),
     )
 
 pub request-commit-spec : {M : Type 1} → statement M
@@ -61,8 +57,8 @@ request-commit-spec =
     failed-requires
     same-length
     returns
-    read-requires
+    slice-relend-prefix-request-commit
+    slice-aggregate-request-commit
     request-commit-requires
-    keep-requires
     same-length-2
     returns-2)
