@@ -8,7 +8,7 @@ use native.Mathlib.Omega.{arith}
 use lib.Dec.{eqb, ltb}
 use lib.ListN.{length, take, drop}
 use lib.Seq.{take-append-seam}
-use borrow.Author.Tests.{eq-eqb, ne-eqb, eqb-true, eqb-false, lt-ltb, le-ltb, ltb-true}
+use borrow.Author.Tests.{eq-eqb, ne-eqb, eqb-true, eqb-false, lt-ltb, le-ltb, ltb-true, not-false}
 use Rattle.mask.specs.Mask.{contains}
 use Rattle.numbers.specs.Refusal.{firstOf}
 use Rattle.wire.specs.declared.Written.{Written}
@@ -21,13 +21,16 @@ use Rattle.coordinator.specs.declared.Coordinator.{Coordinator}
 use Rattle.coordinator.specs.System.{tree}
 use Rattle.coordinator.specs.Due.{dueKind, dueRefusals}
 use Rattle.due.specs.Due.{messageDue, writeRefusals, isDue, dueWritten, dueBuffer}
-use Rattle.pool.specs.Pool.{count, waiting, check}
+use Rattle.record.specs.Record.{check}
+use Rattle.record.specs.Call.{dueFirst, recordDue, recordDueBuffer}
+use Rattle.pool.specs.Pool as pool
+use Rattle.pool.specs.Pool.{count, waiting}
 use Rattle.pool.specs.Change.{added, addNumber, addAfter}
 use Rattle.pool.proofs.Numbers.{Room, fine, room-number, add-after}
 use Rattle.pool.proofs.Laws.{length-waiting}
 use Rattle.station.specs.Station.{Station}
 use Rattle.station.specs.Step.{Outcome, whenOff, sendNumber, sendOf, step}
-use Rattle.station.specs.Buffers.{onOf, recordIn, stationOf, answerWith, told, ends, hostFirst, lower, poolAfter, putInto, sending, sendFirst}
+use Rattle.station.specs.Buffers.{onOf, recordAt, recordIn, recordDamaged, stationOf, answerWith, told, ends, hostFirst, lower, poolAfter, putInto, sending, sendFirst}
 use Rattle.station.specs.Buffers.{sendTold, sendPool}
 use Rattle.station.proofs.Hosted.{off-number}
 
@@ -111,8 +114,25 @@ module _ (c : Coordinator) (n to object : ℕ) where
           let b = length-bounds message (p .2) .1 in
           omega arith
 
+-- ---- what is due at a node whose record is one
+module _ (R : List ℕ) (n to object : ℕ) (h : n < 13) (f : recordDamaged R n ≡ false) where
+  checked : check (recordAt R n) ≡ 0
+  unfolding recordDamaged
+  checked =
+      let t = lt-ltb n 13 h in
+      eqb-true (check (recordAt R n)) 0 (not-false (eqb (check (recordAt R n)) 0) (simp t at f))
+
+  pub due-here : (size : ℕ) → size ≡ 128 → recordDue (recordAt R n) n to object size ≡ dueWritten tree 128 (recordIn R n) n to object
+  unfolding recordDue dueFirst recordIn
+  due-here size e =
+      ap (λ (k : ℕ). recordDue (recordAt R n) n to object k) e ∙ (let t = lt-ltb n 13 h in simp (checked, t))
+
+  pub put-here : (l : List ℕ) → length l ≡ 128 → recordDueBuffer (recordAt R n) n to object l ≡ dueBuffer tree (recordIn R n) n to object l
+  unfolding recordDueBuffer dueFirst recordIn
+  put-here l e = let t = lt-ltb n 13 h in simp (checked, e, t)
+
 -- ---- the buffers' number
-pub send-first : (R P O : List ℕ) (n : ℕ) → sendFirst (sending R P O) n ≡ lower (hostFirst (ends R O) n) (check P)
+pub send-first : (R P O : List ℕ) (n : ℕ) → sendFirst (sending R P O) n ≡ lower (hostFirst (ends R O) n) (pool.check P)
 unfolding sendFirst hostFirst
 send-first R P O n = refl
 
@@ -235,7 +255,7 @@ module _ (R P O : List ℕ) (n to object : ℕ) where
 
   -- what the pool's own addition gives
   pub sent-both : contains (onOf O) n ≡ true → (w : Written) → w ≡ dueWritten tree 128 c n to object → w .number ≡ 0 → count P < 128 → 0 < w .length
-      → check P ≡ 0 → (out l : List ℕ) → length out ≡ 128 → l ≡ dueBuffer tree c n to object out → (j : ℕ) → j ≡ w .length
+      → pool.check P ≡ 0 → (out l : List ℕ) → length out ≡ 128 → l ≡ dueBuffer tree c n to object out → (j : ℕ) → j ≡ w .length
       → (answerWith (addNumber P (length (take j l))) 0 ≡ told 0 o) × (addAfter P (take j l) ≡ poolAfter 0 o P)
   sent-both e w d h f g p out l u q j i =
       let m = encode (message c n to object) in

@@ -52,19 +52,17 @@ returns c =
       pool-first _ _ (step (stationOf b) (send (x .node) (x .to) (x .object))) (now (x .pool)) e h,
     )
 
-record-of-requires : tie.Need-record-of-requires
-record-of-requires c κs =
+slice-aggregate-write-at : tie.Need-slice-aggregate-write-at
+slice-aggregate-write-at c = search needs
+
+write-at-requires : tie.Need-write-at-requires
+write-at-requires c κs =
     let c6 = c .before .before .before .before .before .before in
-    let x = c6 .before .before .args in
-    let e = ap₂ lower (sym (c .before .before .before .before .host-number .ensures)) (sym (c .before .before .check .ensures))
-    ∙ sym (c .before .lower .ensures) ∙ c .if1 .left in
-    sound (now (x .records)) (now (x .own)) (x .node) (lower-none _ _ e .0) .records-long
-
-slice-aggregate-write : tie.Need-slice-aggregate-write
-slice-aggregate-write c = search needs
-
-write-requires : tie.Need-write-requires
-write-requires c κs = search needs
+    let x = c6 .before .before .before .args in
+    let e = ap₂ lower (sym (c .before .before .before .before .before .host-number .ensures)) (sym (c .before .before .before .check .ensures))
+    ∙ sym (c .before .before .lower .ensures) ∙ c .before .if1 .left in
+    let s = sound (now (x .records)) (now (x .own)) (x .node) (lower-none _ _ e .0) in
+    ((s .records-long, s .fine), search needs)
 
 on-requires : tie.Need-on-requires
 on-requires c κs = search needs
@@ -85,15 +83,14 @@ returns-2 : tie.Need-returns-2
 returns-2 c =
     let c6 = c .before .before .before .before .before .before in
     let c12 = c6 .before .before .before .before .before .before in
-    let x = c12 .before .before .before .before .before .args in
+    let x = c12 .before .before .before .before .args in
     let R = now (x .records) in
     let P = now (x .pool) in
     let O = now (x .own) in
     let first : sendFirst (sending R P O) (x .node) ≡ 0 =
-    send-first R P O (x .node) ∙ ap₂ lower (sym (c12 .before .host-number .ensures)) (sym (c6 .before .before .before .before .before .check .ensures))
-    ∙ sym (c6 .before .before .before .before .lower .ensures) ∙ c6 .before .before .before .if1 .left in
-    let w = c .before .before .before .before .before .before .write .ensures .0
-    ∙ ap (λ (d : Coordinator). dueWritten tree 128 d (x .node) (x .to) (x .object)) (c6 .before .before .record-of .ensures) in
+    send-first R P O (x .node) ∙ ap₂ lower (sym (c12 .host-number .ensures)) (sym (c6 .before .before .before .before .check .ensures))
+    ∙ sym (c6 .before .before .before .lower .ensures) ∙ c6 .before .before .if1 .left in
+    let w = c6 .write-at .ensures .0 in
     let e : contains (onOf O) (x .node) ≡ false =
     ap (λ (m : ℕ). contains m (x .node)) (sym (c .before .before .before .before .on .ensures)) ∙ sym (c .before .before .before .has .ensures)
     ∙ not-true _ (c .before .before .if2 .taken) in (
@@ -113,16 +110,15 @@ returns-3 : tie.Need-returns-3
 returns-3 c =
     let c6 = c .before .before .before .before .before .before in
     let c12 = c6 .before .before .before .before .before .before in
-    let x = c12 .before .before .before .before .before .before .args in
+    let x = c12 .before .before .before .before .before .args in
     let R = now (x .records) in
     let P = now (x .pool) in
     let O = now (x .own) in
     let first : sendFirst (sending R P O) (x .node) ≡ 0 =
-    send-first R P O (x .node) ∙ ap₂ lower (sym (c12 .before .before .host-number .ensures))
-    (sym (c6 .before .before .before .before .before .before .check .ensures)) ∙ sym (c6 .before .before .before .before .before .lower .ensures)
-    ∙ c6 .before .before .before .before .if1 .left in
-    let w = c6 .before .write .ensures .0 ∙ ap (λ (d : Coordinator). dueWritten tree 128 d (x .node) (x .to) (x .object))
-    (c6 .before .before .before .record-of .ensures) in
+    send-first R P O (x .node) ∙ ap₂ lower (sym (c12 .before .host-number .ensures))
+    (sym (c6 .before .before .before .before .before .check .ensures)) ∙ sym (c6 .before .before .before .before .lower .ensures)
+    ∙ c6 .before .before .before .if1 .left in
+    let w = c6 .before .write-at .ensures .0 in
     let e : contains (onOf O) (x .node) ≡ true =
     ap (λ (m : ℕ). contains m (x .node)) (sym (c .before .before .before .before .before .on .ensures))
     ∙ sym (c .before .before .before .before .has .ensures) ∙ not-false _ (c .before .before .before .if2 .left) in
@@ -145,19 +141,17 @@ returns-4 c =
     let c6 = c .before .before .before .before .before .before in
     let c12 = c6 .before .before .before .before .before .before in
     let c18 = c12 .before .before .before .before .before .before in
-    let x = c18 .before .before .before .args in
+    let x = c18 .before .before .args in
     let R = now (x .records) in
     let P = now (x .pool) in
     let O = now (x .own) in
     let first : sendFirst (sending R P O) (x .node) ≡ 0 =
-    send-first R P O (x .node) ∙ ap₂ lower (sym (c12 .before .before .before .before .before .host-number .ensures))
-    (sym (c12 .before .before .before .check .ensures)) ∙ sym (c12 .before .before .lower .ensures) ∙ c12 .before .if1 .left in
-    let w = c6 .before .before .before .before .write .ensures .0
-    ∙ ap (λ (d : Coordinator). dueWritten tree 128 d (x .node) (x .to) (x .object))
-    (c6 .before .before .before .before .before .before .record-of .ensures) in
+    send-first R P O (x .node) ∙ ap₂ lower (sym (c12 .before .before .before .before .host-number .ensures))
+    (sym (c12 .before .before .check .ensures)) ∙ sym (c12 .before .lower .ensures) ∙ c12 .if1 .left in
+    let w = c6 .before .before .before .before .write-at .ensures .0 in
     let e : contains (onOf O) (x .node) ≡ true =
     ap (λ (m : ℕ). contains m (x .node)) (sym (c6 .before .before .on .ensures)) ∙ sym (c6 .before .has .ensures)
-    ∙ not-false _ (c .before .before .before .before .before .before .if2 .left) in
+    ∙ not-false _ (c6 .if2 .left) in
     let h = c .before .before .before .before .if3 .left in
     let n = c .before .before .count .ensures .0 in
     let t = c .before .if4 .taken in
@@ -174,12 +168,11 @@ array-share-prefix-b c =
     let c6 = c .before .before .before .before .before .before in
     let c12 = c6 .before .before .before .before .before .before in
     let c18 = c12 .before .before .before .before .before .before in
-    let x = c18 .before .before .before .before .before .args in
-    let w = c6 .before .before .before .before .before .before .write .ensures .0
-    ∙ ap (λ (d : Coordinator). dueWritten tree 128 d (x .node) (x .to) (x .object)) (c12 .before .before .record-of .ensures) in
+    let x = c18 .before .before .before .before .args in
+    let w = c12 .write-at .ensures .0 in
     let f = written-fits (recordIn (now (x .records)) (x .node)) (x .node) (x .to) (x .object) _ w in
     let i = c .before .before .wide .ensures in
-    let g : length (c6 .before .before .before .before .before .before .write .last .1 .1 .1 .1 .0) ≡ 128 = search needs in
+    let g : length (c12 .write-at .last .1 .1 .1 .1 .0) ≡ 128 = search needs in
     omega arith
 
 slice-aggregate-add : tie.Need-slice-aggregate-add
@@ -187,13 +180,12 @@ slice-aggregate-add c =
     let c6 = c .before .before .before .before .before .before in
     let c12 = c6 .before .before .before .before .before .before in
     let c18 = c12 .before .before .before .before .before .before in
-    let x = c18 .before .before .before .before .before .before .args in
-    let w = c12 .before .write .ensures .0 ∙ ap (λ (d : Coordinator). dueWritten tree 128 d (x .node) (x .to) (x .object))
-    (c12 .before .before .before .record-of .ensures) in
+    let x = c18 .before .before .before .before .before .args in
+    let w = c12 .before .write-at .ensures .0 in
     let f = written-fits (recordIn (now (x .records)) (x .node)) (x .node) (x .to) (x .object) _ w in
     let i = c .before .before .before .wide .ensures in
-    let g : length (c12 .before .write .last .1 .1 .1 .1 .0) ≡ 128 = search needs in
-    sym (length-take-le (c .before .before .before .wide .result) (c12 .before .write .last .1 .1 .1 .1 .0) (omega arith))
+    let g : length (c12 .before .write-at .last .1 .1 .1 .1 .0) ≡ 128 = search needs in
+    sym (length-take-le (c .before .before .before .wide .result) (c12 .before .write-at .last .1 .1 .1 .1 .0) (omega arith))
 
 add-requires : tie.Need-add-requires
 add-requires c κs = search needs
@@ -209,15 +201,14 @@ returns-5 c =
     let c6 = c .before .before .before .before .before .before in
     let c12 = c6 .before .before .before .before .before .before in
     let c18 = c12 .before .before .before .before .before .before in
-    let x = c18 .before .before .before .before .before .before .before .before .before .before .args in
+    let x = c18 .before .before .before .before .before .before .before .before .before .args in
     let R = now (x .records) in
     let P = now (x .pool) in
     let O = now (x .own) in
     let first : sendFirst (sending R P O) (x .node) ≡ 0 =
-    send-first R P O (x .node) ∙ ap₂ lower (sym (c18 .before .before .before .before .before .before .host-number .ensures))
-    (sym (c18 .before .before .before .before .check .ensures)) ∙ sym (c18 .before .before .before .lower .ensures) ∙ c18 .before .before .if1 .left in
-    let w = c12 .before .before .before .before .before .write .ensures .0
-    ∙ ap (λ (d : Coordinator). dueWritten tree 128 d (x .node) (x .to) (x .object)) (c18 .before .record-of .ensures) in
+    send-first R P O (x .node) ∙ ap₂ lower (sym (c18 .before .before .before .before .before .host-number .ensures))
+    (sym (c18 .before .before .before .check .ensures)) ∙ sym (c18 .before .before .lower .ensures) ∙ c18 .before .if1 .left in
+    let w = c12 .before .before .before .before .before .write-at .ensures .0 in
     let e : contains (onOf O) (x .node) ≡ true =
     ap (λ (m : ℕ). contains m (x .node)) (sym (c12 .before .before .before .on .ensures)) ∙ sym (c12 .before .before .has .ensures)
     ∙ not-false _ (c12 .before .if2 .left) in
@@ -226,10 +217,9 @@ returns-5 c =
     let t = c6 .before .before .if4 .left in
     let f : count P < 128 = omega arith in
     let p = lower-none _ _ (sym (send-first R P O (x .node)) ∙ first) .1 in
-    let out = c12 .before .before .before .before .before .write .ensures .1
-    ∙ ap (λ (d : Coordinator). dueBuffer tree d (x .node) (x .to) (x .object) (replicate 128 0)) (c18 .before .record-of .ensures) in
+    let out = c12 .before .before .before .before .before .write-at .ensures .1 in
     let b = sent-both R P O (x .node) (x .to) (x .object) e _ w h f
-    (let i = c6 .before .wide .ensures in let g = c .before .before .before .before .before .before .if5 .taken in omega arith) p _ _
+    (let i = c6 .before .wide .ensures in let g = c6 .if5 .taken in omega arith) p _ _
     (length-replicate {A = ℕ} 128 0) out _ (c6 .before .wide .ensures) in (
       c .refused5 .ensures ∙ ap (λ (k : ℕ). answerWith k 0) (c .before .before .before .add .ensures .0) ∙ b .0
           ∙ started-told R P O (x .node) (x .to) (x .object) first,
@@ -247,19 +237,18 @@ returns-6 c =
     let c6 = c .before .before .before .before .before .before in
     let c12 = c6 .before .before .before .before .before .before in
     let c18 = c12 .before .before .before .before .before .before in
-    let x = c18 .before .before .before .before .before .args in
+    let x = c18 .before .before .before .before .args in
     let R = now (x .records) in
     let P = now (x .pool) in
     let O = now (x .own) in
     let first : sendFirst (sending R P O) (x .node) ≡ 0 =
-    send-first R P O (x .node) ∙ ap₂ lower (sym (c18 .before .host-number .ensures)) (sym (c12 .before .before .before .before .before .check .ensures))
-    ∙ sym (c12 .before .before .before .before .lower .ensures) ∙ c12 .before .before .before .if1 .left in
-    let w = c6 .before .before .before .before .before .before .write .ensures .0
-    ∙ ap (λ (d : Coordinator). dueWritten tree 128 d (x .node) (x .to) (x .object)) (c12 .before .before .record-of .ensures) in
+    send-first R P O (x .node) ∙ ap₂ lower (sym (c18 .host-number .ensures)) (sym (c12 .before .before .before .before .check .ensures))
+    ∙ sym (c12 .before .before .before .lower .ensures) ∙ c12 .before .before .if1 .left in
+    let w = c12 .write-at .ensures .0 in
     let e : contains (onOf O) (x .node) ≡ true =
     ap (λ (m : ℕ). contains m (x .node)) (sym (c6 .before .before .before .before .on .ensures)) ∙ sym (c6 .before .before .before .has .ensures)
     ∙ not-false _ (c6 .before .before .if2 .left) in
-    let h = c .before .before .before .before .before .before .if3 .left in
+    let h = c6 .if3 .left in
     let n = c .before .before .before .before .count .ensures .0 in
     let t = c .before .before .before .if4 .left in
     let f : count P < 128 = omega arith in
@@ -279,9 +268,8 @@ send-spec =
     refused-requires
     same-length
     returns
-    record-of-requires
-    slice-aggregate-write
-    write-requires
+    slice-aggregate-write-at
+    write-at-requires
     on-requires
     has-requires
     when-off-requires
