@@ -30,7 +30,8 @@ use Rattle.pool.proofs.Numbers.{Room, fine, room-number, add-after}
 use Rattle.pool.proofs.Laws.{length-waiting}
 use Rattle.station.specs.Station.{Station}
 use Rattle.station.specs.Step.{Outcome, whenOff, sendNumber, sendOf, step}
-use Rattle.station.specs.Buffers.{onOf, recordAt, recordIn, recordDamaged, stationOf, answerWith, told, ends, hostFirst, lower, poolAfter, putInto, sending, sendFirst}
+use Rattle.station.specs.Buffers.{onOf, recordAt, recordIn, recordDamaged}
+use Rattle.station.specs.Buffers.{stationOf, answerWith, told, ends, hostFirst, lower, poolAfter, putInto, sending, sendFirst}
 use Rattle.station.specs.Buffers.{sendTold, sendPool}
 use Rattle.station.proofs.Hosted.{off-number}
 

@@ -11,9 +11,6 @@ use borrow.Author.Tests.{not-true, not-false}
 use Rattle.mask.specs.Mask.{contains}
 use Rattle.wire.specs.Encode.{encode}
 use Rattle.wire.proofs.Theorems.{length-bounds}
-use Rattle.coordinator.specs.declared.Coordinator.{Coordinator}
-use Rattle.coordinator.specs.System.{tree}
-use Rattle.due.specs.Due.{dueWritten, dueBuffer}
 use Rattle.pool.specs.Pool.{count}
 use Rattle.station.specs.Step.{send, step}
 use Rattle.station.specs.Buffers.{onOf, recordIn, stationOf, answerWith, lower, sending, sendFirst}
