@@ -16,7 +16,6 @@ use Rattle.image.specs.Layout.{shape, imageSize}
 use Rattle.image.specs.Blank.{blankAs}
 use Rattle.replica.specs.Receive.{Delivered, deliver, spoken}
 use Rattle.coordinator.specs.declared.Coordinator.{Coordinator}
-use Rattle.coordinator.specs.declared.Step.{Step}
 use Rattle.coordinator.specs.State.{thirteen, everyNode, blankRecord}
 use Rattle.coordinator.specs.System.{tree}
 use Rattle.coordinator.specs.Receive.{forReplica, receiveOf}
@@ -29,7 +28,7 @@ use Rattle.pool.specs.Change.{added, addAfter, removed}
 use Rattle.pool.specs.Change.{blank as blankPool}
 use Rattle.station.specs.declared.Answer.{Answer}
 use Rattle.station.specs.Station.{Station, blankStation}
-use Rattle.station.specs.Step.{Call, send, delivery, drop, switch, Outcome, atReplica, atCoordinator, hosted, step}
+use Rattle.station.specs.Step.{Call, send, delivery, drop, switch, Outcome, atReplica, atCoordinator, step}
 
 pub record Buffers : Type 0 where
   pub images : List ℕ
@@ -112,10 +111,6 @@ unfoldable pub hostFirst : Buffers → ℕ → ℕ
 hostFirst b n =
     firstOf (refuse wrongLength (wrong (b .records) recordsSize || wrong (b .own) ownSize)
     ∷ refuse damaged (ownDamaged (b .own)) ∷ refuse damaged (recordDamaged (b .records) n) ∷ [])
-
--- a call by value settled at node n
-abbrev pub settled : List ℕ → List ℕ → ℕ → Step → Outcome
-settled records own n s = hosted (stationOf (ends records own)) n s
 
 abbrev pub hostTold : Buffers → ℕ → Call → Answer
 hostTold b n c = told (hostFirst b n) (step (stationOf b) c)
