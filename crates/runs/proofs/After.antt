@@ -56,7 +56,7 @@ use Rattle.station.proofs.Waiting.{there-of, check-leaving}
 use Rattle.station.proofs.Delivering.{none-said, all-said, not-said, Brought, brought, by, at-is, refused-all, blocked-all, has-room, taken-all, said}
 use Rattle.station.proofs.Delivering.{Leaves, stopped-all, heard-all}
 use Rattle.station.proofs.Delivering.{image-in}
-use Rattle.station.proofs.Arriving.{Waits, waits-of, receiver-node, Left, no-message, off, at-replica, at-coordinator}
+use Rattle.station.proofs.Arriving.{Waits, waits-of, receiver-node, Left, no-message, off, at-replica, at-sound}
 use Rattle.runs.specs.Order.{toldOf, hostLeft, leftOf}
 use Rattle.runs.proofs.Kept.{Kept, same-kept, own-is, none-damaged, host-first, buffers-first, image-kept, record-kept, pool-kept, own-kept}
 
@@ -414,12 +414,12 @@ module _ (I R P O : List ℕ) (w : Whole (all I R P O)) where
                   let i : putAt (recordIn R) n c n ≡ c = simp (same n) in
                   let r = record-kept I R (leaving P k kept) O (left-kept .0) n c small (subst (Meets tree) i (y .meets n)) (subst Fits i (y .fits n)) in
                   from-left _ I _ (leaving P k kept) (made .station)
-                  (at-coordinator I R P O k kept z0 h e u v n refl damaged _ _ _ (x .0) (x .1 .0) (x .1 .1))
+                  (at-sound I R P O k kept z0 h e u v n refl damaged _ _ _ (x .0) (x .1 .0) (x .1 .1))
                   (subst (λ (x : Outcome). Kept (all I (withRecordAt R n (bytesOf c)) (leaving P k kept) O) (x .station)) (sym b)
                   (r .0, r .1 ∙ ap (λ (x : Station). withRecord x n c) (left-kept .1)))
               go false t =
                   let x = stopped-all I R P O n k kept s refl (eqb-false (s .number) 0 t) in
-                  refused-kept _ (s .number) (at-coordinator I R P O k kept z0 h e u v n refl damaged _ _ _ (x .0) (x .1 .0) (x .1 .1)) (is-there ∙ simp t)
+                  refused-kept _ (s .number) (at-sound I R P O k kept z0 h e u v n refl damaged _ _ _ (x .0) (x .1 .0) (x .1 .1)) (is-there ∙ simp t)
 
     -- ---- whatever waits, and wherever it goes
     delivery-kept : Sane (made .station) → delivered

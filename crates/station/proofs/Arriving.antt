@@ -198,3 +198,13 @@ module _ (I R P O : List ℕ) (k : ℕ) (kept : Bool) where
               (images-first I R P O (toOf m) k kept node (recordFirst R (toOf m)))
               (hr ∙ ap (λ (n : ℕ). recordsAfter (recordFirst R n) (atCoordinator st k kept n m) n R) j)
               (hp ∙ ap (λ (n : ℕ). exchanged (recordFirst R n) (atCoordinator st k kept n m) k kept P) j)
+
+          -- the same where the record is not damaged
+          pub at-sound : (y : ℕ) → y ≡ toOf m → recordDamaged R y ≡ false → (a : Answer) (r p : List ℕ)
+              → a ≡ told 0 (atCoordinator st k kept y m) → r ≡ recordsAfter 0 (atCoordinator st k kept y m) y R
+              → p ≡ exchanged 0 (atCoordinator st k kept y m) k kept P → Left a I r p
+          at-sound y j d a r p ha hr hp =
+              let z : 0 ≡ recordFirst R y = ap (λ (b : Bool). cond b 2 0) (sym d) in
+              at-coordinator y j a r p (ha ∙ ap (λ (i : ℕ). told i (atCoordinator st k kept y m)) z)
+              (hr ∙ ap (λ (i : ℕ). recordsAfter i (atCoordinator st k kept y m) y R) z)
+              (hp ∙ ap (λ (i : ℕ). exchanged i (atCoordinator st k kept y m) k kept P) z)

@@ -239,14 +239,14 @@ module _ (I R P O : List ℕ) (n k : ℕ) (kept : Bool) where
   abbrev got : Step
   got = receiveOf tree (recordIn R n) n (messageAt P k)
 
-  stopped-all : (s : Step) → s ≡ got → (s .number ≡ 0 → ⊥)
+  pub stopped-all : (s : Step) → s ≡ got → (s .number ≡ 0 → ⊥)
       → (answerWith (s .number) 0 ≡ told 0 there) × ((R ≡ recordsAfter 0 there n R) × (P ≡ exchanged 0 there k kept P))
   unfolding told recordsAfter exchanged atCoordinator
   stopped-all s i h =
       let e : eqb (got .number) 0 ≡ false = ap (λ (x : Step). eqb (x .number) 0) (sym i) ∙ ne-eqb (s .number) 0 h in
       (ap (λ (x : Step). answerWith (x .number) 0) i ∙ simp e, (simp e, simp e))
 
-  heard-all : (s : Step) → s ≡ got → s .number ≡ 0
+  pub heard-all : (s : Step) → s ≡ got → s .number ≡ 0
       → (answerWith 0 (s .answer) ≡ told 0 there)
       × ((withRecordAt R n (bytesOf (s .coordinator)) ≡ recordsAfter 0 there n R) × (leaving P k kept ≡ exchanged 0 there k kept P))
   unfolding told recordsAfter exchanged atCoordinator putInto putAt
