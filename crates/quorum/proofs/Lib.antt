@@ -5,4 +5,5 @@ pub mod Order
 pub mod Steps
 pub mod Optimal
 pub mod Keys
+pub mod Threes
 pub mod Theorems

@@ -41,16 +41,24 @@ fn rooted_by(kind: Kind, own: bool, pair: bool) -> bool
     }
 }
 
+// Which of the eight sets of three nodes have two of them: bit x is 1 where the set x has.
+const PAIRS: u16 = 232;
+
+// Whether m has two of the three nodes that follow node `at`.
+fn pair_after(m: u16, at: u8) -> bool
+    requires { ⌜ at ≤ 9 ⌝ }
+    ensures { λ r. ⌜ r ≡ twoOf (contains m (at + 1)) (contains m (at + 2)) (contains m (at + 3)) ⌝ }
+{
+    let three = (m >> (at + 1)) % 8;
+    (PAIRS >> three) % 2 == 1
+}
+
 // Whether m has a quorum of the subtree of one of the three nodes below the root (document 01: halls).
 fn in_hall(kind: Kind, m: u16, hall: u8) -> bool
     requires { ⌜ hall ≤ 3 ⌝ }
     ensures { λ r. ⌜ r ≡ inSubtree kind (contains m) 1 hall ⌝ }
 {
-    let at = 3 * hall;
-    let a = mask::has(m, at + 1);
-    let b = mask::has(m, at + 2);
-    let c = mask::has(m, at + 3);
-    rooted_by(kind, mask::has(m, hall), two_of(a, b, c))
+    rooted_by(kind, mask::has(m, hall), pair_after(m, 3 * hall))
 }
 
 // Whether m contains a quorum of the whole tree; bits above node 12 do not matter.
