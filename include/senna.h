@@ -352,8 +352,8 @@ uint8_t senna_replica_answers(const uint8_t *image, size_t image_length, uint8_t
  *   found 4, value found 8, whether a new value was given 1, new value 8
  *   the participants 2, who voted yes 2, who said done 2, thirteen serials of rivals of 4, by owner
  *
- * A record begins as senna_blank_record makes it, and the calls below change it in place. A record that no call could have left so is
- * damaged. A host keeps the bytes, by writing them to its disk after each call, and goes on from them after a power cut. Every call takes:
+ * A record begins as senna_blank_record makes it, and the calls below change it in place. A record that breaks a rule which every call
+ * keeps is damaged. A host keeps the bytes, by writing them to its disk after each call, and goes on from them after a power cut. Every call takes:
  *
  * record  the node's record; only senna_coordinator_found and _due, the check and the accessors leave it as it is
  * length  the bytes at record
@@ -555,7 +555,7 @@ senna_called senna_station_request_commit(uint8_t *records, size_t records_lengt
 senna_called senna_station_abort(uint8_t *records, size_t records_length, const uint8_t *own, size_t own_length, uint8_t node);
 
 /*
- * Sends what is due from a node to another, and while SENNA_OPEN for an object: what senna_coordinator_due would write goes to the pool's end.
+ * Sends what is due from a node to a node, and while SENNA_OPEN for an object: what senna_coordinator_due would write goes to the pool's end.
  * Nothing due: SENNA_OK, and nothing is sent. Only the pool changes. Answers 0.
  *
  * Numbers: SENNA_STRANGER (node or to above 12), SENNA_OUT_OF_TURN (the node is off), SENNA_NO_SUCH_OBJECT (while SENNA_OPEN: above 63, or not
@@ -569,7 +569,8 @@ senna_called senna_station_send(const uint8_t *records, size_t records_length, u
  * Delivers the k-th waiting message, counted from 0 in sending order, to the node that it names. kept: 0 takes it out of the pool, any other
  * number leaves it waiting. A fetch, an ask or an outcome goes to the node's replica: its image changes, and its answer goes to the pool's end.
  * The others go to the node's coordinator: its record changes. Answers what a coordinator's message brought about, SENNA_NOTHING to
- * SENNA_FINISHED, and 0 for a replica's. At a node that is off nothing happens but that the message is taken out.
+ * SENNA_FINISHED, and 0 for a replica's. At a node that is off nothing happens but that the message is taken out,
+ * unless kept.
  *
  * Numbers, in this order: SENNA_LENGTH and SENNA_DAMAGED of the buffers; SENNA_OUT_OF_TURN (no such message waits); SENNA_LENGTH or
  * SENNA_GARBLED (what waits is no message); then, where the node is on, those of senna_replica_receive or of senna_coordinator_receive on its

@@ -3,7 +3,7 @@
 // as before.
 ghost use Rattle.coordinator.specs.System.{tree};
 ghost use Rattle.coordinator.specs.Calls.{beginOf, openOf, setOf, reselectOf, requestCommitOf, abortOf};
-ghost use Rattle.coordinator.specs.Receive.{receiveOf};
+ghost use Rattle.arrivals.specs.Receive.{receiveOf};
 ghost use Rattle.booking.specs.Called.{Does};
 use coordinator::BeginWith;
 use coordinator::Coordinator;
@@ -41,6 +41,7 @@ pub fn open_read(c: &mut Coordinator, me: u8, object: u8) -> Called
     }
 }
 
+// Ruled out: it is opened to be read; a ninth object taken.
 pub fn open_write(c: &mut Coordinator, me: u8, object: u8) -> Called
     ensures { λ r. ⌜ Does (openOf (now (c .entry)) me object 1) r (now (c .exit)) ⌝ }
 {
@@ -109,7 +110,7 @@ pub fn abort(c: &mut Coordinator, me: u8) -> Called
 pub fn receive(c: &mut Coordinator, me: u8, m: &[u8]) -> Called
     ensures { λ r. ⌜ Does (receiveOf tree (now (c .entry)) me (now (m .entry))) r (now (c .exit)) ⌝ }
 {
-    let r = coordinator::receive(*c, me, m);
+    let r = arrivals::receive(*c, me, m);
     *c = r.coordinator;
     Called {
         number: r.number,

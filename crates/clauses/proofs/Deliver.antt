@@ -16,7 +16,7 @@ use Rattle.coordinator.specs.declared.Step.{Step}
 use Rattle.coordinator.specs.System.{System}
 use Rattle.coordinator.specs.State.{idlePhase, votingPhase, finishingPhase, committed, placeOf, objectAt, awaited}
 use Rattle.coordinator.specs.Calls.{withPhase}
-use Rattle.coordinator.specs.Receive.{withCopy, raise, raiseFrom, receiveOf}
+use Rattle.arrivals.specs.Receive.{withCopy, raise, raiseFrom, receiveOf}
 use Rattle.clauses.proofs.Parts.{on-cond}
 use Rattle.clauses.proofs.Sets.{only-within, joined-some, joined-within}
 use Rattle.clauses.proofs.Places.{place-open}

@@ -20,8 +20,8 @@ use Rattle.coordinator.specs.System.{System}
 use Rattle.coordinator.specs.State.{eight, openPhase, votingPhase, finishingPhase, nothing, committed, aborted, becameReady, finished}
 use Rattle.coordinator.specs.State.{idleAfter, placeOf, objectAt, isOpen, ready, awaited}
 use Rattle.coordinator.specs.Calls.{withObjects, withPhase, endedAborted, abortRefusals, abortOf}
-use Rattle.coordinator.specs.Receive.{brought, answers, withCopy, copyFits, copyTaken, raiseFrom, withYes, voteTaken, withDone, doneTaken, yieldTaken}
-use Rattle.coordinator.specs.Receive.{delivered, receiveRefusals, receiveOf}
+use Rattle.arrivals.specs.Receive.{brought, answers, withCopy, copyFits, copyTaken, raiseFrom, withYes, voteTaken, withDone, doneTaken, yieldTaken}
+use Rattle.arrivals.specs.Receive.{delivered, receiveRefusals, receiveOf}
 use Rattle.coordinator.proofs.Refusals.{clear}
 use Rattle.clauses.proofs.Parts.{on-cond, true-T, false-T}
 use Rattle.clauses.proofs.Cases.{step-keeps, either-of}

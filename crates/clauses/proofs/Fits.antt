@@ -22,7 +22,7 @@ use Rattle.coordinator.specs.System.{System}
 use Rattle.coordinator.specs.State.{eight, thirteen, highest, everyNode, finishingPhase, aborted, noObject, idleAfter, blankRecord, objectAt, placeOf, awaited}
 use Rattle.coordinator.specs.Calls.{fresh, renewed, beginRefusals, begun, beginOf, openRefusals, opened, openOf, setRefusals, withNew, setOf}
 use Rattle.coordinator.specs.Calls.{reselectRefusals, reselected, reselectOf, requestCommitRefusals, requested, requestCommitOf, abortOf}
-use Rattle.coordinator.specs.Receive.{better, withCopy, raise, raiseFrom, receiveOf}
+use Rattle.arrivals.specs.Receive.{better, withCopy, raise, raiseFrom, receiveOf}
 use Rattle.clauses.proofs.Parts.{on-cond, by-test}
 use Rattle.clauses.proofs.Sets.{within-known}
 use Rattle.clauses.proofs.Places.{at, at-blank}

@@ -20,7 +20,7 @@ use Rattle.coordinator.specs.System.{System}
 use Rattle.coordinator.specs.State.{eight, idlePhase, aborted, idleAfter, placeIn, placeOf, objectAt, isOpen, ready}
 use Rattle.coordinator.specs.Calls.{fresh, renewed, beginRefusals, begun, beginOf, openRefusals, opened, openOf, setRefusals, withNew, setOf}
 use Rattle.coordinator.specs.Calls.{reselectRefusals, reselected, reselectOf, requestCommitRefusals, requested, requestCommitOf, abortOf}
-use Rattle.coordinator.specs.Receive.{receiveOf}
+use Rattle.arrivals.specs.Receive.{receiveOf}
 use Rattle.clauses.proofs.Parts.{neither-left}
 use Rattle.clauses.proofs.Places.{at, place-open, place-at, at-set}
 use Rattle.clauses.proofs.Facts.{Meets}

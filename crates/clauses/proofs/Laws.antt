@@ -28,7 +28,7 @@ use Rattle.coordinator.specs.State.{eight, thirteen, idlePhase, votingPhase, co
 use Rattle.coordinator.specs.State.{highest, idleAfter, ready, settled, allSettled, anyUsedUp, awaited}
 use Rattle.coordinator.specs.Calls.{beginRefusals, begun, beginOf, openRefusals, opened, openOf, setRefusals, withNew, setOf}
 use Rattle.coordinator.specs.Calls.{reselectRefusals, reselected, reselectOf, requestCommitRefusals, requested, requestCommitOf, abortOf}
-use Rattle.coordinator.specs.Receive.{withYes, voteTaken, delivered, receiveRefusals, receiveOf}
+use Rattle.arrivals.specs.Receive.{withYes, voteTaken, delivered, receiveRefusals, receiveOf}
 use Rattle.clauses.proofs.Parts.{eq-T, true-T, false-T, on-cond}
 use Rattle.clauses.proofs.Sets.{within-none}
 use Rattle.clauses.proofs.Places.{at, at-blank, across-at, across-none}

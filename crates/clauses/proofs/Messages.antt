@@ -19,7 +19,7 @@ use Rattle.wire.proofs.Theorems.{accepted-of-check}
 use Rattle.coordinator.specs.declared.Coordinator.{Coordinator}
 use Rattle.coordinator.specs.State.{thirteen}
 use Rattle.coordinator.specs.Calls.{noNode}
-use Rattle.coordinator.specs.Receive.{receiveRefusals}
+use Rattle.arrivals.specs.Receive.{receiveRefusals}
 use Rattle.coordinator.proofs.Refusals.{Clear}
 use Rattle.clauses.proofs.Parts.{eq-T, true-T, on-cond, neither-left, neither-right}
 

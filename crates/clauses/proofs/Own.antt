@@ -16,7 +16,7 @@ use Rattle.coordinator.specs.System.{System}
 use Rattle.coordinator.specs.State.{thirteen, aborted, idleAfter, blankRecord}
 use Rattle.coordinator.specs.Calls.{beginRefusals, begun, beginOf, openRefusals, opened, openOf, setRefusals, withNew, setOf, reselectRefusals, reselected}
 use Rattle.coordinator.specs.Calls.{reselectOf, requestCommitRefusals, requested, requestCommitOf, abortOf}
-use Rattle.coordinator.specs.Receive.{raise, raiseFrom, receiveOf}
+use Rattle.arrivals.specs.Receive.{raise, raiseFrom, receiveOf}
 use Rattle.clauses.proofs.Cases.{step-keeps}
 use Rattle.clauses.proofs.Messages.{rival-other}
 use Rattle.clauses.proofs.Deliveries.{YesFitting, named, Endings, abort-cases, receive-cases}

@@ -17,7 +17,7 @@ use Rattle.coordinator.specs.System.{tree}
 use Rattle.coordinator.specs.State.{finishingPhase, committed, idleAfter, blankRecord, placeIn, allSettled, anyUsedUp, stepOf, noObject}
 use Rattle.coordinator.specs.Calls.{withObjects, withPhase, fresh, beginOf, beginRefusals, begun, openOf, openRefusals, opened, setOf, setRefusals, withNew}
 use Rattle.coordinator.specs.Calls.{requestCommitOf, requestCommitRefusals, requested, endedAborted, abortOf, abortRefusals}
-use Rattle.coordinator.specs.Receive.{receiveOf, receiveRefusals, delivered, copyTaken, copyFits, withCopy, raiseFrom, withYes, voteTaken, withDone, doneTaken}
+use Rattle.arrivals.specs.Receive.{receiveOf, receiveRefusals, delivered, copyTaken, copyFits, withCopy, raiseFrom, withYes, voteTaken, withDone, doneTaken}
 use Rattle.clauses.specs.Clauses.{zeros, objectMeets, objectBlank, objectsMeet, sizesMeet, numbersMeet, noNodes, nodesMeet, partyFull, partyMeets}
 use Rattle.clauses.specs.Clauses.{votesMeet, donesMeet, meets}
 

@@ -1,4 +1,4 @@
--- The end of a scenario in texts: a line for each object that was ever written, and whether the station is at rest and settled.
+-- The end of a scenario in texts: a line for each object with a version above 0 or a value in replay, and whether the station is at rest and settled.
 use mathlib.Core.Bool.{Bool, cond, _&&_}
 use mathlib.Core.List.{List, [], _∷_, _++_}
 use Prim.Native.Nat.{ℕ}
@@ -47,7 +47,7 @@ yesText = 32 ∷ 121 ∷ 101 ∷ 115 ∷ 10 ∷ []
 abbrev pub noText : Text
 noText = 32 ∷ 110 ∷ 111 ∷ 10 ∷ []
 
--- ---- `  object 7 version 1 value 5 nodes 8191 replay 5`; none for an object that was never written
+-- ---- `  object 7 version 1 value 5 nodes 8191 replay 5`; none where no node has a version above 0 and replay's value is 0
 unfoldable pub copyTexts : ℕ → Best → List Text
 copyTexts t b =
     numberTexts objectText t ++ numberTexts versionText (b .version) ++ valueTexts valueText (b .value) ++ numberTexts nodesText (b .nodes)

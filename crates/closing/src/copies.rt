@@ -91,7 +91,7 @@ fn copy(out: &mut [u8], at: usize, t: u8, b: Best) -> usize
     report::number(out, e, b" nodes ", b.nodes as u64)
 }
 
-// The line of an object; none for one that was never written.
+// The line of an object; none where no node has a version above 0 and replay's value is 0.
 fn object(out: &mut [u8], at: usize, t: u8, b: Best, replayed: u64) -> usize
     ensures { λ r. ⌜ page (now (out .exit)) r ≡ inks (page (now (out .entry)) at) (objectTexts t b replayed) ⌝ }
 {

@@ -1,4 +1,4 @@
-// The end of a scenario as text: for each object that was ever written its newest version and value, the nodes that have it and replay's value; and
+// The end of a scenario as text: for each object with a version above 0 or a value in replay its newest version and value, the nodes that have it and replay's value; and
 // whether the station is at rest and settled.
 mod copies;
 mod state;

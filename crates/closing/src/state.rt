@@ -124,7 +124,7 @@ fn all_settled(images: &[u8], records: &[u8]) -> bool
     all
 }
 
-// Whether the station is settled: no participant of a committed transaction holds it; each has answered its commit with done.
+// Whether the station is settled: no participant of a committed transaction holds it.
 // Ruled out: `yes` while the last node holds one; a hold of the owner's earlier transaction taken for one of this.
 pub(crate) fn settled(images: &[u8], records: &[u8]) -> bool
     ensures { λ r. ⌜ r ≡ settled (now (images .entry)) (now (records .entry)) ⌝ }

@@ -8,8 +8,7 @@ use Rattle.mask.specs.Mask.{joined}
 use Rattle.numbers.specs.Numbers.{stranger, outOfTurn, noSuchObject, eightOpen, noQuorum, usedUp, busy, notReady}
 use Rattle.numbers.specs.Refusal.{Refusal, refuse, firstOf}
 use Rattle.quorum.specs.declared.Choice.{Choice}
-use Rattle.quorum.specs.declared.Choice.the-variants.{Quorum, Nothing}
-use Rattle.quorum.specs.Nearest.{maskOf}
+use Rattle.quorum.specs.Nearest.{numberOf, maskOf}
 use Rattle.coordinator.specs.declared.Object.{Object}
 use Rattle.coordinator.specs.declared.Coordinator.{Coordinator}
 use Rattle.coordinator.specs.declared.BeginWith.{BeginWith}
@@ -27,8 +26,7 @@ abbrev pub tooWide : ℕ → Bool
 tooWide live = ltb everyNode live
 
 abbrev pub isNone : Choice → Bool
-isNone Nothing = true
-isNone (Quorum m d) = false
+isNone chosen = eqb (numberOf chosen) noQuorum
 
 -- ---- begin
 unfoldable pub beginRefusals : Coordinator → ℕ → BeginWith → Choice → List Refusal

@@ -106,7 +106,7 @@ objectAt c object = getD (c .objects) (placeOf c object) noObject
 abbrev pub isOpen : Coordinator → ℕ → Bool
 isOpen c object = ltb (placeOf c object) eight
 
--- a tally is ready exactly when copies have come from a read quorum
+-- an object (document 01: tally) is ready exactly when copies have come from a read quorum
 abbrev pub ready : System → Object → Bool
 ready s x = s .isRead (x .came)
 

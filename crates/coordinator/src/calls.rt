@@ -18,6 +18,7 @@ use crate::FINISHING;
 use crate::IDLE;
 use crate::NODES;
 use crate::OBJECTS;
+use crate::OBJECTS_END;
 use crate::OPEN;
 use crate::Object;
 use crate::Step;
@@ -42,8 +43,6 @@ use quorum::Kind;
 const EVERY_NODE: u16 = 8191;
 
 const HIGHEST: u32 = 4294967295;
-
-pub(crate) const OBJECTS_END: u8 = 64;
 
 // The record of a node that never began a transaction.
 // Ruled out: a record that is not idle; one whose first serial would not be 1.
@@ -175,6 +174,7 @@ pub fn open_read(c: Coordinator, me: u8, object: u8) -> Step
     open_in(c, me, object, 0)
 }
 
+// Ruled out: it is opened to be read; a ninth object taken.
 pub fn open_write(c: Coordinator, me: u8, object: u8) -> Step
     ensures { λ r. ⌜ r ≡ openOf c me object 1 ⌝ }
 {
@@ -192,8 +192,8 @@ fn set_number(c: Coordinator, me: u8, object: u8) -> u8
     refuse(numbers::STRANGER, !(me < 13), turn)
 }
 
-// The record with other objects at the places there are.
-pub(crate) fn with_object(c: Coordinator, p: usize, x: Object) -> Coordinator
+// The record with another object at a place; past the eighth there is none. Ruled out: the count raised; the object put at the end.
+pub fn with_object(c: Coordinator, p: usize, x: Object) -> Coordinator
     ensures { λ r. ⌜ r ≡ withObjects c (c .contacted) (c .count) (set (c .objects) p x) ⌝ }
 {
     let objects = c.objects;
@@ -352,7 +352,8 @@ fn abort_number(c: Coordinator, me: u8) -> u8
 }
 
 // The record of a transaction that ends aborted.
-pub(crate) fn with_aborted(c: Coordinator) -> Coordinator
+// Ruled out: idle while a contacted node is awaited; finishing for ever with nobody awaited.
+pub fn with_aborted(c: Coordinator) -> Coordinator
     ensures { λ r. ⌜ r ≡ endedAborted c ⌝ }
 {
     if awaited_by(c) == 0 {

@@ -1,6 +1,5 @@
 // How a call ends, and the small tests that the calls share.
 ghost use mathlib.Core.Path.{_≡_};
-ghost use mathlib.Core.Bool.{cond};
 ghost use Rattle.quorum.specs.Nearest.{maskOf};
 ghost use Rattle.coordinator.specs.State.{idleAfter};
 ghost use Rattle.coordinator.specs.Calls.{isNone};
@@ -12,8 +11,8 @@ use crate::Object;
 use crate::Step;
 use quorum::Choice;
 
-// The call is refused: the record is as before.
-pub(crate) fn refused(number: u8, c: Coordinator) -> Step
+// The call is refused: the record is as before. Ruled out: a blank record; an answer other than 0.
+pub fn refused(number: u8, c: Coordinator) -> Step
     ensures { λ r. ⌜ r ≡ record { number = number; answer = 0; coordinator = c } ⌝ }
 {
     Step {
@@ -32,13 +31,6 @@ pub(crate) fn taken(answer: u64, c: Coordinator) -> Step
         answer,
         coordinator: c,
     }
-}
-
-// One answer or another.
-pub(crate) fn pick(first: bool, a: u8, b: u8) -> u8
-    ensures { λ r. ⌜ r ≡ cond first a b ⌝ }
-{
-    if first { a } else { b }
 }
 
 // A mask as an answer.
@@ -67,8 +59,8 @@ pub fn is_none(x: Choice) -> bool
     }
 }
 
-// An idle record with a lasting part; the rest is blank.
-pub(crate) fn idle_with(serial: u32, timestamp: u32, outcome: u8) -> Coordinator
+// An idle record with a lasting part; the rest is blank. Ruled out: the phase left finishing; the serial set back to 0.
+pub fn idle_with(serial: u32, timestamp: u32, outcome: u8) -> Coordinator
     ensures { λ r. ⌜ r ≡ idleAfter serial timestamp outcome ⌝ }
 {
     let none = Object {

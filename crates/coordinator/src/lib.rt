@@ -1,8 +1,6 @@
-// A node's own transaction (document 01: the booking end): a record by value, the host's calls, and what a delivered message does to it.
+// A node's own transaction (document 01: the booking end): a record by value, and the host's calls.
 mod calls;
 mod common;
-mod delivery;
-mod duties;
 mod objects;
 
 pub use calls::abort;
@@ -15,14 +13,12 @@ pub use calls::open_write;
 pub use calls::request_commit;
 pub use calls::reselect;
 pub use calls::set_value;
+pub use calls::with_aborted;
+pub use calls::with_object;
+pub use common::idle_with;
 pub use common::is_none;
 pub use common::mask_of;
-pub use delivery::copied;
-pub use delivery::raised_by;
-pub use delivery::receive;
-pub use delivery::receive_number;
-pub use duties::due;
-pub use duties::rival_of;
+pub use common::refused;
 pub use objects::all_settled;
 pub use objects::any_used_up;
 pub use objects::at_index;
@@ -30,8 +26,10 @@ pub use objects::at_place;
 pub use objects::is_ready;
 pub use objects::place;
 
-// How many objects a transaction may open, and how many nodes there are.
+// How many objects a transaction may open, what every object is below, and how many nodes there are.
 pub const OBJECTS: usize = 8;
+
+pub const OBJECTS_END: u8 = 64;
 
 pub const NODES: usize = 13;
 
@@ -99,10 +97,4 @@ pub struct Step {
     pub number: u8,
     pub answer: u64,
     pub coordinator: Coordinator,
-}
-
-// What is due to a node: the call's number, and the kind of message, 0 where nothing is due.
-pub struct Duty {
-    pub number: u8,
-    pub kind: u8,
 }

@@ -21,7 +21,7 @@ use Rattle.coordinator.specs.declared.Object.{Object}
 use Rattle.coordinator.specs.declared.Coordinator.{Coordinator}
 use Rattle.coordinator.specs.System.{System}
 use Rattle.coordinator.specs.State.{highest, openPhase, votingPhase, finishingPhase, committed, placeOf, objectAt, isOpen, anyUsedUp, awaited, ready}
-use Rattle.coordinator.specs.Due.{noKind, openDue, votingDue, finishingDue, dueKind, dueRefusals}
+use Rattle.due.specs.Kind.{noKind, openDue, votingDue, finishingDue, dueKind, dueRefusals}
 use Rattle.coordinator.proofs.Refusals.{clear}
 use Rattle.clauses.proofs.Parts.{by-test, true-T, neither-right}
 use Rattle.clauses.proofs.Places.{at, across-none}

@@ -10,9 +10,9 @@ use Rattle.numbers.specs.Refusal.{firstOf}
 use Rattle.wire.specs.Decode.{longest}
 use Rattle.wire.specs.Write.{answer, writtenOf, bufferAfter}
 use Rattle.coordinator.specs.declared.Coordinator.{Coordinator}
-use Rattle.coordinator.specs.declared.Duty.{Duty}
+use Rattle.due.specs.declared.Duty.{Duty}
 use Rattle.coordinator.specs.System.{System}
-use Rattle.coordinator.specs.Due.{dueKind, dueRefusals, dueOf}
+use Rattle.due.specs.Kind.{dueKind, dueRefusals, dueOf}
 use Rattle.due.specs.Due.{messageDue, writeRefusals, isDue, dueWritten, dueBuffer}
 
 -- the kind counts only where nothing refuses

@@ -15,7 +15,7 @@ use Rattle.coordinator.specs.declared.Object.{Object}
 use Rattle.coordinator.specs.declared.Coordinator.{Coordinator}
 use Rattle.coordinator.specs.System.{System}
 use Rattle.coordinator.specs.State.{eight, objectsEnd, committed, objectAt, isOpen}
-use Rattle.coordinator.specs.Due.{noKind, dueKind, dueRefusals}
+use Rattle.due.specs.Kind.{noKind, dueKind, dueRefusals}
 
 -- ---- the entries of an ask or a commit
 -- of an opened object: the version found; a read's value is 0, a write's is the new one
@@ -66,7 +66,8 @@ writeRefusals size c me node object = refuse wrongLength (ltb size longest) ∷ 
 unfoldable pub isDue : System → ℕ → Coordinator → ℕ → ℕ → ℕ → Bool
 isDue s size c me node object = eqb (firstOf (writeRefusals size c me node object)) 0 && ltb noKind (dueKind s c node object)
 
--- the number and the length; nothing due, nothing written. A record that breaks its clauses may have no well-formed message: 3
+-- the number and the length; nothing due, nothing written. A record that breaks its clauses, or names its own
+-- node as a rival, may have no well-formed message: 3
 unfoldable pub dueWritten : System → ℕ → Coordinator → ℕ → ℕ → ℕ → Written
 dueWritten s size c me node object =
     cond (isDue s size c me node object) (writtenOf size (messageDue c me node object (dueKind s c node object)))

@@ -8,16 +8,27 @@ ghost use Rattle.coordinator.specs.System.{tree};
 ghost use Rattle.coordinator.specs.State.{placeIn};
 ghost use Rattle.due.specs.Gather.{Lists};
 ghost use Rattle.due.specs.Due.{entryFor, entriesOf, askTo, outcomeTo, messageDue, dueWritten, dueBuffer};
+
+mod duties;
+
 use coordinator::COMMITTED;
 use coordinator::Coordinator;
 use coordinator::OBJECTS;
 use coordinator::Object;
+pub use duties::due;
+pub use duties::rival_of;
 use numbers::both;
 use wire::Entry;
 use wire::Written;
 
 // Objects are below this.
 const OBJECTS_END: usize = 64;
+
+// What is due to a node: the call's number, and the kind of message, 0 where nothing is due.
+pub struct Duty {
+    pub number: u8,
+    pub kind: u8,
+}
 
 // The first `count` of eight entries.
 pub struct Gathered {
@@ -135,14 +146,7 @@ fn send(c: Coordinator, me: u8, node: u8, object: u8, kind: u8, out: &mut [u8]) 
         wire::OUTCOME => send_outcome(c, me, node, out),
         _ => {
             let rivals = c.rivals;
-            wire::write_yield(
-                out,
-                me,
-                c.serial,
-                c.timestamp,
-                node,
-                coordinator::rival_of(rivals, node),
-            )
+            wire::write_yield(out, me, c.serial, c.timestamp, node, rival_of(rivals, node))
         }
     }
 }
@@ -159,7 +163,7 @@ pub fn write(c: Coordinator, me: u8, node: u8, object: u8, out: &mut [u8]) -> Wr
             length: 0,
         };
     }
-    let d = coordinator::due(c, me, node, object);
+    let d = due(c, me, node, object);
     if both(d.number == 0, 0 < d.kind) {
         send(c, me, node, object, d.kind, out)
     } else {

@@ -17,7 +17,7 @@ use Rattle.coordinator.specs.declared.Step.{Step}
 use Rattle.coordinator.specs.System.{tree}
 use Rattle.coordinator.specs.State.{eight, votingPhase, finishingPhase, placeOf, ready, awaited, idleAfter}
 use Rattle.coordinator.specs.Calls.{withPhase, endedAborted}
-use Rattle.coordinator.specs.Receive.{brought}
+use Rattle.arrivals.specs.Receive.{brought}
 use Rattle.clauses.proofs.Facts.{Meets}
 use Rattle.clauses.proofs.Parts.{T-false}
 use Rattle.clauses.proofs.Sets.{node-known}

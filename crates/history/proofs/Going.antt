@@ -22,7 +22,7 @@ use Rattle.coordinator.specs.System.{tree}
 use Rattle.coordinator.specs.State.{everyNode, idlePhase, openPhase, aborted, awaited, idleAfter}
 use Rattle.coordinator.specs.Calls.{beginRefusals, begun, beginOf, openRefusals, opened, openOf, setRefusals, withNew, setOf, foundOf}
 use Rattle.coordinator.specs.Calls.{reselectRefusals, reselected, reselectOf, requestCommitRefusals, requested, requestCommitOf, abortOf}
-use Rattle.coordinator.specs.Receive.{receiveOf}
+use Rattle.arrivals.specs.Receive.{receiveOf}
 use Rattle.coordinator.proofs.Theorems.{found-leaves}
 use Rattle.replica.proofs.Delivered.{either-way}
 use Rattle.clauses.proofs.Parts.{true-T}

@@ -16,7 +16,7 @@ use Rattle.coordinator.specs.declared.BeginWith.{BeginWith}
 use Rattle.coordinator.specs.System.{tree}
 use Rattle.coordinator.specs.State.{eight, idlePhase, openPhase, placeIn, placeOf, objectAt, isOpen, ready}
 use Rattle.coordinator.specs.Calls.{begun, opened, renewed, withNew, withObjects}
-use Rattle.coordinator.specs.Receive.{withCopy}
+use Rattle.arrivals.specs.Receive.{withCopy}
 use Rattle.wire.specs.declared.Entry.{Entry}
 use Rattle.clauses.proofs.Facts.{Meets}
 use Rattle.clauses.proofs.Places.{place-open}

@@ -17,7 +17,7 @@ use Rattle.image.specs.Valid.{over}
 use Rattle.image.proofs.Blanks.{blank-zero}
 use Rattle.coordinator.specs.declared.Coordinator.{Coordinator}
 use Rattle.coordinator.specs.State.{idlePhase, awaited, idleAfter}
-use Rattle.coordinator.specs.Receive.{forReplica}
+use Rattle.arrivals.specs.Receive.{forReplica}
 use Rattle.station.specs.Station.{Station, blankStation, putAt}
 use Rattle.protocol.specs.Table.{In}
 use Rattle.protocol.specs.Proof.Tables.{on}

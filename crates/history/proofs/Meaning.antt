@@ -21,7 +21,7 @@ use Rattle.replica.proofs.Delivered.{either-way}
 use Rattle.coordinator.specs.declared.Coordinator.{Coordinator}
 use Rattle.coordinator.specs.System.{tree}
 use Rattle.coordinator.specs.State.{idlePhase, votingPhase, finishingPhase}
-use Rattle.coordinator.specs.Receive.{forReplica, receiveOf}
+use Rattle.arrivals.specs.Receive.{forReplica, receiveOf}
 use Rattle.clauses.proofs.Parts.{on-cond, true-T, by-test}
 use Rattle.clauses.proofs.Messages.{vote-owner}
 use Rattle.clauses.proofs.Laws.{Commits, commit-needs-every-yes}

@@ -28,7 +28,7 @@ use Rattle.replica.proofs.Fields.{restated, ownerWith}
 use Rattle.replica.proofs.Late.{late-outcome}
 use Rattle.replica.proofs.After.{here-last, listedOwner, fetch-owner, no-owner, yes-owner, outcome-owner, early-owner}
 use Rattle.replica.proofs.Taken.{Taken, fetch-still, ask-still, outcome-cases}
-use Rattle.coordinator.specs.Receive.{forReplica}
+use Rattle.arrivals.specs.Receive.{forReplica}
 use Rattle.protocol.specs.Proof.Tables.{on}
 use Rattle.history.proofs.Rows.{OneOwner}
 use Rattle.history.proofs.Images.{owner-from}

@@ -28,8 +28,8 @@ use Rattle.coordinator.specs.declared.Coordinator.{Coordinator}
 use Rattle.coordinator.specs.declared.Step.{Step}
 use Rattle.coordinator.specs.System.{System, tree}
 use Rattle.coordinator.specs.State.{awaited}
-use Rattle.coordinator.specs.Receive.{answers, copyFits, copyTaken, withYes, voteTaken, withDone, doneTaken, yieldTaken, delivered, forReplica}
-use Rattle.coordinator.specs.Receive.{receiveRefusals, receiveOf}
+use Rattle.arrivals.specs.Receive.{answers, copyFits, copyTaken, withYes, voteTaken, withDone, doneTaken, yieldTaken, delivered, forReplica}
+use Rattle.arrivals.specs.Receive.{receiveRefusals, receiveOf}
 use Rattle.clauses.proofs.Deliveries.{saidYes, saidDone}
 use Rattle.station.specs.Station.{Station, poolSize, withImage, withRecord}
 use Rattle.station.specs.Step.{Call, delivery, Outcome, refusedWith, taken, putting, takenOut, full, answered, atReplica, atCoordinator, arriving, deliveryOf}

@@ -28,9 +28,9 @@ use Rattle.coordinator.specs.State.{idlePhase, openPhase, votingPhase, finishin
 use Rattle.coordinator.specs.Calls.{noNode, beginRefusals, begun, beginOf, openRefusals, opened, openOf, setRefusals, withNew, setOf, foundRefusals, foundOf}
 use Rattle.coordinator.specs.Calls.{reselectRefusals, reselected, reselectOf, requestCommitRefusals, requested, requestCommitOf, abortRefusals, abortOf}
 use Rattle.coordinator.specs.Calls.{withPhase, endedAborted}
-use Rattle.coordinator.specs.Receive.{brought, answers, copyFits, copyTaken, withYes, voteTaken, withDone, doneTaken, yieldTaken, forReplica}
-use Rattle.coordinator.specs.Receive.{receiveRefusals, receiveOf}
-use Rattle.coordinator.specs.Due.{dueKind}
+use Rattle.arrivals.specs.Receive.{brought, answers, copyFits, copyTaken, withYes, voteTaken, withDone, doneTaken, yieldTaken, forReplica}
+use Rattle.arrivals.specs.Receive.{receiveRefusals, receiveOf}
+use Rattle.due.specs.Kind.{dueKind}
 use Rattle.coordinator.proofs.Refusals.{clear}
 use Rattle.clauses.proofs.Facts.{Meets}
 use Rattle.clauses.proofs.Parts.{on-cond, true-T, by-test}
@@ -536,8 +536,8 @@ module _ (st : Station) (L : Ledger) (F : Past) (B : Ballots) (g : Good st L F) 
             yes-word w = on (word-known b well is-vote) (λ z. absurd (eqb-false (wordOf b) 0 w z)) (λ z. z)
 
       -- ---- whatever the kind
-      kinds-counts : Taken n b → Q (Rattle.coordinator.specs.Receive.delivered tree r b)
-      unfolding Rattle.coordinator.specs.Receive.delivered
+      kinds-counts : Taken n b → Q (Rattle.arrivals.specs.Receive.delivered tree r b)
+      unfolding Rattle.arrivals.specs.Receive.delivered
       kinds-counts t =
           on-cond Q (eqb (kindOf b) 2) _ _ (λ e. copy-counts (eqb-true (kindOf b) 2 e))
           (λ d. on-cond Q (eqb (kindOf b) 4) _ _ (λ e. vote-counts t (eqb-true (kindOf b) 4 e))

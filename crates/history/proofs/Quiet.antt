@@ -17,7 +17,7 @@ use Rattle.coordinator.specs.declared.Coordinator.{Coordinator}
 use Rattle.coordinator.specs.declared.BeginWith.{BeginWith}
 use Rattle.coordinator.specs.State.{eight, votingPhase, noObject, placeOf, objectAt, idleAfter}
 use Rattle.coordinator.specs.Calls.{begun, opened, fresh, renewed, withNew, reselected, withObjects, withPhase}
-use Rattle.coordinator.specs.Receive.{better, withCopy}
+use Rattle.arrivals.specs.Receive.{better, withCopy}
 use Rattle.protocol.specs.Table.{In}
 use Rattle.protocol.specs.State.{Copy, Votes, History}
 use Rattle.protocol.specs.Proof.Tables.{on}

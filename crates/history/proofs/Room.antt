@@ -19,8 +19,8 @@ use Rattle.replica.proofs.Delivered.{either-way}
 use Rattle.coordinator.specs.declared.Step.{Step}
 use Rattle.coordinator.specs.System.{tree}
 use Rattle.coordinator.specs.Calls.{noNode}
-use Rattle.coordinator.specs.Receive.{forReplica, receiveOf}
-use Rattle.coordinator.specs.Due.{dueKind, dueRefusals}
+use Rattle.arrivals.specs.Receive.{forReplica, receiveOf}
+use Rattle.due.specs.Kind.{dueKind, dueRefusals}
 use Rattle.clauses.proofs.Parts.{on-cond}
 use Rattle.due.specs.Due.{messageDue}
 use Rattle.station.specs.Station.{Station, poolSize, without}

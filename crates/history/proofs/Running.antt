@@ -21,7 +21,7 @@ use Rattle.coordinator.specs.declared.Step.{Step}
 use Rattle.coordinator.specs.System.{tree}
 use Rattle.coordinator.specs.State.{openPhase, votingPhase, stepOf, ready}
 use Rattle.coordinator.specs.Calls.{openRefusals, openOf, setRefusals, setOf}
-use Rattle.coordinator.specs.Receive.{forReplica, receiveOf}
+use Rattle.arrivals.specs.Receive.{forReplica, receiveOf}
 use Rattle.coordinator.proofs.Refusals.{clear}
 use Rattle.clauses.proofs.Messages.{vote-owner}
 use Rattle.clauses.proofs.Deliveries.{copiedObject, receive-cases}

@@ -23,7 +23,7 @@ use Rattle.coordinator.specs.declared.Object.{Object}
 use Rattle.coordinator.specs.declared.Coordinator.{Coordinator}
 use Rattle.coordinator.specs.System.{tree}
 use Rattle.coordinator.specs.State.{openPhase, votingPhase, finishingPhase, placeOf, objectAt, isOpen, awaited, ready}
-use Rattle.coordinator.specs.Due.{dueKind, openDue, votingDue, finishingDue, dueRefusals}
+use Rattle.due.specs.Kind.{dueKind, openDue, votingDue, finishingDue, dueRefusals}
 use Rattle.clauses.proofs.Facts.{Meets}
 use Rattle.due.specs.Due.{entryFor, entriesOf, fetchTo, askTo, outcomeTo, yieldTo, messageDue}
 use Rattle.due.proofs.Entries.{Stands, open-place, every-entry, entries-only, entries-every}

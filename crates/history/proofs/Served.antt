@@ -19,7 +19,7 @@ use Rattle.replica.proofs.Delivered.{cleared, step-fine, entries-of}
 use Rattle.replica.proofs.Spoken.{named-of}
 use Rattle.replica.proofs.Taken.{Taken, taken}
 use Rattle.coordinator.specs.Calls.{noNode}
-use Rattle.coordinator.specs.Receive.{forReplica}
+use Rattle.arrivals.specs.Receive.{forReplica}
 use Rattle.station.specs.Station.{Station, withImage, withOn, withPool, without}
 use Rattle.station.specs.Step.{delivery, drop, switch, refusedWith, full, takenOut, answered, atReplica, atCoordinator, arriving, deliveryOf}
 use Rattle.station.specs.Step.{dropOf, switchOf}

@@ -29,8 +29,8 @@ use Rattle.coordinator.specs.System.{tree}
 use Rattle.coordinator.specs.State.{idleAfter}
 use Rattle.coordinator.specs.Calls.{noNode, beginRefusals, begun, beginOf, openRefusals, opened, openOf, setRefusals, withNew, setOf, foundOf}
 use Rattle.coordinator.specs.Calls.{reselectRefusals, reselected, reselectOf, requestCommitRefusals, requested, requestCommitOf, abortOf}
-use Rattle.coordinator.specs.Receive.{forReplica, receiveOf}
-use Rattle.coordinator.specs.Due.{dueKind}
+use Rattle.arrivals.specs.Receive.{forReplica, receiveOf}
+use Rattle.due.specs.Kind.{dueKind}
 use Rattle.coordinator.proofs.Theorems.{found-leaves}
 use Rattle.clauses.proofs.Cases.{step-keeps}
 use Rattle.clauses.proofs.Deliveries.{Endings, abort-cases, receive-cases}

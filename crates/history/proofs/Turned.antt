@@ -26,8 +26,8 @@ use Rattle.coordinator.specs.declared.Step.{Step}
 use Rattle.coordinator.specs.System.{tree}
 use Rattle.coordinator.specs.State.{eight, openPhase, votingPhase, finishingPhase, placeOf, objectAt, isOpen, awaited, ready}
 use Rattle.coordinator.specs.Calls.{noNode}
-use Rattle.coordinator.specs.Receive.{forReplica, receiveOf}
-use Rattle.coordinator.specs.Due.{dueKind, openDue, votingDue, finishingDue, dueRefusals}
+use Rattle.arrivals.specs.Receive.{forReplica, receiveOf}
+use Rattle.due.specs.Kind.{dueKind, openDue, votingDue, finishingDue, dueRefusals}
 use Rattle.coordinator.proofs.Refusals.{clear}
 use Rattle.clauses.proofs.Facts.{Meets}
 use Rattle.clauses.proofs.Parts.{true-T, false-T, by-test, on-cond}

@@ -20,8 +20,8 @@ use Rattle.coordinator.specs.declared.Coordinator.{Coordinator}
 use Rattle.coordinator.specs.declared.Step.{Step}
 use Rattle.coordinator.specs.System.{tree}
 use Rattle.coordinator.specs.Calls.{noNode, foundOf}
-use Rattle.coordinator.specs.Receive.{forReplica, receiveOf}
-use Rattle.coordinator.specs.Due.{dueKind}
+use Rattle.arrivals.specs.Receive.{forReplica, receiveOf}
+use Rattle.due.specs.Kind.{dueKind}
 use Rattle.due.specs.Due.{messageDue}
 use Rattle.coordinator.proofs.Theorems.{found-leaves}
 use Rattle.clauses.proofs.Quorums.{tree-quorums}

@@ -8,7 +8,7 @@ ghost use Rattle.coordinator.specs.declared.Coordinator.{Coordinator};
 ghost use Rattle.coordinator.specs.System.{tree};
 ghost use Rattle.coordinator.specs.State.{noObject, ready};
 ghost use Rattle.coordinator.specs.Calls.{openOf, setOf, foundOf, requestCommitOf, abortOf};
-ghost use Rattle.coordinator.specs.Receive.{receiveOf};
+ghost use Rattle.arrivals.specs.Receive.{receiveOf};
 ghost use Rattle.record.specs.Record.{check, shown};
 ghost use Rattle.record.specs.Call.{calledOf, recordAfter, receivedOf, blankNumber, blankAfter, recordDue, recordDueBuffer};
 ghost use Rattle.host.specs.Records.{answerWith, bytesWith, beginStep, reselectStep, valueOf};

@@ -11,7 +11,7 @@ pub record Shape : Type 0 where
   pub objects : ℕ
   pub copySize : ℕ
 
--- the shape of the images of this version: 64 objects (document 01: tallies), 17 bytes each
+-- the shape of the images here: 64 objects (document 01: tallies), 17 bytes each
 abbrev pub shape : Shape
 shape = record { objects = 64; copySize = 17 }
 

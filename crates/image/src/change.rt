@@ -50,7 +50,7 @@ fn count(image: &mut [u8])
     put_u8(image, OWNER_COUNT, 0, OWNERS);
 }
 
-// Nobody holds a copy any more.
+// Nobody holds a copy.
 fn unhold(image: &mut [u8])
     ensures { λ r. ⌜ now (image .exit) ≡ unheld shape (now (image .entry)) ⌝ }
 {

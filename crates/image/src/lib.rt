@@ -11,7 +11,6 @@ pub use change::add_writer;
 pub use change::blank;
 pub use change::free;
 pub use change::unlist;
-pub use read::copy_of;
 pub use read::holder;
 pub use read::owner_of;
 pub use read::readers;

@@ -1,8 +1,7 @@
 // The fields of an image, read in place. An object above 63 or an owner above 12 reads as 0, as do bytes that are not there.
 ghost use mathlib.Core.Path.{_≡_};
-ghost use Rattle.image.specs.Layout.{copyOf, ownerOf};
+ghost use Rattle.image.specs.Layout.{ownerOf};
 ghost use Rattle.image.specs.Layout.{value, version, holder, readers, writers, serial, state, stamp};
-use crate::Copy;
 use crate::HOLDER;
 use crate::Owner;
 use crate::READERS;
@@ -65,19 +64,6 @@ pub fn stamp(image: &[u8], o: u8) -> u32
     ensures { λ r. ⌜ r ≡ stamp (now (image .entry)) o ⌝ }
 {
     get_u32(image, STAMP, o)
-}
-
-// The copy of object t. Ruled out: readers and writers the other way round; the copy of object 63 for one above it.
-pub fn copy_of(image: &[u8], t: u8) -> Copy
-    ensures { λ r. ⌜ r ≡ copyOf (now (image .entry)) t ⌝ }
-{
-    Copy {
-        value: value(image, t),
-        version: version(image, t),
-        holder: holder(image, t),
-        readers: readers(image, t),
-        writers: writers(image, t),
-    }
 }
 
 // What is kept of owner o. Ruled out: serial and stamp the other way round; the owner after it.

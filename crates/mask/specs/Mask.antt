@@ -20,10 +20,6 @@ only i = cond (ltb i 16) (2 ^ i) 0
 abbrev pub joined : ℕ → ℕ → ℕ
 joined a b = bitOr a b
 
--- the nodes of both
-abbrev pub met : ℕ → ℕ → ℕ
-met a b = bitAnd a b
-
 -- the nodes of a that are not in b
 abbrev pub minus : ℕ → ℕ → ℕ
 minus a b = bitXor a (bitAnd a b)

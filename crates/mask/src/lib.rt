@@ -1,6 +1,6 @@
 // Sets of nodes (document 01: controllers) as 16-bit masks, bit i for node i.
 ghost use mathlib.Core.Path.{_≡_};
-ghost use Rattle.mask.specs.Mask.{contains, only, joined, met, minus, within};
+ghost use Rattle.mask.specs.Mask.{contains, only, joined, minus, within};
 
 // Whether node `node` is in m; a node above 15 is in no mask.
 // Ruled out: the test of the neighbouring bit; a test that takes node 16 for node 0.
@@ -27,13 +27,6 @@ pub fn join(a: u16, b: u16) -> u16
     ensures { λ r. ⌜ r ≡ joined a b ⌝ }
 {
     a | b
-}
-
-// The nodes that a and b share. Ruled out: the nodes of either; those of exactly one.
-pub fn meet(a: u16, b: u16) -> u16
-    ensures { λ r. ⌜ r ≡ met a b ⌝ }
-{
-    a & b
 }
 
 // The nodes of a that are not in b. Ruled out: a difference of numbers, which borrows; the nodes of b that are not in a.

@@ -1,6 +1,7 @@
 -- Document 01's table 'Numbers and their words'. What each stands for is said by the refusals of each call.
 use Prim.Native.Nat.{ℕ}
 
+-- length
 abbrev pub wrongLength : ℕ
 wrongLength = 1
 

@@ -46,3 +46,10 @@ pub fn refuse(number: u8, fits: bool, rest: u8) -> u8
 {
     if fits { number } else { rest }
 }
+
+// One number or another. Ruled out: the second where the test holds; their sum.
+pub fn pick(first: bool, a: u8, b: u8) -> u8
+    ensures { λ r. ⌜ r ≡ cond first a b ⌝ }
+{
+    if first { a } else { b }
+}

@@ -18,7 +18,7 @@ fn there(len: usize, at: usize, k: usize) -> usize
     if room < k { room } else { k }
 }
 
-// The number that the k bytes from `at` make, the last byte first.
+// The number that the k bytes from `at` make, little-endian, read from the last one on.
 fn get_bytes(s: &[u8], at: usize, k: usize) -> u64
     requires { ⌜ k ≤ 8 ⌝ }
     ensures { λ r. ⌜ (r ≡ get k (now (s .entry)) at) × (r < 256 ^ k) ⌝ }
@@ -34,7 +34,7 @@ fn get_bytes(s: &[u8], at: usize, k: usize) -> u64
     acc
 }
 
-// Puts the k low bytes of v from `at` on, the first byte first.
+// Puts the k low bytes of v from `at` on, the lowest first.
 fn put_bytes(s: &mut [u8], at: usize, k: usize, v: u64)
     ensures { λ r. ⌜ now (s .exit) ≡ put k (now (s .entry)) at v ⌝ }
 {
@@ -106,7 +106,8 @@ fn put_eight(s: &mut [u8], at: usize, v: u64)
     put_four(s, at + 4, v / 4294967296);
 }
 
-// Each reader at a width rules out, among others: the bytes read high end first; a byte of the neighbouring number.
+// Each reader at a width rules out, among others: the bytes read high end first; a byte of the neighbouring number; at one byte,
+// 0 for the last byte of the slice.
 pub fn get_u8(s: &[u8], at: usize) -> u8
     ensures { λ r. ⌜ r ≡ getD (now (s .entry)) at 0 ⌝ }
 {
@@ -140,7 +141,8 @@ pub fn get_u64(s: &[u8], at: usize) -> u64
     get_bytes(s, at, 8)
 }
 
-// Each writer at a width rules out, among others: the bytes written high end first; a byte beside the number altered.
+// Each writer at a width rules out, among others: the bytes written high end first; a byte beside the number altered; at one
+// byte, the last byte of the slice left.
 pub fn put_u8(s: &mut [u8], at: usize, v: u8)
     ensures { λ r. ⌜ now (s .exit) ≡ set (now (s .entry)) at v ⌝ }
 {

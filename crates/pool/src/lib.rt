@@ -86,7 +86,7 @@ fn add_number(pool: &[u8], size: usize) -> u8
     refuse(numbers::LENGTH, c == numbers::LENGTH, long)
 }
 
-// Puts a message at the pool's end. Ruled out: it goes to the front; the message that stood there stays and the count rises.
+// Puts a message at the pool's end. Ruled out: it goes to the front; the slot's old bytes stay and only the count rises.
 pub fn add(pool: &mut [u8], message: &[u8]) -> u8
     ensures number { λ r. ⌜ r ≡ addNumber (now (pool .entry)) (length (now (message .entry))) ⌝ }
     ensures pool { λ r. ⌜ now (pool .exit) ≡ addAfter (now (pool .entry)) (now (message .entry)) ⌝ }

@@ -1,5 +1,5 @@
 -- A station's own quorums (document 02, 2.9) as a second instance: any two write sets meet, and a yes holds what it touches.
--- Nothing of the core changes. Since a yes keeps all it touches, the core's claims are now about all that a transaction found.
+-- Nothing of the core changes. Since a yes keeps all it touches, the core's claims are here about all that a transaction found.
 use mathlib.Core.Path.{_≡_, refl}
 use mathlib.Core.Logic.{_≢_}
 use Rattle.protocol.specs.Table.{In, times}

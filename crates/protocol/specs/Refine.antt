@@ -1,4 +1,4 @@
--- For those who refine a station to the protocol. No claim rests on these files.
+-- For those who refine a station to the protocol. No claim of this crate rests on these files; crate history's proof of demand 3 does.
 -- Growth: what never goes back. Messages: what a sent message tells stays true. Holders: the images' holders. Simulate: all of it for one
 -- transition, and a state read from bytes. Refill: 2.10's swapped memory. Convert: 2.9's conversion at rest.
 pub mod Growth

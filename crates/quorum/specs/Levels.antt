@@ -25,7 +25,7 @@ bothOf (Quorum m s) (Quorum n t) = Quorum (m + n) (s + t)
 abbrev pub choosePair : Choice → Choice → Choice → Choice
 choosePair a b c = betterOf (bothOf a b) (betterOf (bothOf a c) (bothOf b c))
 
--- the best pair of the three leaves behind a node
+-- the best pair of the leaves i + 1, i + 2 and i + 3
 abbrev pub leavesOf : ℕ → List ℕ → ℕ → Choice
 leavesOf live d i = choosePair (aloneOf live d (i + 1)) (aloneOf live d (i + 2)) (aloneOf live d (i + 3))
 
@@ -34,11 +34,12 @@ abbrev pub withRoot : Kind → Choice → Choice → Choice
 withRoot Read own pair = betterOf own pair
 withRoot Write own pair = bothOf own pair
 
--- the best set of the subtree of height h at node i, and the best pair of its children's, which have height h
+-- the best set of the subtree of height h at node i
 unfoldable pub bestOf : Kind → ℕ → List ℕ → ℕ → ℕ → Choice
 bestOf k live d zero i = aloneOf live d i
 bestOf k live d (suc h) i =
     withRoot k (aloneOf live d i) (choosePair (bestOf k live d h (child i 1)) (bestOf k live d h (child i 2)) (bestOf k live d h (child i 3)))
 
+-- the best pair of node i's child subtrees, which have height h
 unfoldable pub pairOf : Kind → ℕ → List ℕ → ℕ → ℕ → Choice
 pairOf k live d h i = choosePair (bestOf k live d h (child i 1)) (bestOf k live d h (child i 2)) (bestOf k live d h (child i 3))

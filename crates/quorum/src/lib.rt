@@ -53,7 +53,7 @@ fn pair_after(m: u16, at: u8) -> bool
     (PAIRS >> three) % 2 == 1
 }
 
-// Whether m has a quorum of the subtree of one of the three nodes below the root (document 01: halls).
+// Whether m has a quorum of the subtree of one of the three nodes below the root (its halls).
 fn in_hall(kind: Kind, m: u16, hall: u8) -> bool
     requires { ⌜ hall ≤ 3 ⌝ }
     ensures { λ r. ⌜ r ≡ inSubtree kind (contains m) 1 hall ⌝ }
@@ -73,7 +73,7 @@ pub fn is_quorum(kind: Kind, m: u16) -> bool
 }
 
 // A choice as one number, its key: the sum above the mask. The lesser key is the nearer set, and of equal sums the lower mask; keys of sets that
-// share no node add. A node that may not be chosen has this key, which is above all others.
+// share no node add. A node that is not live has this key; that of every set is below it.
 const ABSENT: u64 = 72057594037927936;
 
 // What the sum is multiplied by in a key.
@@ -115,7 +115,7 @@ fn choose_pair(a: u64, b: u64, c: u64) -> u64
     lesser(a + b, lesser(a + c, b + c))
 }
 
-// The key of the nearest pair of three leaves that follow a node number: a level without calls of its own, as most nodes are leaves.
+// The key of the nearest pair of the three leaves that follow a node number: the last level, without a call of `best` for each leaf.
 fn leaf_pair(live: u16, distances: &[u16; NODES], at: u8) -> u64
     requires { ⌜ at + 3 < 13 ⌝ }
     ensures { λ r. ⌜ Means 393210 r (leavesOf live (now (distances .entry)) at) ⌝ }

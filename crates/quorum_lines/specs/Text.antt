@@ -124,7 +124,7 @@ read-next s k live d ds rest e m =
     ∙ ap (λ (u : Line). readFrom (readFrom u (decimal d)) rest) e
     ∙ ap (λ (u : Line). readFrom u rest) (read-decimal d k live ds m)
 
--- the distances behind the j-th, of which p are complete and v is read
+-- the distances ds that are left, where p are complete and v is read
 read-rest : (ds p q : List ℕ) (v live : ℕ) → length p + length ds ≡ 12 → length q ≡ length ds + 1 → Small ds
     → ended (readFrom (number (length p + 1) v live (p ++ q)) (spaced ds)) ≡ Good live (p ++ (v ∷ ds))
 unfolding spaced readFrom ended isGood

@@ -16,7 +16,7 @@ use Rattle.coordinator.specs.declared.Step.{Step}
 use Rattle.coordinator.specs.System.{tree}
 use Rattle.coordinator.specs.State.{noObject, blankRecord}
 use Rattle.coordinator.specs.Calls.{beginOf, openOf, setOf, foundOf, reselectOf, requestCommitOf, abortOf}
-use Rattle.coordinator.specs.Receive.{receiveOf}
+use Rattle.arrivals.specs.Receive.{receiveOf}
 use Rattle.coordinator.proofs.Theorems.{found-leaves}
 use Rattle.clauses.specs.Clauses.{meets}
 use Rattle.clauses.proofs.Parts.{on-cond}

@@ -15,7 +15,7 @@ use Rattle.coordinator.specs.declared.Coordinator.{Coordinator}
 use Rattle.coordinator.specs.declared.Step.{Step}
 use Rattle.coordinator.specs.System.{tree}
 use Rattle.coordinator.specs.State.{stepOf}
-use Rattle.coordinator.specs.Receive.{receiveRefusals, receiveOf}
+use Rattle.arrivals.specs.Receive.{receiveRefusals, receiveOf}
 use Rattle.clauses.specs.Clauses.{meets}
 use Rattle.clauses.proofs.Parts.{neither-left, neither-right}
 use Rattle.due.specs.Due.{dueWritten, dueBuffer}

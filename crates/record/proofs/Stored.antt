@@ -17,7 +17,7 @@ use Rattle.coordinator.specs.declared.Object.{Object}
 use Rattle.coordinator.specs.declared.Coordinator.{Coordinator}
 use Rattle.coordinator.specs.State.{openPhase, placeOf, objectAt, isOpen, ready}
 use Rattle.coordinator.specs.Calls.{withObjects, withPhase, fresh, opened, requested}
-use Rattle.coordinator.specs.Receive.{answers, copyFits, raiseFrom, withYes}
+use Rattle.arrivals.specs.Receive.{answers, copyFits, raiseFrom, withYes}
 use Rattle.coordinator.specs.System.{tree}
 use Rattle.wire.specs.Items.{entryOf}
 use Rattle.record.specs.Record.{quorumOf, objectBytes, recordOf, bytesOf, check}

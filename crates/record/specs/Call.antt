@@ -12,7 +12,7 @@ use Rattle.coordinator.specs.declared.Coordinator.{Coordinator}
 use Rattle.coordinator.specs.declared.Step.{Step}
 use Rattle.coordinator.specs.System.{tree}
 use Rattle.coordinator.specs.State.{blankRecord}
-use Rattle.coordinator.specs.Receive.{receiveOf}
+use Rattle.arrivals.specs.Receive.{receiveOf}
 use Rattle.due.specs.Due.{dueWritten, dueBuffer}
 use Rattle.record.specs.declared.Called.{Called}
 use Rattle.record.specs.Layout.{recordSize}

@@ -6,7 +6,7 @@ use Rattle.wire.specs.Decode.{fromOf, rivalCount}
 use Rattle.coordinator.specs.declared.Coordinator.{Coordinator}
 use Rattle.coordinator.specs.declared.Step.{Step}
 use Rattle.coordinator.specs.Calls.{withPhase}
-use Rattle.coordinator.specs.Receive.{raiseFrom, withYes}
+use Rattle.arrivals.specs.Receive.{raiseFrom, withYes}
 
 -- the same transaction with other rivals' serials
 abbrev pub withRivals : Coordinator → List ℕ → Coordinator

@@ -6,7 +6,7 @@ ghost use lib.ListN.{length, set};
 ghost use Rattle.coordinator.specs.System.{tree};
 ghost use Rattle.coordinator.specs.State.{idleAfter};
 ghost use Rattle.coordinator.specs.Calls.{endedAborted};
-ghost use Rattle.coordinator.specs.Receive.{answers, copyFits, copyTaken, voteTaken, doneTaken, yieldTaken, delivered, receiveOf};
+ghost use Rattle.arrivals.specs.Receive.{answers, copyFits, copyTaken, voteTaken, doneTaken, yieldTaken, delivered, receiveOf};
 ghost use Rattle.record.specs.Layout.{outcomePlace, phasePlace};
 ghost use Rattle.record.specs.Change.{withRivals, raisedBy, yesTaken};
 ghost use Rattle.record.specs.Record.{recordOf, bytesOf, check};
@@ -83,7 +83,7 @@ fn take_copy(bytes: &mut [u8], m: &[u8]) -> Called
     if copy_fits(bytes, m) {
         let e = wire::nth_entry(m, 0);
         let p = place(bytes, e.object);
-        let x = coordinator::copied(object_named(bytes, e.object), wire::from(m), e);
+        let x = arrivals::copied(object_named(bytes, e.object), wire::from(m), e);
         put_object(bytes, OBJECTS_PLACE + OBJECT_SIZE * p, x);
         return taken(ready_or_not(coordinator::is_ready(x)));
     }
@@ -131,7 +131,7 @@ fn raise_rivals(bytes: &mut [u8], m: &[u8])
     if wire::rivals(m) == 0 {
         return;
     }
-    let rivals = coordinator::raised_by(rivals_of(bytes), m);
+    let rivals = arrivals::raised_by(rivals_of(bytes), m);
     put_rivals(bytes, rivals);
 }
 
@@ -226,7 +226,7 @@ pub(crate) fn receive(bytes: &mut [u8], me: u8, m: &[u8]) -> Called
     ensures { λ r. ⌜ r ≡ toldBy (receiveOf tree (recordOf (now (bytes .entry))) me (now (m .entry))) ⌝ }
     ensures { λ r. ⌜ now (bytes .exit) ≡ kept (receiveOf tree (recordOf (now (bytes .entry))) me (now (m .entry))) (now (bytes .entry)) ⌝ }
 {
-    let number = coordinator::receive_number(me, m);
+    let number = arrivals::receive_number(me, m);
     if number != 0 {
         return refused(number);
     }

@@ -1,10 +1,10 @@
-// Each call on a record as bytes: 1 and 2 of the bytes first, else the call by value, written back where its number is 0.
+// Each call on a record as bytes: 1 and 2 of the bytes first, else what the call by value gives.
 ghost use mathlib.Core.Path.{_≡_};
 ghost use lib.ListN.{length};
 ghost use Rattle.coordinator.specs.declared.Coordinator.{Coordinator};
 ghost use Rattle.coordinator.specs.System.{tree};
 ghost use Rattle.coordinator.specs.Calls.{beginOf, openOf, setOf, foundOf, reselectOf, requestCommitOf, abortOf};
-ghost use Rattle.coordinator.specs.Receive.{receiveOf};
+ghost use Rattle.arrivals.specs.Receive.{receiveOf};
 ghost use Rattle.record.specs.Call.{called, calledOf, kept, recordAfter, receivedOf, recordDue, recordDueBuffer};
 use crate::Called;
 use crate::SIZE;
@@ -58,7 +58,7 @@ pub fn begin(bytes: &mut [u8], me: u8, w: BeginWith) -> Called
     keep(bytes, s)
 }
 
-// Opens an object, to read it or to write it. Ruled out: a read opened as a write; a record with its bytes of another object altered.
+// Opens an object, to read it or to write it. Ruled out: a read opened as a write; a byte of another object altered.
 pub fn open_read(bytes: &mut [u8], me: u8, object: u8) -> Called
     ensures { λ r. ⌜ r ≡ calledOf (λ (c : Coordinator). openOf c me object 0) (now (bytes .entry)) ⌝ }
     ensures { λ r. ⌜ now (bytes .exit) ≡ recordAfter (λ (c : Coordinator). openOf c me object 0) (now (bytes .entry)) ⌝ }
@@ -70,6 +70,7 @@ pub fn open_read(bytes: &mut [u8], me: u8, object: u8) -> Called
     open(&mut bytes[..SIZE], me, object, 0)
 }
 
+// Ruled out: it is opened to be read; a ninth object taken.
 pub fn open_write(bytes: &mut [u8], me: u8, object: u8) -> Called
     ensures { λ r. ⌜ r ≡ calledOf (λ (c : Coordinator). openOf c me object 1) (now (bytes .entry)) ⌝ }
     ensures { λ r. ⌜ now (bytes .exit) ≡ recordAfter (λ (c : Coordinator). openOf c me object 1) (now (bytes .entry)) ⌝ }

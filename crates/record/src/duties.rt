@@ -8,7 +8,7 @@ ghost use Rattle.numbers.specs.Refusal.{firstOf};
 ghost use Rattle.wire.specs.Write.{writtenOf, bufferAfter};
 ghost use Rattle.coordinator.specs.System.{tree};
 ghost use Rattle.coordinator.specs.State.{isOpen};
-ghost use Rattle.coordinator.specs.Due.{openDue, votingDue, finishingDue, dueKind, dueRefusals, dueOf};
+ghost use Rattle.due.specs.Kind.{openDue, votingDue, finishingDue, dueKind, dueRefusals, dueOf};
 ghost use Rattle.due.specs.Gather.{Lists};
 ghost use Rattle.due.specs.Due.{entriesOf, askTo, outcomeTo, messageDue, dueWritten, dueBuffer};
 ghost use Rattle.record.specs.Record.{recordOf, check};
@@ -31,29 +31,22 @@ use crate::look::object_at;
 use crate::look::phase;
 use crate::look::place;
 use coordinator::COMMITTED;
-use coordinator::Duty;
 use coordinator::FINISHING;
 use coordinator::NODES;
 use coordinator::OBJECTS;
+use coordinator::OBJECTS_END;
 use coordinator::OPEN;
 use coordinator::VOTING;
+use due::Duty;
 use due::Gathered;
 use numbers::both;
 use numbers::either;
+use numbers::pick;
 use numbers::refuse;
 use wire::Written;
 
-const OBJECTS_END: u8 = 64;
-
 // No kind: nothing is due.
 const NO_KIND: u8 = 0;
-
-// One number or another.
-fn pick(first: bool, a: u8, b: u8) -> u8
-    ensures { λ r. ⌜ r ≡ cond first a b ⌝ }
-{
-    if first { a } else { b }
-}
 
 // The serial named for an owner; 0 for one that there is not.
 fn rival_in(bytes: &[u8], node: u8) -> u32

@@ -69,7 +69,7 @@ fn wide(x: u8) -> usize
     x as usize
 }
 
-// Every byte is 0: they are joined and looked at once, which a compiler does for many bytes at a time.
+// Every byte is 0: the bytes are joined and looked at once, which a compiler does for many bytes at a time.
 fn are_zero(bytes: &[u8]) -> bool
     ensures { λ r. ⌜ r ≡ zeros (now (bytes .entry)) ⌝ }
 {

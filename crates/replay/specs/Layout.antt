@@ -3,7 +3,6 @@
 use mathlib.Core.List.{List}
 use Prim.Native.Nat.{ℕ, _+_, _*_}
 use lib.ListN.{getD}
-use Rattle.replay.specs.Digest.{Digest}
 
 abbrev pub owners : ℕ
 owners = 13
@@ -61,16 +60,3 @@ newCell o t = rowCell o + objects + t
 -- what stands in a cell; 0 where there is none
 abbrev pub cell : List ℕ → ℕ → ℕ
 cell l i = getD l i 0
-
--- the digest that a sheet has, for owners below 13 and objects below 64
-abbrev pub digestOf : List ℕ → Digest
-digestOf l =
-    record {
-      places = cell l countCell;
-      serial = λ o. cell l (serialCell o);
-      place = λ o. cell l (placeCell o);
-      writes = λ o t. cell l (writesCell o t);
-      new = λ o t. cell l (newCell o t);
-      lastPlace = λ t. cell l (lastPlaceCell t);
-      lastValue = λ t. cell l (lastValueCell t);
-    }

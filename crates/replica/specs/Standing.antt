@@ -8,7 +8,8 @@ use Rattle.image.specs.Layout.{serial, state}
 use Rattle.image.specs.Valid.{over, listed}
 use Rattle.image.specs.Change.{withOwner}
 
--- beside the four states of an owner: a serial above the last one, when that one is over, and when it is not
+-- beside the four states of an owner: a serial above the last one, when that one is over, and when it is not (document 01's early abort is a
+-- fresh one)
 abbrev pub fresh : ℕ
 fresh = 4
 

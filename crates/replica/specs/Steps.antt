@@ -78,7 +78,7 @@ askAnswer me l m =
     (cond (eqb (standing l m) held) (says (voteTo me m noSerials 1))
     (cond (eqb (standing l m) refused) (says (voteTo me m noSerials 0)) silent))
 
--- ---- outcome. Late changes nothing. An early abort makes its serial last, with its stamp, and over.
+-- ---- outcome. Late changes nothing. An abort of a fresh serial (document 01: early) makes it last, with its stamp, and over.
 -- a commit: each object that the message writes takes the message's value, and the message's version plus 1
 abbrev pub appliedOne : List ℕ → Entry → List ℕ
 appliedOne l e = cond (eqb (e .mode) 0) l (withVersion (withValue l (e .object) (e .value)) (e .object) (e .version + 1))

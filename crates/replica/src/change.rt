@@ -107,7 +107,7 @@ fn release(image: &mut [u8], o: u8)
     leave(image, o, image::OVER, state == image::LISTED);
 }
 
-// An outcome: late, early, or of the transaction that is here.
+// An outcome: late, an abort of a fresh serial (document 01: early), or of the transaction that is here.
 pub(crate) fn settle(image: &mut [u8], message: &[u8])
     requires { ⌜ Raisable (decode (now message)) × Clear (now image) (decode (now message)) ⌝ }
     ensures { λ r. ⌜ now (image .exit) ≡ outcomeImage (now (image .entry)) (decode (now (message .entry))) ⌝ }

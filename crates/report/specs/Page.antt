@@ -5,7 +5,7 @@ use mathlib.Core.Path.{_≡_, refl, sym, ap, _∙_}
 use mathlib.Core.List.{List, [], _∷_, _++_}
 use lib.ListN.{length, length-append}
 use Rattle.decimal.specs.Decimal.{putAt, nextAt}
-use Rattle.decimal.specs.Laws.{next-within, next-fits, length-put, put-put, put-nothing}
+use Rattle.decimal.specs.Laws.{next-fits, length-put, put-put, put-nothing}
 
 pub record Page : Type 0 where
   pub bytes : List ℕ
@@ -32,7 +32,7 @@ inks-append (t ∷ a) b p = inks-append a b (ink p t)
 pub behind : (p q r : Page) (a b : List (List ℕ)) → q ≡ inks p a → r ≡ inks q b → r ≡ inks p (a ++ b)
 behind p q r a b e f = f ∙ ap (λ (x : Page). inks x b) e ∙ sym (inks-append a b p)
 
--- the buffer keeps its length, and the position stays within it
+-- the buffer keeps its length
 pub inks-length : (ts : List (List ℕ)) (p : Page) → length (inks p ts .bytes) ≡ length (p .bytes)
 unfolding inks ink page
 inks-length [] p = refl
@@ -41,15 +41,6 @@ inks-length (t ∷ ts) p = inks-length ts (ink p t) ∙ length-put (p .bytes) (p
 pub page-length : (ts : List (List ℕ)) (l m : List ℕ) (at to : ℕ) → page m to ≡ inks (page l at) ts → length m ≡ length l
 unfolding page
 page-length ts l m at to e = ap (λ (p : Page). length (p .bytes)) e ∙ inks-length ts (page l at)
-
-pub inks-within : (ts : List (List ℕ)) (p : Page) → p .at ≤ length (p .bytes) → inks p ts .at ≤ length (p .bytes)
-unfolding inks ink page
-inks-within [] p h = h
-inks-within (t ∷ ts) p h =
-    let e = length-put (p .bytes) (p .at) t in
-    let w : inks (ink p t) ts .at ≤ length (putAt (p .bytes) (p .at) t) =
-    inks-within ts (ink p t) (omega (arith, next-within (p .bytes) (p .at) t h)) in
-    omega arith
 
 -- all as one text
 unfoldable pub joined : List (List ℕ) → List ℕ

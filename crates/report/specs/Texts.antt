@@ -143,7 +143,7 @@ notReadyWord = 110 ∷ 111 ∷ 116 ∷ 32 ∷ 114 ∷ 101 ∷ 97 ∷ 100 ∷ 121
 abbrev pub poolFullWord : Text
 poolFullWord = 112 ∷ 111 ∷ 111 ∷ 108 ∷ 32 ∷ 102 ∷ 117 ∷ 108 ∷ 108 ∷ []
 
--- ---- the word of a message: a vote is `yes` or `no`, an outcome `commit` or `abort`
+-- ---- the word of a message: a vote is `yes` or `no`, an outcome `commit` or `abort`; any kind but 1 to 6 is `yield`
 unfoldable pub kindWord : ℕ → ℕ → Text
 kindWord kind word =
     cond (eqb kind 1) fetchWord
@@ -188,7 +188,7 @@ messageTexts m =
     routeTexts (headerOf m) (wordOf m) ++ nameTexts (headerOf m) ++ eachFrom (nthEntryTexts m) (entryCount m) 0
     ++ eachFrom (nthRivalTexts m) (rivalCount m) 0
 
--- ---- the words of the numbers
+-- ---- the words of the numbers; any number but 1 to 11 has that of 12
 unfoldable pub wordOfNumber : ℕ → Text
 wordOfNumber n =
     cond (eqb n 1) lengthWord

@@ -103,7 +103,7 @@ fn rival(out: &mut [u8], at: usize, r: Rival) -> usize
     number(out, a, b".", r.serial as u64)
 }
 
-// All of them, each shown once.
+// All entries, and all rivals, of a message in their order.
 fn entries(out: &mut [u8], at: usize, m: &[u8], n: u8) -> usize
     ensures { λ r. ⌜ page (now (out .exit)) r ≡ inks (page (now (out .entry)) at) (eachFrom (nthEntryTexts (now (m .entry))) n 0) ⌝ }
 {

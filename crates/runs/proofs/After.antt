@@ -28,8 +28,8 @@ use Rattle.coordinator.specs.declared.Coordinator.{Coordinator}
 use Rattle.coordinator.specs.declared.Step.{Step}
 use Rattle.coordinator.specs.System.{tree}
 use Rattle.coordinator.specs.Calls.{noNode, beginOf, openOf, setOf, foundOf, reselectOf, requestCommitOf, abortOf}
-use Rattle.coordinator.specs.Due.{dueKind, dueRefusals}
-use Rattle.coordinator.specs.Receive.{forReplica, receiveOf}
+use Rattle.due.specs.Kind.{dueKind, dueRefusals}
+use Rattle.arrivals.specs.Receive.{forReplica, receiveOf}
 use Rattle.due.specs.Due.{messageDue}
 use Rattle.clauses.proofs.Facts.{Meets}
 use Rattle.clauses.proofs.Fits.{Fits}

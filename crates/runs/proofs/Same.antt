@@ -9,7 +9,7 @@ use Rattle.mask.specs.Mask.{contains}
 use Rattle.coordinator.specs.declared.Step.{Step}
 use Rattle.coordinator.specs.System.{tree}
 use Rattle.coordinator.specs.Calls.{noNode}
-use Rattle.coordinator.specs.Due.{dueKind}
+use Rattle.due.specs.Kind.{dueKind}
 use Rattle.due.specs.Due.{messageDue}
 use Rattle.pool.specs.Pool.{waiting}
 use Rattle.wire.specs.Encode.{encode}

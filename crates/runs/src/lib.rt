@@ -46,7 +46,7 @@ pub fn start(images: &mut [u8], records: &mut [u8], pool: &mut [u8], own: &mut [
 }
 
 // Takes one step, and demand 3 holds of the longer list. Ruled out: a step of another kind; a buffer altered that this kind of step leaves alone;
-// a committed booking that found another value than it finds in replay.
+// a committed transaction that found another value than it finds in replay.
 pub fn step(
     images: &mut [u8],
     records: &mut [u8],

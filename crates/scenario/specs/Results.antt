@@ -43,7 +43,7 @@ readyText = 32 ∷ 114 ∷ 101 ∷ 97 ∷ 100 ∷ 121 ∷ []
 abbrev pub finishedText : Text
 finishedText = 32 ∷ 102 ∷ 105 ∷ 110 ∷ 105 ∷ 115 ∷ 104 ∷ 101 ∷ 100 ∷ []
 
--- ---- what a delivery or an abort brought about
+-- ---- what a delivery brought about
 unfoldable pub broughtTexts : ℕ → List Text
 broughtTexts v =
     cond (eqb v 1) (committedText ∷ [])

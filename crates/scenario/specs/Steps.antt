@@ -38,7 +38,7 @@ unfoldable pub messageLine : Text → Option (List ℕ) → List Text
 messageLine label none = []
 messageLine label (some m) = label ∷ (messageTexts m ++ (newline ∷ []))
 
--- no node's
+-- no node, and no place
 abbrev pub nobody : ℕ
 nobody = 255
 

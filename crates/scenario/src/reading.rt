@@ -7,7 +7,7 @@ use crate::Reader;
 // The part of a line that is bad, whatever comes.
 const SPOILT: u8 = 7;
 
-// Nothing is read yet.
+// Nothing is read yet. Ruled out: a first line numbered 0; a scenario that runs already.
 pub fn fresh() -> Reader
     ensures { λ r. ⌜ r ≡ fresh ⌝ }
 {

@@ -1,6 +1,6 @@
 -- What the bytes of a line say: a word of small letters and then numbers in base ten, with spaces between. A `#` ends what is said: the rest is
 -- a comment. A number may begin with `-`.
-use Prim.Native.Nat.{ℕ, _+_, _*_, _-_, _^_}
+use Prim.Native.Nat.{ℕ, _+_, _*_, _-_}
 use mathlib.Core.Bool.{Bool, cond}
 use mathlib.Core.List.{List, [], _∷_}
 use lib.Dec.{ltb, eqb}
@@ -125,11 +125,3 @@ unfoldable pub step : Said → ℕ → Said
 step s b =
     cond (ltb inNegative (s .part)) s
     (cond (ltb b 48) (sign s b) (cond (ltb 57 b) (letterOrNone s b) (digit s (b - 48))))
-
--- the bytes of a line one after another, and its end
-unfoldable pub readFrom : Said → List ℕ → Said
-readFrom s [] = s
-readFrom s (b ∷ bs) = readFrom (step s b) bs
-
-unfoldable pub saidBy : List ℕ → Said
-saidBy line = space (readFrom fresh line)

@@ -15,7 +15,7 @@ use Rattle.wire.specs.Decode.{kindOf, toOf, decode, accepted, checkOf}
 use Rattle.wire.proofs.Theorems.{accepted-of-check}
 use Rattle.replica.proofs.Spoken.{left-true, right-true}
 use Rattle.replica.proofs.Delivered.{past, or-neither}
-use Rattle.coordinator.specs.Receive.{forReplica}
+use Rattle.arrivals.specs.Receive.{forReplica}
 use Rattle.pool.specs.Pool.{count, waiting, messageAt, check}
 use Rattle.pool.proofs.Laws.{length-waiting, getD-waiting}
 use Rattle.station.specs.declared.Answer.{Answer}

@@ -20,7 +20,7 @@ use Rattle.replica.proofs.Delivered.{Fine, cleared, step-fine, entries-of, refu
 use Rattle.coordinator.specs.declared.Coordinator.{Coordinator}
 use Rattle.coordinator.specs.declared.Step.{Step}
 use Rattle.coordinator.specs.System.{tree}
-use Rattle.coordinator.specs.Receive.{receiveOf}
+use Rattle.arrivals.specs.Receive.{receiveOf}
 use Rattle.pool.specs.Pool.{count, waiting, messageAt, check}
 use Rattle.pool.specs.Change.{added, addAfter}
 use Rattle.pool.proofs.Numbers.{Room, fine, add-after}

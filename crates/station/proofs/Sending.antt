@@ -19,7 +19,7 @@ use Rattle.wire.specs.Write.{answer, writtenOf, bufferAfter}
 use Rattle.wire.proofs.Theorems.{length-bounds}
 use Rattle.coordinator.specs.declared.Coordinator.{Coordinator}
 use Rattle.coordinator.specs.System.{tree}
-use Rattle.coordinator.specs.Due.{dueKind, dueRefusals}
+use Rattle.due.specs.Kind.{dueKind, dueRefusals}
 use Rattle.due.specs.Due.{messageDue, writeRefusals, isDue, dueWritten, dueBuffer}
 use Rattle.record.specs.Record.{check}
 use Rattle.record.specs.Call.{dueFirst, recordDue, recordDueBuffer}

@@ -18,7 +18,7 @@ use Rattle.replica.specs.Receive.{Delivered, deliver, spoken}
 use Rattle.coordinator.specs.declared.Coordinator.{Coordinator}
 use Rattle.coordinator.specs.State.{thirteen, everyNode, blankRecord}
 use Rattle.coordinator.specs.System.{tree}
-use Rattle.coordinator.specs.Receive.{forReplica, receiveOf}
+use Rattle.arrivals.specs.Receive.{forReplica, receiveOf}
 use Rattle.record.specs.Layout.{recordSize}
 use Rattle.record.specs.Record.{recordOf, bytesOf, check}
 use Rattle.record.specs.Call.{recordAfter}

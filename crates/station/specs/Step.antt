@@ -20,8 +20,8 @@ use Rattle.coordinator.specs.declared.BeginWith.{BeginWith}
 use Rattle.coordinator.specs.declared.Step.{Step}
 use Rattle.coordinator.specs.System.{tree}
 use Rattle.coordinator.specs.Calls.{noNode, beginOf, openOf, setOf, foundOf, reselectOf, requestCommitOf, abortOf}
-use Rattle.coordinator.specs.Receive.{forReplica, receiveOf}
-use Rattle.coordinator.specs.Due.{noKind, dueKind, dueRefusals}
+use Rattle.arrivals.specs.Receive.{forReplica, receiveOf}
+use Rattle.due.specs.Kind.{noKind, dueKind, dueRefusals}
 use Rattle.due.specs.Due.{messageDue}
 use Rattle.station.specs.Station.{Station, poolSize, withImage, withRecord, withPool, withOn, sent, without}
 
@@ -36,7 +36,7 @@ pub data Call : Type 0 where
   reselect : ℕ → ℕ → List ℕ → Call
   requestCommit : ℕ → Call
   abort : ℕ → Call
-  -- a node sends what is due to another, while open for an object
+  -- a node sends what is due to a node, while open for an object
   send : ℕ → ℕ → ℕ → Call
   -- the k-th waiting message is delivered, kept waiting or not; it is dropped
   delivery : ℕ → Bool → Call

@@ -157,7 +157,7 @@ pub fn found(records: &mut [u8], own: &[u8], node: u8, object: u8) -> Answer
     refused(when_off(s.number))
 }
 
-// Takes a fresh live mask and distances. Ruled out: the old quorum answered; a mask that is not the host's written to who is on.
+// Takes a fresh live mask and distances. Ruled out: the old quorum answered; the old distances kept.
 pub fn reselect(
     records: &mut [u8],
     own: &[u8],

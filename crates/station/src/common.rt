@@ -13,7 +13,7 @@ pub(crate) fn wide(x: u8) -> usize
     x as usize
 }
 
-// A refused step.
+// A step that answers its number alone, 0 where it is taken.
 pub(crate) fn refused(number: u8) -> Answer
     ensures { λ r. ⌜ r ≡ answerWith number 0 ⌝ }
 {

@@ -6,7 +6,7 @@ ghost use Prim.Native.Nat.{_<_};
 ghost use lib.Dec.{ltb};
 ghost use lib.ListN.{length};
 ghost use Rattle.wire.specs.Decode.{kindOf, toOf, checkOf, longest};
-ghost use Rattle.coordinator.specs.Receive.{forReplica};
+ghost use Rattle.arrivals.specs.Receive.{forReplica};
 ghost use Rattle.record.specs.Call.{receivedOf as calledBy};
 ghost use Rattle.replica.specs.Receive.{receivedOf, bufferOf, spoken};
 ghost use Rattle.pool.specs.Pool.{check, count, messageAt};

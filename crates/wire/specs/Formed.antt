@@ -43,13 +43,13 @@ abbrev pub every : {A : Type 0} → (A → Bool) → List A → Bool
 every f [] = true
 every f (x ∷ xs) = f x && every f xs
 
--- objects are 0 to 63, the mode is 0 to read or 1 to write
 -- in a fetch version and value are 0; in an ask or a commit a read's value is 0, and a write's version is below 4,294,967,295
 abbrev pub contentOk : ℕ → Entry → Bool
 contentOk kind e =
     cond (eqb kind fetch) (eqb (e .version) 0 && eqb (e .value) 0)
     (eqb kind copy || cond (eqb (e .mode) 0) (eqb (e .value) 0) (ltb (e .version) 4294967295))
 
+-- objects are 0 to 63, the mode is 0 to read or 1 to write
 unfoldable pub entryOk : ℕ → Entry → Bool
 entryOk kind e = ltb (e .object) 64 && (ltb (e .mode) 2 && contentOk kind e)
 

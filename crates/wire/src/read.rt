@@ -15,7 +15,7 @@ use crate::Head;
 use crate::RIVAL;
 use crate::Rival;
 
-// The header. Each field rules out, among others: its neighbour's bytes; its bytes high end first.
+// The header. Each field rules out, among others: its neighbour's bytes; its bytes high end first; 0 for it in a message of 15 bytes.
 pub fn kind(s: &[u8]) -> u8
     ensures { λ r. ⌜ r ≡ kindOf (now (s .entry)) ⌝ }
 {
@@ -129,7 +129,7 @@ pub(crate) fn rival_at(s: &[u8], at: usize) -> Rival
 }
 
 // The i-th entry, the i-th rival and the word; zeros outside what is there.
-// Ruled out: the next section's bytes read as an entry; the first rival given for every i.
+// Ruled out: the next section's bytes read as an entry; the first rival given for every i; the count of words given for the word.
 pub fn nth_entry(s: &[u8], i: usize) -> Entry
     ensures { λ r. ⌜ r ≡ entryOf (now (s .entry)) i ⌝ }
 {

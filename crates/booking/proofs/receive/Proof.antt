@@ -16,15 +16,15 @@ use denote.Struct.Laws as LL
 use Rattle.coordinator.specs.declared.Coordinator.{Coordinator}
 use Rattle.coordinator.specs.declared.Step.{Step}
 use Rattle.coordinator.specs.System.{tree}
-use Rattle.coordinator.specs.Receive.{receiveOf}
+use Rattle.arrivals.specs.Receive.{receiveOf}
 use Rattle.coordinator.proofs.Coordinator as T
 use Rattle.coordinator.proofs.Coordinator.Laws as T′
 use Rattle.coordinator.proofs.Step as R
 use Rattle.coordinator.proofs.Step.Laws as R′
-use Rattle.coordinator.proofs.receive as step
-use Rattle.coordinator.proofs.receive.Symbol as step-def
-use Rattle.coordinator.proofs.receive.Symbol.{name as #step}
-use Rattle.coordinator.proofs.receive.Met as step-thm
+use Rattle.arrivals.proofs.receive as step
+use Rattle.arrivals.proofs.receive.Symbol as step-def
+use Rattle.arrivals.proofs.receive.Symbol.{name as #step}
+use Rattle.arrivals.proofs.receive.Met as step-thm
 use Rattle.booking.specs.Called.{calledOf}
 use Rattle.booking.proofs.Called as S
 use Rattle.booking.proofs.Called.Laws as S′

@@ -70,10 +70,3 @@ module _ {X : Type 0} {P : ℕ → Type 0} (d : (j : ℕ) → Dec (P j)) (f : �
       → Changed2 ((i ≡ r) × P j) (putRow d f r v i j) (v j) (f i j) (putRow d g r w i j) (w j) (g i j)
   unfolding putRow
   putRow-both g w i j = pick-both (both (ℕ-discrete i r) (d j)) (v j) (f i j) (w j) (g i j)
-
--- Two questions with the same answers, two values that are equal: the same table.
-pub putRow-ext : {X : Type 0} {P Q : ℕ → Type 0} (d : (j : ℕ) → Dec (P j)) (e : (j : ℕ) → Dec (Q j)) (f : ℕ → ℕ → X) (r : ℕ) (v w : ℕ → X) (i j : ℕ)
-    → (P j → Q j) → (Q j → P j) → v j ≡ w j → putRow d f r v i j ≡ putRow e f r w i j
-putRow-ext d e f r v w i j to from h = on (putRow-cases d f r v i j)
-    (λ y. on (putRow-cases e f r w i j) (λ z. y .1 ∙ h ∙ sym (z .1)) (λ z. absurd (z .0 (y .0 .0, to (y .0 .1)))))
-    (λ y. on (putRow-cases e f r w i j) (λ z. absurd (y .0 (z .0 .0, from (z .0 .1)))) (λ z. y .1 ∙ sym (z .1)))

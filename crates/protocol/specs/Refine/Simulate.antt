@@ -1,17 +1,17 @@
--- What a simulation keeps of its abstract state, and that one transition keeps it: invariant, log, holders. And two ways to write one state.
-use mathlib.Core.Path.{_≡_, subst}
+-- What a simulation keeps of its abstract state, and that one transition keeps it: invariant, log, holders.
+use mathlib.Core.Path.{_≡_}
 use mathlib.Core.List.{List, []}
 use mathlib.Core.Option.{none}
 use Prim.Native.Nat.{ℕ}
 use Rattle.protocol.specs.Rules.{Node, Object, Rules}
 use Rattle.protocol.specs.State.{Tx, OwnerState, State, blankState}
-use Rattle.protocol.specs.Transitions.{byReplica, Step}
+use Rattle.protocol.specs.Transitions.{Step}
 use Rattle.protocol.specs.Log.{RootInAll, logged}
 use Rattle.protocol.specs.Invariant.{Inv}
 use Rattle.protocol.specs.Proof.Runs.{blank-ok, step-ok}
 use Rattle.protocol.specs.Proof.Log.{LogInv, blank-log, step-log}
 use Rattle.protocol.specs.Refine.Growth.{Grows, step-grows}
-use Rattle.protocol.specs.Refine.Holders.{HolderTable, Holders, blank-holders, holders-as-read, shown, step-holders}
+use Rattle.protocol.specs.Refine.Holders.{HolderTable, Holders, blank-holders, shown, step-holders}
 
 -- Of the base's rules: a state, the log so far and the images' holders.
 pub record Kept {A : Type 0} (R : Rules A) (σ : State A) (l : List Tx) (t : HolderTable) : Type 0 where
@@ -27,27 +27,11 @@ pub step-kept : {A : Type 0} {R : Rules A} {σ σ' : State A} → RootInAll R �
 step-kept {R = R} top l t k s =
     (record { inv = step-ok s (k .inv); log = step-log R top s (k .inv) l (k .log); holders = step-holders s (k .inv) t (k .holders) }, step-grows s)
 
--- A station's tables are read from bytes, and equal the abstract ones entry by entry: what holds of the one state holds of the other.
+-- A station's tables are read from bytes, and equal the abstract ones entry by entry.
 module _ {A : Type 0} (σ : State A) (version : Node → Object → ℕ) (value : Node → Object → A) (last : Node → Node → ℕ)
     (state : Node → Node → OwnerState) where
-  abbrev pub asRead : State A
-  asRead = byReplica σ (record { version = version; value = value }) (record { last = last; state = state }) (σ .votes)
-
   pub record Reads : Type 0 where
     pub r-version : (n : Node) (o : Object) → σ .store .version n o ≡ version n o
     pub r-value : (n : Node) (o : Object) → σ .store .value n o ≡ value n o
     pub r-last : (n w : Node) → σ .ends .last n w ≡ last n w
     pub r-state : (n w : Node) → σ .ends .state n w ≡ state n w
-
-  pub as-read : Reads → σ ≡ asRead
-  as-read r = λ i. byReplica σ
-      (record { version = λ n o. r .r-version n o i; value = λ n o. r .r-value n o i })
-      (record { last = λ n w. r .r-last n w i; state = λ n w. r .r-state n w i })
-      (σ .votes)
-
-  pub kept-as-read : (R : Rules A) (l : List Tx) (t t' : HolderTable) → Reads → ((n : Node) (o : Object) → t n o ≡ t' n o) → Kept R σ l t → Kept R asRead l t'
-  kept-as-read R l t t' r same k = subst (λ τ. Kept R τ l t') (as-read r)
-      (record { inv = k .inv; log = k .log; holders = holders-as-read t t' (σ .ends) (σ .history .contents) same (k .holders) })
-
-  pub grows-as-read : (τ : State A) → Reads → Grows τ σ → Grows τ asRead
-  grows-as-read τ r g = subst (Grows τ) (as-read r) g

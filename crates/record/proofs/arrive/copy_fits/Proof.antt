@@ -1,5 +1,5 @@
 -- `record::arrive::copy_fits`: the tests in the definition's order.
-use Rattle.coordinator.specs.Receive.{copyFits}
+use Rattle.arrivals.specs.Receive.{copyFits}
 use Rattle.record.specs.Record.{recordOf}
 use borrow.Author.Needs.{needs}
 use Rattle.record.proofs.arrive.copy_fits.Statement.{statement}

@@ -4,7 +4,7 @@ use native.Mathlib.Omega.{arith}
 use denote.Ref.{now}
 use Rattle.octets.proofs.Laws.{Bytes}
 use borrow.Author.Tests.{ne-eqb}
-use Rattle.coordinator.specs.Receive.{delivered}
+use Rattle.arrivals.specs.Receive.{delivered}
 use Rattle.record.specs.Call.{kept}
 use Rattle.record.proofs.Kept.{same-bytes}
 use borrow.Author.Needs.{needs}

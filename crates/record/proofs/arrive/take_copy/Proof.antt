@@ -4,7 +4,7 @@ use native.Mathlib.Omega.{arith}
 use denote.Ref.{now}
 use Rattle.octets.proofs.Laws.{Bytes}
 use Rattle.coordinator.specs.State.{placeOf, objectAt}
-use Rattle.coordinator.specs.Receive.{withCopy, copyTaken}
+use Rattle.arrivals.specs.Receive.{withCopy, copyTaken}
 use Rattle.wire.specs.Decode.{fromOf}
 use Rattle.wire.specs.Items.{entryOf}
 use Rattle.record.specs.Record.{recordOf}

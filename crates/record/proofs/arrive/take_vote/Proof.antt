@@ -4,7 +4,7 @@ use native.Mathlib.Omega.{arith}
 use denote.Ref.{now}
 use Rattle.octets.proofs.Laws.{Bytes}
 use borrow.Author.Tests.{eq-eqb, ne-eqb}
-use Rattle.coordinator.specs.Receive.{voteTaken}
+use Rattle.arrivals.specs.Receive.{voteTaken}
 use Rattle.record.specs.Record.{recordOf}
 use Rattle.record.specs.Call.{kept}
 use Rattle.record.proofs.Kept.{same-bytes}

@@ -3,7 +3,7 @@ use mathlib.Core.Path.{sym, ap, _∙_}
 use native.Mathlib.Omega.{arith}
 use denote.Ref.{now}
 use Rattle.octets.proofs.Laws.{Bytes}
-use Rattle.coordinator.specs.Receive.{yieldTaken}
+use Rattle.arrivals.specs.Receive.{yieldTaken}
 use Rattle.record.specs.Record.{recordOf}
 use Rattle.record.specs.Call.{kept}
 use Rattle.record.proofs.Kept.{same-bytes}

@@ -6,7 +6,7 @@ use Rattle.wire.specs.Decode.{checkOf}
 use Rattle.coordinator.specs.declared.Coordinator.{Coordinator}
 use Rattle.coordinator.specs.declared.Step.{Step}
 use Rattle.coordinator.specs.System.{tree}
-use Rattle.coordinator.specs.Receive.{receiveOf}
+use Rattle.arrivals.specs.Receive.{receiveOf}
 use Rattle.record.proofs.OnBytes.{short-answer, short-bytes, long-answer, refused-called, refused-record}
 use Rattle.record.proofs.OnBytes.{part-long, part-count, part-checked, part-called, part-record}
 use borrow.Author.Needs.{needs}

@@ -3,7 +3,7 @@ use mathlib.Core.Path.{_≡_, sym, ap, _∙_}
 use denote.Ref.{now}
 use borrow.Author.Tests.{eq-eqb, ne-eqb}
 use Rattle.numbers.specs.Refusal.{firstOf}
-use Rattle.coordinator.specs.Due.{dueRefusals, dueOf}
+use Rattle.due.specs.Kind.{dueRefusals, dueOf}
 use Rattle.record.specs.Record.{recordOf}
 use borrow.Author.Needs.{needs}
 use Rattle.record.proofs.duties.due_in.Statement.{statement}

@@ -1,7 +1,7 @@
 -- `record::duties::due_kind`: by the phase.
 use mathlib.Core.Path.{sym, _∙_}
 use borrow.Author.Tests.{eq-eqb, ne-eqb}
-use Rattle.coordinator.specs.Due.{dueKind}
+use Rattle.due.specs.Kind.{dueKind}
 use borrow.Author.Needs.{needs}
 use Rattle.record.proofs.duties.due_kind.Statement.{statement}
 use Rattle.record.proofs.duties.due_kind.Tie as tie

@@ -1,5 +1,5 @@
 -- `record::duties::finishing_due`: an outcome, else a yield.
-use Rattle.coordinator.specs.Due.{finishingDue}
+use Rattle.due.specs.Kind.{finishingDue}
 use Rattle.record.specs.Record.{recordOf}
 use borrow.Author.Needs.{needs}
 use Rattle.record.proofs.duties.finishing_due.Statement.{statement}

@@ -1,5 +1,5 @@
 -- `record::duties::open_due`: the tests in the definition's order.
-use Rattle.coordinator.specs.Due.{openDue}
+use Rattle.due.specs.Kind.{openDue}
 use Rattle.record.specs.Record.{recordOf}
 use borrow.Author.Needs.{needs}
 use Rattle.record.proofs.duties.open_due.Statement.{statement}

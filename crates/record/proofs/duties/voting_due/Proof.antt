@@ -1,5 +1,5 @@
 -- `record::duties::voting_due`: the tests in the definition's order.
-use Rattle.coordinator.specs.Due.{votingDue}
+use Rattle.due.specs.Kind.{votingDue}
 use Rattle.record.specs.Record.{recordOf}
 use borrow.Author.Needs.{needs}
 use Rattle.record.proofs.duties.voting_due.Statement.{statement}

@@ -10,7 +10,7 @@ use Rattle.parts.proofs.Laws.{lent}
 use Rattle.pool.specs.Pool.{messageAt}
 use Rattle.coordinator.specs.declared.Coordinator.{Coordinator}
 use Rattle.coordinator.specs.System.{tree}
-use Rattle.coordinator.specs.Receive.{receiveOf}
+use Rattle.arrivals.specs.Receive.{receiveOf}
 use Rattle.record.specs.Call.{recordAfter}
 use Rattle.record.specs.Call.{receivedOf as calledBy}
 use Rattle.station.specs.Buffers.{recordAt, withRecordAt}

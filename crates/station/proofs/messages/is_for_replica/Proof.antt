@@ -8,7 +8,7 @@ use Rattle.station.proofs.Waiting.{message-lent, Inside, inside}
 use mathlib.Core.Bool.{Bool, _||_}
 use lib.Dec.{eqb}
 use Rattle.wire.specs.Decode.{kindOf}
-use Rattle.coordinator.specs.Receive.{forReplica}
+use Rattle.arrivals.specs.Receive.{forReplica}
 use borrow.Author.Needs.{needs}
 use Rattle.station.proofs.messages.is_for_replica.Statement.{statement}
 use Rattle.station.proofs.messages.is_for_replica.Tie as tie
