@@ -23,7 +23,7 @@ use Rattle.station.specs.Step.{Outcome, whenOff, hosted}
 use Rattle.station.specs.Buffers.{withRecordAt, recordDamaged, onOf, ownDamaged, wrong, stationOf, answerWith, told, recordsAfter, ends, hostFirst}
 use Rattle.station.specs.Buffers.{lower, recordAt, recordIn}
 use Rattle.station.specs.declared.Answer.{Answer}
-use Rattle.station.specs.OnBytes.{isOn, answerOf}
+use Rattle.station.specs.OnBytes.{isOn, answerOf, endsFirst}
 use Rattle.station.proofs.Records.{record-same, damaged-two, damaged-is, same-called, same-after}
 
 -- ---- what the buffers' number tells
@@ -72,6 +72,30 @@ sound R O n e =
       mask = ltb-false 8191 (onOf O) (b .0);
       fine = d .0;
     }
+
+-- ---- the records' length and who is on come before the record's clauses
+module _ (R O : List ℕ) (n : ℕ) where
+  by-tests : (a m r : Bool)
+      → (let f : ℕ = cond a 1 (cond m 2 0) in
+      let g : ℕ = cond a 1 (cond m 2 (cond r 2 0)) in
+      ((f ≡ 0 → ⊥) → f ≡ g) × (f ≡ 0 → (a ≡ false) × (g ≡ cond r 2 0)))
+  by-tests true m r = ((λ h. refl), (λ e. absurd (let z : ⊥ = omega arith in z)))
+  by-tests false true r = ((λ h. refl), (λ e. absurd (let z : ⊥ = omega arith in z)))
+  by-tests false false r = ((λ h. absurd (h refl)), (λ e. (refl, refl)))
+
+  pub ends-stop : (k : ℕ) → k ≡ endsFirst (length R) O → (k ≡ 0 → ⊥) → k ≡ hostFirst (ends R O) n
+  unfolding hostFirst endsFirst
+  ends-stop k e h = e ∙ by-tests (wrong R 3913 || wrong O 2) (ownDamaged O) (recordDamaged R n) .0 (λ z. h (e ∙ z))
+
+  pub ends-next : endsFirst (length R) O ≡ 0 → hostFirst (ends R O) n ≡ cond (recordDamaged R n) 2 0
+  unfolding hostFirst endsFirst
+  ends-next e = by-tests (wrong R 3913 || wrong O 2) (ownDamaged O) (recordDamaged R n) .1 e .1
+
+  pub ends-long : endsFirst (length R) O ≡ 0 → length R ≡ 3913
+  unfolding endsFirst
+  ends-long e =
+      let a = by-tests (wrong R 3913 || wrong O 2) (ownDamaged O) (recordDamaged R n) .1 e .0 in
+      long R 3913 (or-neither (wrong R 3913) (wrong O 2) a .0)
 
 -- a node that is on is below 13
 pub node-on : (on n : ℕ) → on ≤ 8191 → contains on n ≡ true → n < 13

@@ -1,6 +1,6 @@
 -- A send over the buffers, by what is due: a refusal, nothing, a message that is not well formed, or a message.
 use mathlib.Core.Path.{_≡_, refl, sym, ap, ap₂, _∙_, subst}
-use mathlib.Core.Bool.{Bool, true, false, cond, not, _&&_}
+use mathlib.Core.Bool.{Bool, true, false, cond, not, _&&_, _||_}
 use mathlib.Core.Logic.{_⊎_, inl, inr}
 use mathlib.Core.List.{List, _++_}
 use Prim.Native.Nat.{ℕ, zero, suc, _<_, _≤_}
@@ -19,6 +19,7 @@ use Rattle.wire.specs.Write.{answer, writtenOf, bufferAfter}
 use Rattle.wire.proofs.Theorems.{length-bounds}
 use Rattle.coordinator.specs.declared.Coordinator.{Coordinator}
 use Rattle.coordinator.specs.System.{tree}
+use Rattle.coordinator.specs.State.{isOpen}
 use Rattle.due.specs.Kind.{dueKind, dueRefusals}
 use Rattle.due.specs.Due.{messageDue, writeRefusals, isDue, dueWritten, dueBuffer}
 use Rattle.record.specs.Record.{check}
@@ -30,9 +31,11 @@ use Rattle.pool.proofs.Numbers.{Room, fine, room-number, add-after}
 use Rattle.pool.proofs.Laws.{length-waiting}
 use Rattle.station.specs.Station.{Station}
 use Rattle.station.specs.Step.{Outcome, whenOff, sendNumber, sendOf, step}
-use Rattle.station.specs.Buffers.{onOf, recordAt, recordIn, recordDamaged}
-use Rattle.station.specs.Buffers.{stationOf, answerWith, told, ends, hostFirst, lower, poolAfter, putInto, sending, sendFirst}
+use Rattle.station.specs.Buffers.{onOf, recordAt, recordIn, recordDamaged, wrong, ownDamaged}
+use Rattle.station.specs.Buffers.{stationOf, answerWith, told, hostFirst, lower, poolAfter, putInto, sending, sendFirst}
 use Rattle.station.specs.Buffers.{sendTold, sendPool}
+use Rattle.station.specs.OnBytes.{endsFirst, owedAt, owedInto}
+use Rattle.station.proofs.Records.{damaged-two, damaged-is}
 use Rattle.station.proofs.Hosted.{off-number}
 
 above : (k : ℕ) → (k ≡ 0 → ⊥) → 0 < k
@@ -115,27 +118,110 @@ module _ (c : Coordinator) (n to object : ℕ) where
           let b = length-bounds message (p .2) .1 in
           omega arith
 
--- ---- what is due at a node whose record is one
-module _ (R : List ℕ) (n to object : ℕ) (h : n < 13) (f : recordDamaged R n ≡ false) where
-  checked : check (recordAt R n) ≡ 0
-  unfolding recordDamaged
-  checked =
-      let t = lt-ltb n 13 h in
-      eqb-true (check (recordAt R n)) 0 (not-false (eqb (check (recordAt R n)) 0) (simp t at f))
+-- ---- what is due at a node, by whether its record is one
+module _ (R : List ℕ) (n to object : ℕ) (h : n < 13) (k : length R ≡ 3913) where
+  pub due-here : (size : ℕ) → size ≡ 128 → recordDue (recordAt R n) n to object size ≡ owedAt R n to object
+  unfolding recordDue dueFirst recordIn owedAt
+  due-here size e = by (eqb (check (recordAt R n)) 0) refl
+    where
+      t : ltb n 13 ≡ true
+      t = lt-ltb n 13 h
 
-  pub due-here : (size : ℕ) → size ≡ 128 → recordDue (recordAt R n) n to object size ≡ dueWritten tree 128 (recordIn R n) n to object
-  unfolding recordDue dueFirst recordIn
-  due-here size e =
-      ap (λ (k : ℕ). recordDue (recordAt R n) n to object k) e ∙ (let t = lt-ltb n 13 h in simp (checked, t))
+      by : (b : Bool) → eqb (check (recordAt R n)) 0 ≡ b → recordDue (recordAt R n) n to object size ≡ owedAt R n to object
+      by true q = simp (e, eqb-true (check (recordAt R n)) 0 q, damaged-is R n h true q, t)
+      by false q = simp (e, damaged-two R n h k (eqb-false (check (recordAt R n)) 0 q), damaged-is R n h false q, t)
 
-  pub put-here : (l : List ℕ) → length l ≡ 128 → recordDueBuffer (recordAt R n) n to object l ≡ dueBuffer tree (recordIn R n) n to object l
-  unfolding recordDueBuffer dueFirst recordIn
-  put-here l e = let t = lt-ltb n 13 h in simp (checked, e, t)
+  pub put-here : (l : List ℕ) → length l ≡ 128 → recordDueBuffer (recordAt R n) n to object l ≡ owedInto R n to object l
+  unfolding recordDueBuffer dueFirst recordIn owedInto
+  put-here l e = by (eqb (check (recordAt R n)) 0) refl
+    where
+      t : ltb n 13 ≡ true
+      t = lt-ltb n 13 h
 
--- ---- the buffers' number
-pub send-first : (R P O : List ℕ) (n : ℕ) → sendFirst (sending R P O) n ≡ lower (hostFirst (ends R O) n) (pool.check P)
-unfolding sendFirst hostFirst
-send-first R P O n = refl
+      by : (b : Bool) → eqb (check (recordAt R n)) 0 ≡ b → recordDueBuffer (recordAt R n) n to object l ≡ owedInto R n to object l
+      by true q = simp (e, eqb-true (check (recordAt R n)) 0 q, damaged-is R n h true q, t)
+      by false q = simp (e, damaged-two R n h k (eqb-false (check (recordAt R n)) 0 q), damaged-is R n h false q, t)
+
+-- 2 says that the record is damaged: what is due has no such number
+not-two : (a b : Bool) → _≡_ {A = ℕ} (cond a 4 (cond b 6 0)) 2 → ⊥
+not-two true b q = absurd (let z : ⊥ = omega arith in z)
+not-two false true q = absurd (let z : ⊥ = omega arith in z)
+not-two false false q = absurd (let z : ⊥ = omega arith in z)
+
+refusal-two : (c : Coordinator) (n to object : ℕ) → firstOf (dueRefusals c n to object) ≡ 2 → ⊥
+unfolding dueRefusals
+refusal-two c n to object =
+    not-two (not (ltb n 13) || not (ltb to 13)) (eqb (c .phase) 1 && (not (ltb object 64) || not (isOpen c object)))
+
+module _ (R : List ℕ) (n to object : ℕ) (w : Written) (d : w ≡ owedAt R n to object) where
+  due-two : dueWritten tree 128 (recordIn R n) n to object .number ≡ 2 → ⊥
+  unfolding Case
+  due-two e = by (cases (recordIn R n) n to object _ refl)
+    where
+      of : (k : ℕ) → dueWritten tree 128 (recordIn R n) n to object ≡ answer k 0 → k ≡ 2
+      of k p = sym (ap (λ (x : Written). x .number) p) ∙ e
+
+      by : Case (recordIn R n) n to object (dueWritten tree 128 (recordIn R n) n to object) → ⊥
+      by (inl p) = refusal-two (recordIn R n) n to object (of (refusal (recordIn R n) n to object) (p .1))
+      by (inr (inl p)) = let z : _≡_ {A = ℕ} 0 2 = of 0 (p .2) in absurd (let y : ⊥ = omega arith in y)
+      by (inr (inr (inl p))) = let z : _≡_ {A = ℕ} 3 2 = of 3 (p .3) in absurd (let y : ⊥ = omega arith in y)
+      by (inr (inr (inr p))) =
+          let z : _≡_ {A = ℕ} 0 2 = sym (ap (λ (x : Written). x .number) (p .3)) ∙ e in
+          absurd (let y : ⊥ = omega arith in y)
+
+  pub owed-two : w .number ≡ 2 → recordDamaged R n ≡ true
+  unfolding owedAt
+  owed-two e = by (recordDamaged R n) refl
+    where
+      by : (b : Bool) → recordDamaged R n ≡ b → recordDamaged R n ≡ true
+      by true q = q
+      by false q =
+          let z : w ≡ dueWritten tree 128 (recordIn R n) n to object = d ∙ simp q in
+          absurd (due-two (sym (ap (λ (x : Written). x .number) z) ∙ e))
+
+  pub owed-due : (w .number ≡ 2 → ⊥) → (recordDamaged R n ≡ false) × (w ≡ dueWritten tree 128 (recordIn R n) n to object)
+  unfolding owedAt
+  owed-due e = by (recordDamaged R n) refl
+    where
+      by : (b : Bool) → recordDamaged R n ≡ b → (recordDamaged R n ≡ false) × (w ≡ dueWritten tree 128 (recordIn R n) n to object)
+      by true q = absurd (e (ap (λ (x : Written). x .number) d ∙ simp q))
+      by false q = (q, d ∙ simp q)
+
+pub owed-put : (R : List ℕ) (n to object : ℕ) (l : List ℕ) → recordDamaged R n ≡ false → owedInto R n to object l ≡ dueBuffer tree (recordIn R n) n to object l
+unfolding owedInto
+owed-put R n to object l e = simp e
+
+-- ---- the buffers' number: of the lengths, of who is on and of the pool; then of the record
+module _ (R P O : List ℕ) (n : ℕ) where
+  abbrev early : ℕ
+  early = lower (endsFirst (length R) O) (pool.check P)
+
+  -- with the tests as bools: of the records' and own lengths, of the mask, of the record, of the pool's length and count
+  rest : (a m r p q : Bool)
+      → (let f : ℕ = lower (cond a 1 (cond m 2 0)) (cond p 1 (cond q 2 0)) in
+      let g : ℕ = lower (cond a 1 (cond m 2 (cond r 2 0))) (cond p 1 (cond q 2 0)) in
+      ((f ≡ 0 → ⊥) → f ≡ g) × (f ≡ 0 → g ≡ cond r 2 0))
+  unfolding lower
+  rest true m r true q = ((λ h. refl), (λ e. absurd (let z : ⊥ = omega arith in z)))
+  rest true m r false true = ((λ h. refl), (λ e. absurd (let z : ⊥ = omega arith in z)))
+  rest true m r false false = ((λ h. refl), (λ e. absurd (let z : ⊥ = omega arith in z)))
+  rest false true r true q = ((λ h. refl), (λ e. absurd (let z : ⊥ = omega arith in z)))
+  rest false true r false true = ((λ h. refl), (λ e. absurd (let z : ⊥ = omega arith in z)))
+  rest false true r false false = ((λ h. refl), (λ e. absurd (let z : ⊥ = omega arith in z)))
+  rest false false true true q = ((λ h. refl), (λ e. absurd (let z : ⊥ = omega arith in z)))
+  rest false false true false true = ((λ h. refl), (λ e. absurd (let z : ⊥ = omega arith in z)))
+  rest false false true false false = ((λ h. absurd (h refl)), (λ e. refl))
+  rest false false false true q = ((λ h. refl), (λ e. absurd (let z : ⊥ = omega arith in z)))
+  rest false false false false true = ((λ h. refl), (λ e. absurd (let z : ⊥ = omega arith in z)))
+  rest false false false false false = ((λ h. absurd (h refl)), (λ e. refl))
+
+  pub send-first : (lower (endsFirst (length R) O) (pool.check P) ≡ 0 → ⊥) → lower (endsFirst (length R) O) (pool.check P) ≡ sendFirst (sending R P O) n
+  unfolding sendFirst hostFirst endsFirst pool.check
+  send-first = rest (wrong R 3913 || wrong O 2) (ownDamaged O) (recordDamaged R n) (not (eqb (length P) 16513)) (ltb 128 (count P)) .0
+
+  pub send-next : lower (endsFirst (length R) O) (pool.check P) ≡ 0 → sendFirst (sending R P O) n ≡ cond (recordDamaged R n) 2 0
+  unfolding sendFirst hostFirst endsFirst pool.check
+  send-next = rest (wrong R 3913 || wrong O 2) (ownDamaged O) (recordDamaged R n) (not (eqb (length P) 16513)) (ltb 128 (count P)) .1
 
 pub pool-first : (n m : ℕ) (o : Outcome) (l : List ℕ) → n ≡ m → (n ≡ 0 → ⊥) → l ≡ poolAfter m o l
 unfolding poolAfter

@@ -1,7 +1,7 @@
 // The host's calls at a node: on the bytes of its record where the node is on, else the buffers' own numbers first and then the call's at a node that is off.
 ghost use mathlib.Core.Path.{_≡_};
 ghost use Rattle.station.specs.Step.{begin, openRead, openWrite, setValue, found, reselect, requestCommit, abort};
-ghost use Rattle.station.specs.OnBytes.{isOn, answerOf};
+ghost use Rattle.station.specs.OnBytes.{endsFirst, isOn, answerOf};
 ghost use Rattle.station.specs.Buffers.{ends, hostFirst, hostTold, hostRecords};
 use crate::Answer;
 use crate::EVERY_NODE;
@@ -16,17 +16,28 @@ use crate::common::wide;
 use coordinator::BeginWith;
 use coordinator::NODES;
 use numbers::either;
+use numbers::refuse;
 use record::Called;
 
+// The number of the records and of who is on, but for the clauses of a record.
+pub(crate) fn ends_number(records: usize, own: &[u8]) -> u8
+    ensures { λ r. ⌜ r ≡ endsFirst records (now (own .entry)) ⌝ }
+{
+    let wide = refuse(numbers::DAMAGED, EVERY_NODE < on(own), 0);
+    refuse(
+        numbers::LENGTH,
+        either(records != RECORDS, own.len() != OWN),
+        wide,
+    )
+}
+
 // The number of the buffers that a host call reads.
-pub(crate) fn host_number(records: &[u8], own: &[u8], node: u8) -> u8
+fn host_number(records: &[u8], own: &[u8], node: u8) -> u8
     ensures { λ r. ⌜ r ≡ hostFirst (ends (now (records .entry)) (now (own .entry))) node ⌝ }
 {
-    if either(records.len() != RECORDS, own.len() != OWN) {
-        return numbers::LENGTH;
-    }
-    if EVERY_NODE < on(own) {
-        return numbers::DAMAGED;
+    let number = ends_number(records.len(), own);
+    if number != 0 {
+        return number;
     }
     if is_damaged(records, node) {
         numbers::DAMAGED

@@ -1,14 +1,10 @@
 // What the pool takes part in: a send of what is due, and a drop.
 ghost use mathlib.Core.Path.{_≡_};
-ghost use mathlib.Core.Bool.{false};
-ghost use mathlib.Core.List.{List};
-ghost use lib.ListN.{length, take};
-ghost use Rattle.coordinator.specs.System.{tree};
-ghost use Rattle.due.specs.Due.{dueWritten, dueBuffer};
-ghost use Rattle.pool.specs.Pool.{check};
-ghost use Rattle.station.specs.Buffers.{recordIn, recordDamaged, lower, sending, sendTold, sendPool, dropping, dropTold, dropPool};
+ghost use lib.ListN.{length};
+ghost use Rattle.station.specs.OnBytes.{owedAt, owedInto};
+ghost use Rattle.station.specs.Buffers.{lower, sending, sendTold, sendPool, dropping, dropTold, dropPool};
 use crate::Answer;
-use crate::calls::host_number;
+use crate::calls::ends_number;
 use crate::common::on;
 use crate::common::refused;
 use crate::common::when_off;
@@ -28,12 +24,11 @@ pub(crate) fn lower(m: u8, n: u8) -> u8
     if m < n { m } else { n }
 }
 
-// Writes what is due where the node's record stands; for what is no node, what a blank record owes.
+// Writes what is due where the node's record stands, 2 where that is damaged; for what is no node, what a blank record owes.
 fn write_at(records: &[u8], node: u8, to: u8, object: u8, out: &mut [u8]) -> Written
-    requires { ⌜ (length (now records) ≡ 3913) × (recordDamaged (now records) node ≡ false) ⌝ }
-    requires { ⌜ length (now out) ≡ 128 ⌝ }
-    ensures { λ r. ⌜ r ≡ dueWritten tree 128 (recordIn (now (records .entry)) node) node to object ⌝ }
-    ensures { λ r. ⌜ now (out .exit) ≡ dueBuffer tree (recordIn (now (records .entry)) node) node to object (now (out .entry)) ⌝ }
+    requires { ⌜ (length (now records) ≡ 3913) × (length (now out) ≡ 128) ⌝ }
+    ensures { λ r. ⌜ r ≡ owedAt (now (records .entry)) node to object ⌝ }
+    ensures { λ r. ⌜ now (out .exit) ≡ owedInto (now (records .entry)) node to object (now (out .entry)) ⌝ }
 {
     if node < 13 {
         let start = record::SIZE * wide(node);
@@ -49,12 +44,15 @@ pub fn send(records: &[u8], pool: &mut [u8], own: &[u8], node: u8, to: u8, objec
     ensures { λ r. ⌜ r ≡ sendTold (sending (now (records .entry)) (now (pool .entry)) (now (own .entry))) node to object ⌝ }
     ensures { λ r. ⌜ now (pool .exit) ≡ sendPool (sending (now (records .entry)) (now (pool .entry)) (now (own .entry))) node to object ⌝ }
 {
-    let number = lower(host_number(records, own, node), pool::check(pool));
+    let number = lower(ends_number(records.len(), own), pool::check(pool));
     if number != 0 {
         return refused(number);
     }
     let mut b = [0u8; 128];
     let w = write_at(records, node, to, object, &mut b);
+    if w.number == numbers::DAMAGED {
+        return refused(numbers::DAMAGED);
+    }
     if !mask::has(on(own), node) {
         return refused(when_off(w.number));
     }

@@ -1,4 +1,4 @@
--- `station::pools::write_at`: what is due from the node's part, which is a record; from a blank one for what is no node.
+-- `station::pools::write_at`: what is due from the node's part; from a blank record for what is no node.
 use mathlib.Core.Path.{_≡_, ap, ap₂, _∙_}
 use mathlib.Core.List.{List}
 use Prim.Native.Nat.{ℕ, _+_, _-_, _*_}
@@ -11,7 +11,8 @@ use Rattle.coordinator.specs.System.{tree}
 use Rattle.due.specs.Due.{dueWritten, dueBuffer}
 use Rattle.record.specs.Call.{recordDue, recordDueBuffer}
 use Rattle.parts.specs.Parts.{part}
-use Rattle.station.specs.Buffers.{recordAt, recordIn}
+use Rattle.station.specs.Buffers.{recordAt, recordIn, recordDamaged}
+use Rattle.station.specs.OnBytes.{owedAt, owedInto}
 use Rattle.station.proofs.Sending.{due-here, put-here}
 use borrow.Author.Needs.{needs}
 use Rattle.station.proofs.pools.write_at.Statement.{statement}
@@ -60,16 +61,16 @@ returns c =
     let h = b .before .if1 .taken in
     let r = c .before .before .write-due .ensures in (
       r .0 ∙ ap (λ (l : List ℕ). recordDue l (x .node) (x .to) (x .object) (length (now (x .out)))) s
-          ∙ due-here R (x .node) (x .to) (x .object) h (q .0 .1) (length (now (x .out))) (q .1),
+          ∙ due-here R (x .node) (x .to) (x .object) h (q .0) (length (now (x .out))) (q .1),
       r .1 ∙ ap (λ (l : List ℕ). recordDueBuffer l (x .node) (x .to) (x .object) (now (x .out))) s
-          ∙ put-here R (x .node) (x .to) (x .object) h (q .0 .1) (now (x .out)) (q .1),
+          ∙ put-here R (x .node) (x .to) (x .object) h (q .0) (now (x .out)) (q .1),
     )
 
 same-length-2 : tie.Need-same-length-2
 same-length-2 c = search needs
 
 returns-2 : tie.Need-returns-2
-unfolding recordIn
+unfolding recordIn recordDamaged owedAt owedInto
 returns-2 c =
     let b = c .before .before .before .before in
     let x = b .before .before .before .before .args in
