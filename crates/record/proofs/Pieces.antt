@@ -13,7 +13,7 @@ use Rattle.wire.proofs.RoundTrip.{length-together}
 use Rattle.coordinator.specs.declared.Object.{Object}
 use Rattle.coordinator.specs.declared.Coordinator.{Coordinator}
 use Rattle.coordinator.specs.Calls.{withObjects, withPhase}
-use Rattle.record.specs.Record.{frontOf, quorumOf, votesOf, objectBytes, bytesOf}
+use Rattle.record.specs.Record.{frontOf, quorumOf, votesOf, objectBytes, frontBytes, quorumBytes, voteBytes, bytesOf}
 use Rattle.record.proofs.Stores.{length-object, length-front, length-quorum, length-votes}
 
 -- ---- bytes stored over a list of two parts: over the first, within it, behind it
@@ -60,6 +60,30 @@ item-over enc size len (y ∷ xs) (suc p) x h =
     past (enc y) (together enc xs) (enc x) (size * p) size (size * suc p) (len y) z ∙ ap (_++_ (enc y)) (item-over enc size len xs p x (omega arith))
 
 -- ---- the pieces of a record
+-- the same transaction with another front
+abbrev pub withFront : Coordinator → ℕ → ℕ → ℕ → ℕ → ℕ → Coordinator
+withFront c serial timestamp outcome phase live =
+    record {
+      serial = serial;
+      timestamp = timestamp;
+      outcome = outcome;
+      phase = phase;
+      live = live;
+      distances = c .distances;
+      quorum = c .quorum;
+      contacted = c .contacted;
+      count = c .count;
+      objects = c .objects;
+      participants = c .participants;
+      yes = c .yes;
+      done = c .done;
+      rivals = c .rivals;
+    }
+
+-- the bytes from the objects on
+abbrev pub tailBytes : Coordinator → List ℕ
+tailBytes c = together objectBytes (c .objects) ++ (voteBytes c ++ together (le 4) (c .rivals))
+
 module _ (c : Coordinator) (d13 : length (c .distances) ≡ 13) (o8 : length (c .objects) ≡ 8) (r13 : length (c .rivals) ≡ 13) where
   abbrev F : List ℕ
   F = frontOf (c .serial) (c .timestamp) (c .outcome) (c .phase) (c .live)
@@ -120,6 +144,30 @@ module _ (c : Coordinator) (d13 : length (c .distances) ≡ 13) (o8 : length (c 
       ∙ ap (λ (l : List ℕ). l ++ rest)
       (past (le 4 (c .serial)) (le 4 (c .timestamp) ++ t8) v 4 4 8 (length-le 4 (c .serial)) refl
       ∙ ap (_++_ (le 4 (c .serial))) (past (le 4 (c .timestamp)) t8 v 0 4 4 (length-le 4 (c .timestamp)) refl))
+
+  -- the front
+  pub front-changed : (serial timestamp outcome phase live : ℕ)
+      → sets (bytesOf c) 0 (frontOf serial timestamp outcome phase live) ≡ bytesOf (withFront c serial timestamp outcome phase live)
+  unfolding bytesOf
+  front-changed serial timestamp outcome phase live =
+      let v : List ℕ = frontOf serial timestamp outcome phase live in
+      over F (D ++ (Q ++ (O ++ (W ++ R)))) v 12 (length-front c) (length-front (withFront c serial timestamp outcome phase live))
+
+  -- the distances and the quorum, to those of a record with the same front and the same bytes behind
+  pub nodes-changed : (d : Coordinator) → length (d .distances) ≡ 13 → frontBytes c ≡ frontBytes d → tailBytes c ≡ tailBytes d
+      → sets (sets (bytesOf c) 12 (together (le 2) (d .distances))) 38 (quorumBytes d) ≡ bytesOf d
+  unfolding bytesOf
+  nodes-changed d n e f =
+      let v : List ℕ = together (le 2) (d .distances) in
+      let m : length v ≡ 26 = omega (arith, length-together (le 2) 2 (length-le 2) (d .distances)) in
+      let rest : List ℕ = Q ++ (O ++ (W ++ R)) in
+      ap (λ (l : List ℕ). sets l 38 (quorumBytes d)) (past-front v 0 12 refl ∙ ap (_++_ F) (over D rest v 26 D26 m))
+      ∙ past F (v ++ rest) (quorumBytes d) 26 12 38 (length-front c) refl
+      ∙ ap (_++_ F)
+      (past v rest (quorumBytes d) 0 26 26 m refl
+      ∙ ap (_++_ v) (over Q (O ++ (W ++ R)) (quorumBytes d) 5 (length-quorum c) (length-quorum d)))
+      ∙ ap (λ (l : List ℕ). l ++ (v ++ (quorumBytes d ++ (O ++ (W ++ R))))) e
+      ∙ ap (λ (l : List ℕ). frontBytes d ++ (v ++ (quorumBytes d ++ l))) f
 
   pub quorum-changed : (contacted count : ℕ)
       → sets (bytesOf c) 38 (quorumOf (c .quorum) contacted count) ≡ bytesOf (withObjects c contacted count (c .objects))

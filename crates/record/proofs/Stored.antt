@@ -15,17 +15,20 @@ use Rattle.wire.specs.Decode.{fromOf, rivalCount}
 use Rattle.mask.specs.Mask.{only, joined, within}
 use Rattle.coordinator.specs.declared.Object.{Object}
 use Rattle.coordinator.specs.declared.Coordinator.{Coordinator}
-use Rattle.coordinator.specs.State.{openPhase, placeOf, objectAt, isOpen, ready}
-use Rattle.coordinator.specs.Calls.{withObjects, withPhase, fresh, opened, requested}
+use Rattle.coordinator.specs.declared.BeginWith.{BeginWith}
+use Rattle.coordinator.specs.State.{openPhase, idleAfter, placeOf, objectAt, isOpen, ready}
+use Rattle.coordinator.specs.Calls.{begun, withObjects, withPhase, fresh, opened, requested}
 use Rattle.arrivals.specs.Receive.{answers, copyFits, raiseFrom, withYes}
 use Rattle.coordinator.specs.System.{tree}
 use Rattle.wire.specs.Items.{entryOf}
-use Rattle.record.specs.Record.{quorumOf, objectBytes, recordOf, bytesOf, check}
+use Rattle.clauses.proofs.Laws.{idle-blank}
+use Rattle.record.specs.Record.{frontOf, quorumOf, objectBytes, recordOf, bytesOf, check}
 use Rattle.record.specs.Call.{called, toldBy, kept}
 use Rattle.record.specs.Change.{withRivals, yesTaken}
 use Rattle.record.proofs.OnBytes.{checked-length}
 use Rattle.record.proofs.Kept.{checked-meets, same-bytes}
-use Rattle.record.proofs.Pieces.{quorum-changed, object-changed, turned, participants-put, yes-put, done-put, rivals-changed}
+use Rattle.record.proofs.Pieces.{withFront, tailBytes, front-changed, nodes-changed, quorum-changed, object-changed, turned}
+use Rattle.record.proofs.Pieces.{participants-put, yes-put, done-put, rivals-changed}
 
 -- what the deeds ask of the bytes that they read
 pub readable : (l : List ℕ) → check l ≡ 0 → (length l ≡ 301) × (recordOf l .count ≤ 8)
@@ -63,6 +66,23 @@ copied-open c m e =
 module _ (l : List ℕ) (b : Bytes l) (e : check l ≡ 0) where
   abbrev c : Coordinator
   c = recordOf l
+
+  -- a transaction begun: an idle record is blank from the objects on, as one that begins
+  pub begun-stored : (w : BeginWith) (q : ℕ) → recordOf l .phase ≡ 0 → length (w .distances) ≡ 13
+      → sets
+      (sets (sets l 0 (frontOf (recordOf l .serial + 1) (w .timestamp) (recordOf l .outcome) 1 (w .live))) 12 (together (le 2) (w .distances))) 38
+      (quorumOf q 0 0) ≡ bytesOf (begun (recordOf l) w q)
+  unfolding begun idleAfter
+  begun-stored w q idle n =
+      let m = checked-meets l e in
+      let z = m .sizes in
+      let d : Coordinator = withFront c (c .serial + 1) (w .timestamp) (c .outcome) 1 (w .live) in
+      ap (λ (k : List ℕ).
+      sets (sets (sets k 0 (frontOf (c .serial + 1) (w .timestamp) (c .outcome) 1 (w .live))) 12 (together (le 2) (w .distances))) 38 (quorumOf q 0 0))
+      (sym (same-bytes l b e))
+      ∙ ap (λ (k : List ℕ). sets (sets k 12 (together (le 2) (w .distances))) 38 (quorumOf q 0 0))
+      (front-changed c (z .distances-13) (z .objects-8) (z .rivals-13) (c .serial + 1) (w .timestamp) (c .outcome) 1 (w .live))
+      ∙ nodes-changed d (z .distances-13) (z .objects-8) (z .rivals-13) (begun c w q) n refl (ap tailBytes (idle-blank tree c m idle))
 
   -- another object at a place
   pub object-stored : (p : ℕ) (x : Object) → p < 8

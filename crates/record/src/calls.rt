@@ -54,8 +54,7 @@ pub fn begin(bytes: &mut [u8], me: u8, w: BeginWith) -> Called
     if number != 0 {
         return failed(number);
     }
-    let s = coordinator::begin(read(bytes), me, w);
-    keep(bytes, s)
+    deeds::begin(&mut bytes[..SIZE], me, w)
 }
 
 // Opens an object, to read it or to write it. Ruled out: a read opened as a write; a byte of another object altered.

@@ -5,7 +5,8 @@ ghost use lib.ListN.{length};
 ghost use Rattle.numbers.specs.Refusal.{firstOf};
 ghost use Rattle.coordinator.specs.System.{tree};
 ghost use Rattle.coordinator.specs.State.{objectAt};
-ghost use Rattle.coordinator.specs.Calls.{openRefusals, openOf, setRefusals, setOf, foundRefusals, foundOf, requestCommitOf, abortRefusals, abortOf};
+ghost use Rattle.coordinator.specs.Calls.{beginRefusals, beginOf, openRefusals, openOf, setRefusals, setOf, foundRefusals, foundOf};
+ghost use Rattle.coordinator.specs.Calls.{requestCommitOf, abortRefusals, abortOf};
 ghost use Rattle.record.specs.Record.{recordOf, check};
 ghost use Rattle.record.specs.Call.{called, toldBy, kept};
 use crate::CONTACTED;
@@ -15,6 +16,8 @@ use crate::OBJECTS_PLACE;
 use crate::OUTCOME;
 use crate::PARTICIPANTS;
 use crate::QUORUM;
+use crate::SERIAL;
+use crate::TIMESTAMP;
 use crate::arrive::end_aborted;
 use crate::arrive::turn;
 use crate::load::read;
@@ -22,17 +25,27 @@ use crate::look::count;
 use crate::look::object_at;
 use crate::look::phase;
 use crate::look::place;
+use crate::store::put_distances;
+use crate::store::put_front;
 use crate::store::put_object;
 use crate::store::put_quorum;
+use crate::verify::EVERY_NODE;
+use coordinator::BeginWith;
 use coordinator::IDLE;
 use coordinator::OBJECTS;
 use coordinator::OPEN;
 use coordinator::Object;
 use coordinator::VOTING;
+use coordinator::is_none;
+use coordinator::mask_of;
 use numbers::either;
 use numbers::refuse;
+use quorum::Choice;
+use quorum::Kind;
 
 const OBJECTS_END: u8 = 64;
+
+const HIGHEST: u32 = 4294967295;
 
 // A call that is refused, and one that is taken.
 pub(crate) fn refused(number: u8) -> Called
@@ -45,6 +58,51 @@ pub(crate) fn taken(answer: u64) -> Called
     ensures { λ r. ⌜ r ≡ called 0 answer ⌝ }
 {
     Called { number: 0, answer }
+}
+
+// A mask as an answer.
+fn wide(m: u16) -> u64
+    ensures { λ r. ⌜ r ≡ m ⌝ }
+{
+    m as u64
+}
+
+// The number of a begin.
+fn begin_number(bytes: &[u8], me: u8, w: BeginWith, chosen: Choice) -> u8
+    ensures { λ r. ⌜ r ≡ firstOf (beginRefusals (recordOf (now (bytes .entry))) me w chosen) ⌝ }
+{
+    let serial = octets::get_u32(bytes, SERIAL);
+    let timestamp = octets::get_u32(bytes, TIMESTAMP);
+    let used_up = refuse(numbers::USED_UP, !(serial < HIGHEST), 0);
+    let no_quorum = refuse(numbers::NO_QUORUM, is_none(chosen), used_up);
+    let early = refuse(numbers::OUT_OF_TURN, w.timestamp <= timestamp, no_quorum);
+    let busy = refuse(numbers::BUSY, phase(bytes) != IDLE, early);
+    refuse(
+        numbers::STRANGER,
+        either(!(me < 13), EVERY_NODE < w.live),
+        busy,
+    )
+}
+
+// Begins a transaction: an idle record is blank behind the front, so only the front, the distances and the quorum change.
+pub(crate) fn begin(bytes: &mut [u8], me: u8, w: BeginWith) -> Called
+    requires { ⌜ check (now bytes) ≡ 0 ⌝ }
+    ensures { λ r. ⌜ r ≡ toldBy (beginOf tree (recordOf (now (bytes .entry))) me w) ⌝ }
+    ensures { λ r. ⌜ now (bytes .exit) ≡ kept (beginOf tree (recordOf (now (bytes .entry))) me w) (now (bytes .entry)) ⌝ }
+{
+    let distances = w.distances;
+    let chosen = quorum::nearest(Kind::Read, w.live, &distances);
+    let number = begin_number(bytes, me, w, chosen);
+    if number != 0 {
+        return refused(number);
+    }
+    let quorum = mask_of(chosen);
+    let serial = octets::get_u32(bytes, SERIAL) + 1;
+    let outcome = octets::get_u8(bytes, OUTCOME);
+    put_front(bytes, serial, w.timestamp, outcome, OPEN, w.live);
+    put_distances(bytes, distances);
+    put_quorum(bytes, quorum, 0, 0);
+    taken(wide(quorum))
 }
 
 // An opened object; a blank one for an object that is not open.

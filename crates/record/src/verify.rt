@@ -42,7 +42,7 @@ use numbers::both;
 use numbers::either;
 use quorum::Kind;
 
-const EVERY_NODE: u16 = 8191;
+pub(crate) const EVERY_NODE: u16 = 8191;
 
 const OBJECTS_END: u8 = 64;
 

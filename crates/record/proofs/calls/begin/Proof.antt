@@ -1,10 +1,10 @@
--- `record::calls::begin`: refused bytes, or the call by value.
-use mathlib.Core.Path.{sym, ap, _∙_}
+-- `record::calls::begin`: refused bytes, or the call on all of them.
+use mathlib.Core.Path.{sym, _∙_}
 use denote.Ref.{now}
 use Rattle.coordinator.specs.declared.Coordinator.{Coordinator}
 use Rattle.coordinator.specs.System.{tree}
 use Rattle.coordinator.specs.Calls.{beginOf}
-use Rattle.record.proofs.OnBytes.{checked-length, refused-called, refused-record, taken-called, taken-record}
+use Rattle.record.proofs.OnBytes.{refused-called, refused-record, part-long, part-count, part-checked, part-called, part-record}
 use borrow.Author.Needs.{needs}
 use Rattle.record.proofs.calls.begin.Statement.{statement}
 use Rattle.record.proofs.calls.begin.Tie as tie
@@ -27,30 +27,26 @@ returns c =
       refused-record (λ (c : Coordinator). beginOf tree c (x .me) (x .w)) (now (x .bytes)) _ e h,
     )
 
-read-requires : tie.Need-read-requires
-read-requires c κs = search needs
+slice-relend-prefix-begin : tie.Need-slice-relend-prefix-begin
+slice-relend-prefix-begin c = part-long _ (sym (c .before .check .ensures) ∙ c .if1 .left)
+
+slice-aggregate-begin : tie.Need-slice-aggregate-begin
+slice-aggregate-begin c = part-count _ (sym (c .before .before .check .ensures) ∙ c .before .if1 .left)
 
 begin-requires : tie.Need-begin-requires
-begin-requires c κs = search needs
-
-keep-requires : tie.Need-keep-requires
-keep-requires c κs =
-    let b8 = c .before .before .before .before .before .before .before .before in
-    checked-length (now (b8 .args .bytes)) (sym (c .before .before .before .before .before .check .ensures) ∙ c .before .before .before .before .if1 .left)
+begin-requires c κs = part-checked _ (sym (c .before .before .check .ensures) ∙ c .before .if1 .left)
 
 same-length-2 : tie.Need-same-length-2
 same-length-2 c = search needs
 
 returns-2 : tie.Need-returns-2
 returns-2 c =
-    let b8 = c .before .before .before .before .before .before .before .before in
-    let x = b8 .before .before .before .args in
-    let e = sym (b8 .check .ensures) ∙ c .before .before .before .before .before .before .before .if1 .left in
-    let s = c .before .before .before .before .begin .ensures
-    ∙ ap (λ (c : Coordinator). beginOf tree c (x .me) (x .w)) (c .before .before .before .before .before .read .ensures) in
-    let w = c .before .before .keep .ensures in (
-      w .0 ∙ taken-called (λ (c : Coordinator). beginOf tree c (x .me) (x .w)) (now (x .bytes)) e _ s,
-      w .1 ∙ taken-record (λ (c : Coordinator). beginOf tree c (x .me) (x .w)) (now (x .bytes)) e _ s,
+    let x = c .before .before .before .before .before .before .before .before .args in
+    let l = now (x .bytes) in
+    let e = sym (c .before .before .before .before .before .check .ensures) ∙ c .before .before .before .before .if1 .left in
+    let w = c .before .before .begin .ensures in (
+      part-called l e (λ (c : Coordinator). beginOf tree c (x .me) (x .w)) _ (w .0),
+      part-record l e (λ (c : Coordinator). beginOf tree c (x .me) (x .w)) _ (w .1),
     )
 
 pub begin-spec : {M : Type 1} → statement M
@@ -61,8 +57,8 @@ begin-spec =
     failed-requires
     same-length
     returns
-    read-requires
+    slice-relend-prefix-begin
+    slice-aggregate-begin
     begin-requires
-    keep-requires
     same-length-2
     returns-2)
