@@ -42,11 +42,11 @@ module _ (f : Coordinator → Step) (l : List ℕ) where
   unfolding recordAfter
   refused-record n e h = let t : eqb (check l) 0 ≡ false = ne-eqb (check l) 0 (λ z. h (e ∙ z)) in simp t
 
-  pub taken-called : check l ≡ 0 → (s : Step) → s ≡ f (recordOf l) → called (s .number) (s .answer) ≡ calledOf f l
+  taken-called : check l ≡ 0 → (s : Step) → s ≡ f (recordOf l) → called (s .number) (s .answer) ≡ calledOf f l
   unfolding calledOf
   taken-called e s p = simp (eq-eqb (check l) 0 e) (ap (λ (x : Step). called (x .number) (x .answer)) p)
 
-  pub taken-record : check l ≡ 0 → (s : Step) → s ≡ f (recordOf l) → kept s l ≡ recordAfter f l
+  taken-record : check l ≡ 0 → (s : Step) → s ≡ f (recordOf l) → kept s l ≡ recordAfter f l
   unfolding recordAfter
   taken-record e s p = simp (eq-eqb (check l) 0 e) (ap (λ (x : Step). kept x l) p)
 

@@ -153,6 +153,23 @@ module _ (c : Coordinator) (d13 : length (c .distances) ≡ 13) (o8 : length (c 
       let v : List ℕ = frontOf serial timestamp outcome phase live in
       over F (D ++ (Q ++ (O ++ (W ++ R)))) v 12 (length-front c) (length-front (withFront c serial timestamp outcome phase live))
 
+  -- the live nodes alone
+  pub live-put : (v : ℕ) → put 2 (bytesOf c) 10 v ≡ bytesOf (withFront c (c .serial) (c .timestamp) (c .outcome) (c .phase) v)
+  unfolding bytesOf frontOf
+  live-put v =
+      let rest : List ℕ = D ++ (Q ++ (O ++ (W ++ R))) in
+      let t10 : List ℕ = c .outcome ∷ c .phase ∷ [] in
+      let t8 : List ℕ = t10 ++ le 2 (c .live) in
+      put-le 2 (bytesOf c) 10 v
+      ∙ within-first (le 2 v) F rest 10 (omega (arith, length-front c, length-le 2 v))
+      ∙ ap (λ (l : List ℕ). l ++ rest)
+      (past (le 4 (c .serial)) (le 4 (c .timestamp) ++ t8) (le 2 v) 6 4 10 (length-le 4 (c .serial)) refl
+      ∙ ap (_++_ (le 4 (c .serial)))
+      (past (le 4 (c .timestamp)) t8 (le 2 v) 2 4 6 (length-le 4 (c .timestamp)) refl
+      ∙ ap (_++_ (le 4 (c .timestamp)))
+      (past t10 (le 2 (c .live)) (le 2 v) 0 2 2 refl refl
+      ∙ ap (_++_ t10) (all-over (le 2 (c .live)) (le 2 v) 2 (length-le 2 (c .live)) (length-le 2 v)))))
+
   -- the distances and the quorum, to those of a record with the same front and the same bytes behind
   pub nodes-changed : (d : Coordinator) → length (d .distances) ≡ 13 → frontBytes c ≡ frontBytes d → tailBytes c ≡ tailBytes d
       → sets (sets (bytesOf c) 12 (together (le 2) (d .distances))) 38 (quorumBytes d) ≡ bytesOf d

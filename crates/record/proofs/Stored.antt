@@ -1,6 +1,6 @@
 -- What the deeds leave: bytes that are a record are the bytes of that record, so a piece stored over them gives the bytes of the record changed.
 use mathlib.Core.Path.{_≡_, refl, sym, ap, _∙_}
-use mathlib.Core.Bool.{Bool, true, false, not, _&&_, _||_}
+use mathlib.Core.Bool.{Bool, true, false, cond, not, _&&_, _||_}
 use mathlib.Core.List.{List}
 use Prim.Native.Nat.{ℕ, zero, suc, _+_, _*_, _≤_, _<_}
 use native.Mathlib.Omega.{arith}
@@ -17,7 +17,7 @@ use Rattle.coordinator.specs.declared.Object.{Object}
 use Rattle.coordinator.specs.declared.Coordinator.{Coordinator}
 use Rattle.coordinator.specs.declared.BeginWith.{BeginWith}
 use Rattle.coordinator.specs.State.{openPhase, idleAfter, placeOf, objectAt, isOpen, ready}
-use Rattle.coordinator.specs.Calls.{begun, withObjects, withPhase, fresh, opened, requested}
+use Rattle.coordinator.specs.Calls.{begun, withObjects, withPhase, fresh, opened, reselected, requested}
 use Rattle.arrivals.specs.Receive.{answers, copyFits, raiseFrom, withYes}
 use Rattle.coordinator.specs.System.{tree}
 use Rattle.wire.specs.Items.{entryOf}
@@ -27,7 +27,7 @@ use Rattle.record.specs.Call.{called, toldBy, kept}
 use Rattle.record.specs.Change.{withRivals, yesTaken}
 use Rattle.record.proofs.OnBytes.{checked-length}
 use Rattle.record.proofs.Kept.{checked-meets, same-bytes}
-use Rattle.record.proofs.Pieces.{withFront, tailBytes, front-changed, nodes-changed, quorum-changed, object-changed, turned}
+use Rattle.record.proofs.Pieces.{withFront, tailBytes, front-changed, live-put, nodes-changed, quorum-changed, object-changed, turned}
 use Rattle.record.proofs.Pieces.{participants-put, yes-put, done-put, rivals-changed}
 
 -- what the deeds ask of the bytes that they read
@@ -106,6 +106,21 @@ module _ (l : List ℕ) (b : Bytes l) (e : check l ≡ 0) where
       ∙ ap (λ (m : List ℕ). sets m (43 + 25 * c .count) (objectBytes (fresh object mode))) (quorum-changed c (z .distances-13) (z .objects-8)
       (z .rivals-13) k n)
       ∙ object-changed d (z .distances-13) (z .objects-8) (z .rivals-13) (c .count) (fresh object mode) h
+
+  -- a fresh live mask and distances
+  pub reselected-stored : (live : ℕ) (distances : List ℕ) (q : ℕ) → length distances ≡ 13
+      → sets (sets (put 2 l 10 live) 12 (together (le 2) distances)) 38
+      (quorumOf q (cond (eqb (recordOf l .count) 0) (recordOf l .contacted) (joined (recordOf l .contacted) q)) (recordOf l .count))
+      ≡ bytesOf (reselected (recordOf l) live distances q)
+  unfolding reselected
+  reselected-stored live distances q n =
+      let z = checked-meets l e .sizes in
+      let k : ℕ = cond (eqb (c .count) 0) (c .contacted) (joined (c .contacted) q) in
+      let d : Coordinator = withFront c (c .serial) (c .timestamp) (c .outcome) (c .phase) live in
+      ap (λ (m : List ℕ). sets (sets (put 2 m 10 live) 12 (together (le 2) distances)) 38 (quorumOf q k (c .count))) (sym (same-bytes l b e))
+      ∙ ap (λ (m : List ℕ). sets (sets m 12 (together (le 2) distances)) 38 (quorumOf q k (c .count)))
+      (live-put c (z .distances-13) (z .objects-8) (z .rivals-13) live)
+      ∙ nodes-changed d (z .distances-13) (z .objects-8) (z .rivals-13) (reselected c live distances q) n refl refl
 
   -- outcome and phase; who said done; the rivals
   pub turned-stored : (outcome phase : ℕ)

@@ -1,23 +1,20 @@
-// Each call on a record as bytes: 1 and 2 of the bytes first, else what the call by value gives.
+// Each call on a record as bytes: 1 and 2 of the bytes first, else the deed on them.
 ghost use mathlib.Core.Path.{_≡_};
 ghost use lib.ListN.{length};
 ghost use Rattle.coordinator.specs.declared.Coordinator.{Coordinator};
 ghost use Rattle.coordinator.specs.System.{tree};
 ghost use Rattle.coordinator.specs.Calls.{beginOf, openOf, setOf, foundOf, reselectOf, requestCommitOf, abortOf};
 ghost use Rattle.arrivals.specs.Receive.{receiveOf};
-ghost use Rattle.record.specs.Call.{called, calledOf, kept, recordAfter, receivedOf, recordDue, recordDueBuffer};
+ghost use Rattle.record.specs.Call.{called, calledOf, recordAfter, receivedOf, recordDue, recordDueBuffer};
 use crate::Called;
 use crate::SIZE;
 use crate::arrive;
 use crate::deeds;
 use crate::deeds::open;
 use crate::duties;
-use crate::load::read;
-use crate::store::write;
 use crate::verify::check;
 use coordinator::BeginWith;
 use coordinator::NODES;
-use coordinator::Step;
 use numbers::either;
 use numbers::refuse;
 use wire::Written;
@@ -27,22 +24,6 @@ fn failed(number: u8) -> Called
     ensures { λ r. ⌜ r ≡ called number 0 ⌝ }
 {
     Called { number, answer: 0 }
-}
-
-// The record of a step written back where its number is 0.
-fn keep(bytes: &mut [u8], s: Step) -> Called
-    requires { ⌜ length (now bytes) ≡ 301 ⌝ }
-    ensures { λ r. ⌜ r ≡ called (s .number) (s .answer) ⌝ }
-    ensures { λ r. ⌜ now (bytes .exit) ≡ kept s (now (bytes .entry)) ⌝ }
-{
-    if s.number == 0 {
-        let c = s.coordinator;
-        write(bytes, c);
-    }
-    Called {
-        number: s.number,
-        answer: s.answer,
-    }
 }
 
 // Begins a transaction; answers the chosen read quorum. Ruled out: the record written back at a refusal; a serial that does not rise.
@@ -114,8 +95,7 @@ pub fn reselect(bytes: &mut [u8], me: u8, live: u16, distances: [u16; NODES]) ->
     if number != 0 {
         return failed(number);
     }
-    let s = coordinator::reselect(read(bytes), me, live, distances);
-    keep(bytes, s)
+    deeds::reselect(&mut bytes[..SIZE], me, live, distances)
 }
 
 // Asks for votes; answers the participants. Ruled out: 8 before 11; a phase that stays open.

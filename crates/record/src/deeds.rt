@@ -1,16 +1,20 @@
 // The host's calls on the bytes of a record: each finds its number, and changes the pieces of the record that it must.
 ghost use mathlib.Core.Path.{_≡_};
+ghost use mathlib.Core.Bool.{cond};
 ghost use Prim.Native.Nat.{_≤_};
+ghost use lib.Dec.{eqb};
 ghost use lib.ListN.{length};
+ghost use Rattle.mask.specs.Mask.{joined};
 ghost use Rattle.numbers.specs.Refusal.{firstOf};
 ghost use Rattle.coordinator.specs.System.{tree};
 ghost use Rattle.coordinator.specs.State.{objectAt};
 ghost use Rattle.coordinator.specs.Calls.{beginRefusals, beginOf, openRefusals, openOf, setRefusals, setOf, foundRefusals, foundOf};
-ghost use Rattle.coordinator.specs.Calls.{requestCommitOf, abortRefusals, abortOf};
+ghost use Rattle.coordinator.specs.Calls.{reselectRefusals, reselectOf, requestCommitOf, abortRefusals, abortOf};
 ghost use Rattle.record.specs.Record.{recordOf, check};
 ghost use Rattle.record.specs.Call.{called, toldBy, kept};
 use crate::CONTACTED;
 use crate::Called;
+use crate::LIVE;
 use crate::OBJECT_SIZE;
 use crate::OBJECTS_PLACE;
 use crate::OUTCOME;
@@ -32,6 +36,7 @@ use crate::store::put_quorum;
 use crate::verify::EVERY_NODE;
 use coordinator::BeginWith;
 use coordinator::IDLE;
+use coordinator::NODES;
 use coordinator::OBJECTS;
 use coordinator::OPEN;
 use coordinator::Object;
@@ -210,6 +215,50 @@ pub(crate) fn found(bytes: &[u8], me: u8, object: u8) -> Called
     }
     let x = object_named(bytes, object);
     taken(x.value)
+}
+
+// The number of a reselect.
+fn reselect_number(bytes: &[u8], me: u8, live: u16, chosen: Choice) -> u8
+    ensures { λ r. ⌜ r ≡ firstOf (reselectRefusals (recordOf (now (bytes .entry))) me live chosen) ⌝ }
+{
+    let no_quorum = refuse(numbers::NO_QUORUM, is_none(chosen), 0);
+    let turn = refuse(numbers::OUT_OF_TURN, phase(bytes) != OPEN, no_quorum);
+    refuse(
+        numbers::STRANGER,
+        either(!(me < 13), EVERY_NODE < live),
+        turn,
+    )
+}
+
+// The contacted nodes after a reselect: the new quorum joins if some object is open already.
+fn contacted_after(count: usize, contacted: u16, quorum: u16) -> u16
+    ensures { λ r. ⌜ r ≡ cond (eqb count 0) contacted (joined contacted quorum) ⌝ }
+{
+    if count == 0 {
+        contacted
+    } else {
+        mask::join(contacted, quorum)
+    }
+}
+
+// Takes a fresh live mask and distances: they change, and with them the quorum and the contacted nodes.
+pub(crate) fn reselect(bytes: &mut [u8], me: u8, live: u16, distances: [u16; NODES]) -> Called
+    requires { ⌜ check (now bytes) ≡ 0 ⌝ }
+    ensures { λ r. ⌜ r ≡ toldBy (reselectOf tree (recordOf (now (bytes .entry))) me live distances) ⌝ }
+    ensures { λ r. ⌜ now (bytes .exit) ≡ kept (reselectOf tree (recordOf (now (bytes .entry))) me live distances) (now (bytes .entry)) ⌝ }
+{
+    let chosen = quorum::nearest(Kind::Read, live, &distances);
+    let number = reselect_number(bytes, me, live, chosen);
+    if number != 0 {
+        return refused(number);
+    }
+    let quorum = mask_of(chosen);
+    let n = count(bytes);
+    let contacted = contacted_after(n, octets::get_u16(bytes, CONTACTED), quorum);
+    octets::put_u16(bytes, LIVE, live);
+    put_distances(bytes, distances);
+    put_quorum(bytes, quorum, contacted, n);
+    taken(wide(quorum))
 }
 
 // Asks for votes: the call by value decides, and the phase and the participants alone change.

@@ -1,10 +1,10 @@
--- `record::calls::reselect`: refused bytes, or the call by value.
-use mathlib.Core.Path.{sym, ap, _∙_}
+-- `record::calls::reselect`: refused bytes, or the call on all of them.
+use mathlib.Core.Path.{sym, _∙_}
 use denote.Ref.{now}
 use Rattle.coordinator.specs.declared.Coordinator.{Coordinator}
 use Rattle.coordinator.specs.System.{tree}
 use Rattle.coordinator.specs.Calls.{reselectOf}
-use Rattle.record.proofs.OnBytes.{checked-length, refused-called, refused-record, taken-called, taken-record}
+use Rattle.record.proofs.OnBytes.{refused-called, refused-record, part-long, part-count, part-checked, part-called, part-record}
 use borrow.Author.Needs.{needs}
 use Rattle.record.proofs.calls.reselect.Statement.{statement}
 use Rattle.record.proofs.calls.reselect.Tie as tie
@@ -27,30 +27,26 @@ returns c =
       refused-record (λ (c : Coordinator). reselectOf tree c (x .me) (x .live) (x .distances)) (now (x .bytes)) _ e h,
     )
 
-read-requires : tie.Need-read-requires
-read-requires c κs = search needs
+slice-relend-prefix-reselect : tie.Need-slice-relend-prefix-reselect
+slice-relend-prefix-reselect c = part-long _ (sym (c .before .check .ensures) ∙ c .if1 .left)
+
+slice-aggregate-reselect : tie.Need-slice-aggregate-reselect
+slice-aggregate-reselect c = part-count _ (sym (c .before .before .check .ensures) ∙ c .before .if1 .left)
 
 reselect-requires : tie.Need-reselect-requires
-reselect-requires c κs = search needs
-
-keep-requires : tie.Need-keep-requires
-keep-requires c κs =
-    let b8 = c .before .before .before .before .before .before .before .before in
-    checked-length (now (b8 .args .bytes)) (sym (c .before .before .before .before .before .check .ensures) ∙ c .before .before .before .before .if1 .left)
+reselect-requires c κs = part-checked _ (sym (c .before .before .check .ensures) ∙ c .before .if1 .left)
 
 same-length-2 : tie.Need-same-length-2
 same-length-2 c = search needs
 
 returns-2 : tie.Need-returns-2
 returns-2 c =
-    let b8 = c .before .before .before .before .before .before .before .before in
-    let x = b8 .before .before .before .args in
-    let e = sym (b8 .check .ensures) ∙ c .before .before .before .before .before .before .before .if1 .left in
-    let s = c .before .before .before .before .reselect .ensures
-    ∙ ap (λ (c : Coordinator). reselectOf tree c (x .me) (x .live) (x .distances)) (c .before .before .before .before .before .read .ensures) in
-    let w = c .before .before .keep .ensures in (
-      w .0 ∙ taken-called (λ (c : Coordinator). reselectOf tree c (x .me) (x .live) (x .distances)) (now (x .bytes)) e _ s,
-      w .1 ∙ taken-record (λ (c : Coordinator). reselectOf tree c (x .me) (x .live) (x .distances)) (now (x .bytes)) e _ s,
+    let x = c .before .before .before .before .before .before .before .before .args in
+    let l = now (x .bytes) in
+    let e = sym (c .before .before .before .before .before .check .ensures) ∙ c .before .before .before .before .if1 .left in
+    let w = c .before .before .reselect .ensures in (
+      part-called l e (λ (c : Coordinator). reselectOf tree c (x .me) (x .live) (x .distances)) _ (w .0),
+      part-record l e (λ (c : Coordinator). reselectOf tree c (x .me) (x .live) (x .distances)) _ (w .1),
     )
 
 pub reselect-spec : {M : Type 1} → statement M
@@ -61,8 +57,8 @@ reselect-spec =
     failed-requires
     same-length
     returns
-    read-requires
+    slice-relend-prefix-reselect
+    slice-aggregate-reselect
     reselect-requires
-    keep-requires
     same-length-2
     returns-2)
