@@ -146,28 +146,6 @@ module _ (n a : ℕ) (c d : Coordinator) (l : List ℕ) where
   unfolding stepOf kept
   kept-taken e = simp (eq-eqb n 0 e)
 
-  -- the same of a call by value
-  pub step-refused : (s : Step) → s ≡ stepOf n a c d → (s .number ≡ 0 → ⊥)
-      → (called (s .number) 0 ≡ toldBy (stepOf n a c d)) × (l ≡ kept (stepOf n a c d) l)
-  unfolding stepOf kept
-  step-refused s e h = by (eqb n 0) refl
-    where
-      by : (b : Bool) → eqb n 0 ≡ b → (called (s .number) 0 ≡ toldBy (stepOf n a c d)) × (l ≡ kept (stepOf n a c d) l)
-      by true q = absurd (h (ap (λ (x : Step). x .number) e ∙ simp q))
-      by false q = (ap (λ (x : Step). called (x .number) 0) e ∙ simp q, simp (q, q))
-
-  pub step-taken : (s : Step) → s ≡ stepOf n a c d → s .number ≡ 0
-      → (s .coordinator ≡ d) × ((called 0 (s .answer) ≡ toldBy (stepOf n a c d)) × (bytesOf d ≡ kept (stepOf n a c d) l))
-  unfolding stepOf kept
-  step-taken s e h = by (eqb n 0) refl
-    where
-      by : (b : Bool) → eqb n 0 ≡ b
-          → (s .coordinator ≡ d) × ((called 0 (s .answer) ≡ toldBy (stepOf n a c d)) × (bytesOf d ≡ kept (stepOf n a c d) l))
-      by true q = (ap (λ (x : Step). x .coordinator) e ∙ simp q, (ap (λ (x : Step). called 0 (x .answer)) e ∙ simp q, simp q))
-      by false q =
-          let z : stepOf n a c d .number ≡ n = simp q in
-          absurd (eqb-false n 0 q (sym z ∙ sym (ap (λ (x : Step). x .number) e) ∙ h))
-
 -- ---- a call that is handed the 301 bytes as a part: they are all the bytes
 module _ (l : List ℕ) (e : check l ≡ 0) where
   pub all-of : take 301 l ≡ l

@@ -25,8 +25,12 @@ foundIn l i = implies (eqb (objectOf l i .came) 0) (eqb (objectOf l i .version) 
 unfoldable pub openedIn : ℕ → List ℕ → ℕ → Bool
 openedIn contacted l i = leb (getD l (givenAt i) 0) 1 && objectMeets contacted (objectOf l i)
 
+-- a written version that has no next one
+abbrev pub lastWritten : Object → Bool
+lastWritten x = not (eqb (x .mode) 0) && eqb (x .version) highest
+
 unfoldable pub votable : Object → Bool
-votable x = settled tree x && not (not (eqb (x .mode) 0) && eqb (x .version) highest)
+votable x = settled tree x && not (lastWritten x)
 
 -- ---- the places
 abbrev pub placeStart : ℕ → ℕ

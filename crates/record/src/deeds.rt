@@ -9,7 +9,7 @@ ghost use Rattle.numbers.specs.Refusal.{firstOf};
 ghost use Rattle.coordinator.specs.System.{tree};
 ghost use Rattle.coordinator.specs.State.{objectAt};
 ghost use Rattle.coordinator.specs.Calls.{beginRefusals, beginOf, openRefusals, openOf, setRefusals, setOf, foundRefusals, foundOf};
-ghost use Rattle.coordinator.specs.Calls.{reselectRefusals, reselectOf, requestCommitOf, abortRefusals, abortOf};
+ghost use Rattle.coordinator.specs.Calls.{reselectRefusals, reselectOf, requestCommitRefusals, requestCommitOf, abortRefusals, abortOf};
 ghost use Rattle.record.specs.Record.{recordOf, check};
 ghost use Rattle.record.specs.Call.{called, toldBy, kept};
 use crate::CONTACTED;
@@ -24,7 +24,9 @@ use crate::SERIAL;
 use crate::TIMESTAMP;
 use crate::arrive::end_aborted;
 use crate::arrive::turn;
-use crate::load::read;
+use crate::load::distances_of;
+use crate::look::all_settled;
+use crate::look::any_used_up;
 use crate::look::count;
 use crate::look::object_at;
 use crate::look::phase;
@@ -261,20 +263,38 @@ pub(crate) fn reselect(bytes: &mut [u8], me: u8, live: u16, distances: [u16; NOD
     taken(wide(quorum))
 }
 
-// Asks for votes: the call by value decides, and the phase and the participants alone change.
+// The number of a request to commit: 11, then 8, then 9.
+fn request_number(bytes: &[u8], me: u8, chosen: Choice) -> u8
+    requires { ⌜ (length (now bytes) ≡ 301) × (recordOf (now bytes) .count ≤ 8) ⌝ }
+    ensures { λ r. ⌜ r ≡ firstOf (requestCommitRefusals tree (recordOf (now (bytes .entry))) me chosen) ⌝ }
+{
+    let n = count(bytes);
+    let used_up = refuse(numbers::USED_UP, any_used_up(bytes, n), 0);
+    let no_quorum = refuse(numbers::NO_QUORUM, is_none(chosen), used_up);
+    let unsettled = either(n == 0, !all_settled(bytes, n));
+    let early = refuse(numbers::NOT_READY, unsettled, no_quorum);
+    let turn = refuse(numbers::OUT_OF_TURN, phase(bytes) != OPEN, early);
+    refuse(numbers::STRANGER, !(me < 13), turn)
+}
+
+// Asks for votes: the phase and the participants alone change.
 pub(crate) fn request_commit(bytes: &mut [u8], me: u8) -> Called
     requires { ⌜ check (now bytes) ≡ 0 ⌝ }
     ensures { λ r. ⌜ r ≡ toldBy (requestCommitOf tree (recordOf (now (bytes .entry))) me) ⌝ }
     ensures { λ r. ⌜ now (bytes .exit) ≡ kept (requestCommitOf tree (recordOf (now (bytes .entry))) me) (now (bytes .entry)) ⌝ }
 {
-    let s = coordinator::request_commit(read(bytes), me);
-    if s.number != 0 {
-        return refused(s.number);
+    let distances = distances_of(bytes);
+    let live = octets::get_u16(bytes, LIVE);
+    let chosen = quorum::nearest(Kind::Write, live, &distances);
+    let number = request_number(bytes, me, chosen);
+    if number != 0 {
+        return refused(number);
     }
-    let c = s.coordinator;
+    let contacted = octets::get_u16(bytes, CONTACTED);
+    let participants = mask::join(mask_of(chosen), contacted);
     turn(bytes, octets::get_u8(bytes, OUTCOME), VOTING);
-    octets::put_u16(bytes, PARTICIPANTS, c.participants);
-    taken(s.answer)
+    octets::put_u16(bytes, PARTICIPANTS, participants);
+    taken(wide(participants))
 }
 
 // The number of an abort.

@@ -2,7 +2,8 @@
 ghost use mathlib.Core.Path.{_≡_};
 ghost use Prim.Native.Nat.{_≤_};
 ghost use lib.ListN.{length, getD};
-ghost use Rattle.coordinator.specs.State.{noObject, placeOf, awaited};
+ghost use Rattle.coordinator.specs.System.{tree};
+ghost use Rattle.coordinator.specs.State.{noObject, placeOf, allSettled, anyUsedUp, awaited};
 ghost use Rattle.record.specs.Record.{objectsOf, recordOf};
 use crate::CONTACTED;
 use crate::COUNT;
@@ -12,6 +13,8 @@ use crate::PARTICIPANTS;
 use crate::PHASE;
 use crate::load::object_of;
 use crate::load::wide;
+use crate::verify::is_settled;
+use crate::verify::is_used_up;
 use coordinator::OBJECTS;
 use coordinator::Object;
 
@@ -64,6 +67,42 @@ pub(crate) fn object_at(bytes: &[u8], p: usize) -> Object
             new: 0,
         }
     }
+}
+
+// Whether votes may be asked for each of the first n objects.
+pub(crate) fn all_settled(bytes: &[u8], n: usize) -> bool
+    requires { ⌜ length (now bytes) ≡ 301 ⌝ }
+    requires { ⌜ n ≤ 8 ⌝ }
+    ensures { λ r. ⌜ r ≡ allSettled tree (objectsOf (now (bytes .entry))) n ⌝ }
+{
+    let mut i = 0;
+    while i < n {
+        let at = OBJECTS_PLACE + OBJECT_SIZE * i;
+        let end = at + OBJECT_SIZE;
+        if !is_settled(&bytes[at..end]) {
+            return false;
+        }
+        i += 1;
+    }
+    true
+}
+
+// Whether one of the first n objects has a written version without a next one.
+pub(crate) fn any_used_up(bytes: &[u8], n: usize) -> bool
+    requires { ⌜ length (now bytes) ≡ 301 ⌝ }
+    requires { ⌜ n ≤ 8 ⌝ }
+    ensures { λ r. ⌜ r ≡ anyUsedUp (objectsOf (now (bytes .entry))) n ⌝ }
+{
+    let mut i = 0;
+    while i < n {
+        let at = OBJECTS_PLACE + OBJECT_SIZE * i;
+        let end = at + OBJECT_SIZE;
+        if is_used_up(&bytes[at..end]) {
+            return true;
+        }
+        i += 1;
+    }
+    false
 }
 
 // Who must say done: the participants, when never voted the contacted nodes.

@@ -4,10 +4,11 @@ ghost use mathlib.Core.Bool.{cond};
 ghost use Prim.Native.Nat.{_≤_, _<_};
 ghost use lib.ListN.{length};
 ghost use Rattle.coordinator.specs.System.{tree};
-ghost use Rattle.coordinator.specs.State.{awaited};
+ghost use Rattle.coordinator.specs.State.{settled, awaited};
 ghost use Rattle.clauses.specs.Clauses.{implies, zeros, numbersMeet, noNodes, nodesMeet, agreed, votesMeet, donesMeet};
 ghost use Rattle.record.specs.Record.{objectOf, recordOf, check};
-ghost use Rattle.record.specs.Valid.{presentOk, foundIn, openedIn, votable, standsBefore, placeOk, placesOk, objectsOk, partyIs, partyOk, validOf};
+ghost use Rattle.record.specs.Valid.{presentOk, foundIn, openedIn, lastWritten, votable, standsBefore, placeOk, placesOk};
+ghost use Rattle.record.specs.Valid.{objectsOk, partyIs, partyOk, validOf};
 use crate::CAME_IN;
 use crate::CONTACTED;
 use crate::COUNT;
@@ -187,15 +188,29 @@ fn is_opened(x: &[u8], contacted: u16) -> bool
     }
 }
 
+// An object that votes may be asked for: ready, and if written with its new value.
+pub(crate) fn is_settled(x: &[u8]) -> bool
+    ensures { λ r. ⌜ r ≡ settled tree (objectOf (now (x .entry)) 0) ⌝ }
+{
+    let read = octets::get_u8(x, MODE_IN) == 0;
+    let given = octets::get_u8(x, GIVEN_IN) == 1;
+    let ready = quorum::is_quorum(Kind::Read, octets::get_u16(x, CAME_IN));
+    both(ready, either(read, given))
+}
+
+// A written version that has no next one.
+pub(crate) fn is_used_up(x: &[u8]) -> bool
+    ensures { λ r. ⌜ r ≡ lastWritten (objectOf (now (x .entry)) 0) ⌝ }
+{
+    let read = octets::get_u8(x, MODE_IN) == 0;
+    both(!read, octets::get_u32(x, VERSION_IN) == LAST_VERSION)
+}
+
 // An object that votes may be asked for, and that has a next version if it is written.
 fn is_votable(x: &[u8]) -> bool
     ensures { λ r. ⌜ r ≡ votable (objectOf (now (x .entry)) 0) ⌝ }
 {
-    let read = octets::get_u8(x, MODE_IN) == 0;
-    let given = octets::get_u8(x, GIVEN_IN) == 1;
-    let last = both(!read, octets::get_u32(x, VERSION_IN) == LAST_VERSION);
-    let ready = quorum::is_quorum(Kind::Read, octets::get_u16(x, CAME_IN));
-    both(both(ready, either(read, given)), !last)
+    both(is_settled(x), !is_used_up(x))
 }
 
 // Whether an object stands at one of the first n places.

@@ -1,52 +1,22 @@
--- `record::verify::is_votable`: the tests in the definition's order.
-use Rattle.record.specs.Record.{objectOf}
+-- `record::verify::is_votable`: both tests.
 use Rattle.record.specs.Valid.{votable}
 use borrow.Author.Needs.{needs}
 use Rattle.record.proofs.verify.is_votable.Statement.{statement}
 use Rattle.record.proofs.verify.is_votable.Tie as tie
 
-get-u8-requires : tie.Need-get-u8-requires
-get-u8-requires c κs = search needs
+is-settled-requires : tie.Need-is-settled-requires
+is-settled-requires c κs = search needs
 
-get-u8-requires-2 : tie.Need-get-u8-requires-2
-get-u8-requires-2 c κs = search needs
-
-get-u32-requires : tie.Need-get-u32-requires
-get-u32-requires c κs = search needs
+is-used-up-requires : tie.Need-is-used-up-requires
+is-used-up-requires c κs = search needs
 
 both-requires : tie.Need-both-requires
 both-requires c κs = search needs
 
-get-u16-requires : tie.Need-get-u16-requires
-get-u16-requires c κs = search needs
-
-is-quorum-requires : tie.Need-is-quorum-requires
-is-quorum-requires c κs = search needs
-
-either-requires : tie.Need-either-requires
-either-requires c κs = search needs
-
-both-requires-2 : tie.Need-both-requires-2
-both-requires-2 c κs = search needs
-
-both-requires-3 : tie.Need-both-requires-3
-both-requires-3 c κs = search needs
-
 returns : tie.Need-returns
-unfolding votable objectOf
+unfolding votable
 returns c = cc
 
 pub is-votable-spec : {M : Type 1} → statement M
 is-votable-spec =
-    tie.close
-    (tie.spec
-    get-u8-requires
-    get-u8-requires-2
-    get-u32-requires
-    both-requires
-    get-u16-requires
-    is-quorum-requires
-    either-requires
-    both-requires-2
-    both-requires-3
-    returns)
+    tie.close (tie.spec is-settled-requires is-used-up-requires both-requires returns)
