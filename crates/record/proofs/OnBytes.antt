@@ -1,6 +1,6 @@
 -- A call on bytes, by whether they are a record: refused bytes are left as they were, else the call by value decides.
 use mathlib.Core.Path.{_≡_, refl, sym, ap, _∙_}
-use mathlib.Core.Bool.{Bool, true, false, cond, _&&_, _||_}
+use mathlib.Core.Bool.{Bool, true, false, cond, not, _&&_, _||_}
 use mathlib.Core.List.{List, [], _++_, append-nil}
 use Prim.Native.Nat.{ℕ, _≤_}
 use native.Mathlib.Omega.{arith}
@@ -9,13 +9,14 @@ use lib.ListN.{length, take, drop, drop-of-length-le}
 use lib.Seq.{take-all}
 use borrow.Author.Tests.{eq-eqb, ne-eqb, eqb-true, eqb-false, ltb-false}
 use Rattle.numbers.specs.Refusal.{firstOf}
-use Rattle.wire.specs.Decode.{checkOf}
+use Rattle.wire.specs.Decode.{checkOf, toOf, kindOf}
 use Rattle.wire.specs.Write.{answer}
 use Rattle.coordinator.specs.declared.Coordinator.{Coordinator}
 use Rattle.coordinator.specs.declared.Step.{Step}
 use Rattle.coordinator.specs.System.{tree}
 use Rattle.coordinator.specs.State.{stepOf}
-use Rattle.arrivals.specs.Receive.{receiveRefusals, receiveOf}
+use Rattle.coordinator.specs.Calls.{noNode}
+use Rattle.arrivals.specs.Receive.{forReplica, receiveRefusals, receiveOf}
 use Rattle.clauses.specs.Clauses.{meets}
 use Rattle.clauses.proofs.Parts.{neither-left, neither-right}
 use Rattle.due.specs.Due.{dueWritten, dueBuffer}
@@ -79,6 +80,20 @@ module _ (me : ℕ) (m l : List ℕ) where
   pub long-answer : eqb (checkOf m) 1 ≡ false → calledOf (λ (c : Coordinator). receiveOf tree c me m) l ≡ receivedOf me m l
   unfolding receivedOf
   long-answer t = simp t
+
+-- a delivery's number is 1 exactly where the message's length is wrong
+one-first : (a b d e : Bool) (n : ℕ) → n ≡ cond a 1 (cond b 3 (cond d 4 (cond e 5 0))) → (n ≡ 1 → a ≡ true) × ((n ≡ 1 → ⊥) → a ≡ false)
+one-first true b d e n q = ((λ z. refl), (λ h. absurd (h q)))
+one-first false true d e n q = ((λ z. absurd (let y : ⊥ = omega arith in y)), (λ h. refl))
+one-first false false true e n q = ((λ z. absurd (let y : ⊥ = omega arith in y)), (λ h. refl))
+one-first false false false true n q = ((λ z. absurd (let y : ⊥ = omega arith in y)), (λ h. refl))
+one-first false false false false n q = ((λ z. absurd (let y : ⊥ = omega arith in y)), (λ h. refl))
+
+pub number-length : (c : Coordinator) (me : ℕ) (m : List ℕ) (n : ℕ) → n ≡ firstOf (receiveRefusals c me m)
+    → (n ≡ 1 → eqb (checkOf m) 1 ≡ true) × ((n ≡ 1 → ⊥) → eqb (checkOf m) 1 ≡ false)
+unfolding receiveRefusals
+number-length c me m n e =
+    one-first (eqb (checkOf m) 1) (eqb (checkOf m) 3) (noNode me || not (eqb (toOf m) me)) (forReplica (kindOf m)) n e
 
 -- ---- what is due
 module _ (l : List ℕ) (me node object : ℕ) where

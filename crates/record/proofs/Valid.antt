@@ -52,6 +52,14 @@ module _ (l : List ℕ) (a n : ℕ) (e : n ≡ 25) where
       (number-part 4 4 (omega arith)) (number-part 8 8 (omega arith)) (ap (λ (i : ℕ). eqb i 1) (byte-part 16 (omega arith)))
       (number-part 8 17 (omega arith))
 
+  -- the same from what is left of the bytes
+  pub object-rest : objectOf (drop a l) 0 ≡ objectOf l a
+  unfolding objectOf
+  object-rest =
+      let z : a + 0 ≡ a = omega arith in
+      made-object (getD-drop a l 0 0 ∙ ap (λ (i : ℕ). getD l i 0) z) (getD-drop a l 1 0) (get-drop 2 l a 2) (get-drop 4 l a 4) (get-drop 8 l a 8)
+      (ap (λ (i : ℕ). eqb i 1) (getD-drop a l 16 0)) (get-drop 8 l a 17)
+
   opened-part : (contacted : ℕ) → openedIn contacted (take n (drop a l)) 0 ≡ openedIn contacted l a
   unfolding openedIn
   opened-part contacted = rw (object-part, byte-part 16 (omega arith))

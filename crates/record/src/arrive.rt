@@ -3,10 +3,12 @@ ghost use mathlib.Core.Path.{_≡_};
 ghost use mathlib.Core.Bool.{cond};
 ghost use Prim.Native.Nat.{_≤_};
 ghost use lib.ListN.{length, set};
+ghost use Rattle.numbers.specs.Refusal.{firstOf};
+ghost use Rattle.coordinator.specs.declared.Coordinator.{Coordinator};
 ghost use Rattle.coordinator.specs.System.{tree};
 ghost use Rattle.coordinator.specs.State.{idleAfter};
 ghost use Rattle.coordinator.specs.Calls.{endedAborted};
-ghost use Rattle.arrivals.specs.Receive.{answers, copyFits, copyTaken, voteTaken, doneTaken, yieldTaken, delivered, receiveOf};
+ghost use Rattle.arrivals.specs.Receive.{answers, copyFits, copyTaken, voteTaken, doneTaken, yieldTaken, delivered, receiveRefusals, receiveOf};
 ghost use Rattle.record.specs.Layout.{outcomePlace, phasePlace};
 ghost use Rattle.record.specs.Change.{withRivals, raisedBy, yesTaken};
 ghost use Rattle.record.specs.Record.{recordOf, bytesOf, check};
@@ -220,13 +222,13 @@ fn deliver(bytes: &mut [u8], m: &[u8]) -> Called
     }
 }
 
-// Delivers a message; answers what it brought about.
-pub(crate) fn receive(bytes: &mut [u8], me: u8, m: &[u8]) -> Called
+// A delivery whose number is found already.
+pub(crate) fn receive(bytes: &mut [u8], me: u8, m: &[u8], number: u8) -> Called
     requires { ⌜ check (now bytes) ≡ 0 ⌝ }
+    requires { ⌜ ((c : Coordinator) → number ≡ firstOf (receiveRefusals c me (now m))) ⌝ }
     ensures { λ r. ⌜ r ≡ toldBy (receiveOf tree (recordOf (now (bytes .entry))) me (now (m .entry))) ⌝ }
     ensures { λ r. ⌜ now (bytes .exit) ≡ kept (receiveOf tree (recordOf (now (bytes .entry))) me (now (m .entry))) (now (bytes .entry)) ⌝ }
 {
-    let number = arrivals::receive_number(me, m);
     if number != 0 {
         return refused(number);
     }

@@ -128,14 +128,15 @@ pub fn receive(bytes: &mut [u8], me: u8, message: &[u8]) -> Called
     ensures { λ r. ⌜ r ≡ receivedOf me (now (message .entry)) (now (bytes .entry)) ⌝ }
     ensures { λ r. ⌜ now (bytes .exit) ≡ recordAfter (λ (c : Coordinator). receiveOf tree c me (now (message .entry))) (now (bytes .entry)) ⌝ }
 {
-    if wire::check(message) == numbers::LENGTH {
+    let number = arrivals::receive_number(me, message);
+    if number == numbers::LENGTH {
         return failed(numbers::LENGTH);
     }
-    let number = check(bytes);
-    if number != 0 {
-        return failed(number);
+    let checked = check(bytes);
+    if checked != 0 {
+        return failed(checked);
     }
-    arrive::receive(&mut bytes[..SIZE], me, message)
+    arrive::receive(&mut bytes[..SIZE], me, message, number)
 }
 
 // Writes what is due to a node: 1 for either length, 2, then the numbers of `due`.

@@ -30,20 +30,34 @@ use coordinator::NODES;
 use coordinator::OBJECTS;
 use coordinator::Object;
 
-// The object that starts at a place.
+// The object whose bytes these are.
+fn object_in(x: &[u8]) -> Object
+    ensures { λ r. ⌜ r ≡ objectOf (now (x .entry)) 0 ⌝ }
+{
+    Object {
+        object: octets::get_u8(x, 0),
+        mode: octets::get_u8(x, MODE_IN),
+        came: octets::get_u16(x, CAME_IN),
+        version: octets::get_u32(x, VERSION_IN),
+        value: octets::get_u64(x, VALUE_IN),
+        given: octets::get_u8(x, GIVEN_IN) == 1,
+        new: octets::get_u64(x, NEW_IN),
+    }
+}
+
+// The object that starts at a place: a part of a size that the compiler knows, or what is left of the bytes.
 pub(crate) fn object_of(bytes: &[u8], at: usize) -> Object
     requires { ⌜ at < 8192 ⌝ }
     ensures { λ r. ⌜ r ≡ objectOf (now (bytes .entry)) at ⌝ }
 {
-    Object {
-        object: octets::get_u8(bytes, at),
-        mode: octets::get_u8(bytes, at + MODE_IN),
-        came: octets::get_u16(bytes, at + CAME_IN),
-        version: octets::get_u32(bytes, at + VERSION_IN),
-        value: octets::get_u64(bytes, at + VALUE_IN),
-        given: octets::get_u8(bytes, at + GIVEN_IN) == 1,
-        new: octets::get_u64(bytes, at + NEW_IN),
+    let end = at + OBJECT_SIZE;
+    if end <= bytes.len() {
+        return object_in(&bytes[at..end]);
     }
+    if at < bytes.len() {
+        return object_in(&bytes[at..]);
+    }
+    object_in(&bytes[..0])
 }
 
 // The distances, the objects and the rivals' serials.

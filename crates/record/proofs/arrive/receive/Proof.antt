@@ -9,16 +9,14 @@ use borrow.Author.Needs.{needs}
 use Rattle.record.proofs.arrive.receive.Statement.{statement}
 use Rattle.record.proofs.arrive.receive.Tie as tie
 
-receive-number-requires : tie.Need-receive-number-requires
-receive-number-requires c κs = search needs
-
 refused-requires : tie.Need-refused-requires
 refused-requires c κs = search needs
 
 returns : tie.Need-returns
 unfolding receiveOf kept
 returns c =
-    let e = sym (c .before .before .receive-number .ensures (recordOf (now (c .before .before .before .before .before .args .bytes)))) in
+    let s = c .before .before .before .before in
+    let e = sym (s .pre .1 (recordOf (now (s .args .bytes)))) in
     let t = ne-eqb _ 0 (c .before .if1 .taken) in
     (c .refused .ensures ∙ simp (e, t), simp (e, t, t))
 
@@ -32,19 +30,11 @@ returns-2 : tie.Need-returns-2
 unfolding receiveOf
 returns-2 c =
     let c4 = c .before .before .before .before in
-    let c8 = c4 .before .before .before .before in
-    let e = sym (c4 .before .receive-number .ensures (recordOf (now (c8 .args .bytes)))) in
+    let s = c4 .before .before .before in
+    let e = sym (s .pre .1 (recordOf (now (s .args .bytes)))) in
     let t = eq-eqb _ 0 (c4 .if1 .left) in
     let w = c .before .before .deliver .ensures in
     (w .0 ∙ simp (e, t), w .1 ∙ simp (e, t))
 
 pub receive-spec : {M : Type 1} → statement M
-receive-spec =
-    tie.close
-    (tie.spec
-    receive-number-requires
-    refused-requires
-    returns
-    deliver-requires
-    same-length
-    returns-2)
+receive-spec = tie.close (tie.spec refused-requires returns deliver-requires same-length returns-2)

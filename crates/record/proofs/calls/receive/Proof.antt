@@ -1,21 +1,19 @@
 -- `record::calls::receive`: a message of another length, refused bytes, or the delivery on all of them.
 use mathlib.Core.Path.{sym, _∙_}
 use denote.Ref.{now}
-use borrow.Author.Tests.{eq-eqb, ne-eqb}
-use Rattle.wire.specs.Decode.{checkOf}
 use Rattle.coordinator.specs.declared.Coordinator.{Coordinator}
 use Rattle.coordinator.specs.declared.Step.{Step}
 use Rattle.coordinator.specs.System.{tree}
 use Rattle.arrivals.specs.Receive.{receiveOf}
-use Rattle.record.proofs.OnBytes.{short-answer, short-bytes, long-answer, refused-called, refused-record}
+use Rattle.record.specs.Record.{recordOf}
+use Rattle.record.proofs.OnBytes.{number-length, short-answer, short-bytes, long-answer, refused-called, refused-record}
 use Rattle.record.proofs.OnBytes.{part-long, part-count, part-checked, part-called, part-record}
 use borrow.Author.Needs.{needs}
 use Rattle.record.proofs.calls.receive.Statement.{statement}
 use Rattle.record.proofs.calls.receive.Tie as tie
-use Rattle.wire.proofs.check.Reads as verify-check-reads′
 
-check-requires : tie.Need-check-requires
-check-requires c κs = search needs
+receive-number-requires : tie.Need-receive-number-requires
+receive-number-requires c κs = search needs
 
 failed-requires : tie.Need-failed-requires
 failed-requires c κs = search needs
@@ -23,11 +21,12 @@ failed-requires c κs = search needs
 returns : tie.Need-returns
 returns c =
     let x = c .before .before .before .before .before .args in
-    let t = eq-eqb (checkOf (now (x .message))) 1 (sym (c .before .before .check .ensures) ∙ c .before .if1 .taken) in
+    let k = recordOf (now (x .bytes)) in
+    let t = number-length k (x .me) (now (x .message)) _ (c .before .before .receive-number .ensures k) .0 (c .before .if1 .taken) in
     (c .failed .ensures ∙ short-answer (x .me) (now (x .message)) (now (x .bytes)) t, short-bytes (x .me) (now (x .message)) (now (x .bytes)) t)
 
-check-requires-2 : tie.Need-check-requires-2
-check-requires-2 c κs = search needs
+check-requires : tie.Need-check-requires
+check-requires c κs = search needs
 
 failed-requires-2 : tie.Need-failed-requires-2
 failed-requires-2 c κs = search needs
@@ -37,36 +36,40 @@ same-length c = search needs
 
 returns-2 : tie.Need-returns-2
 returns-2 c =
-    let x = c .before .before .before .before .before .before .before .before .args in
-    let s : Coordinator → Step = λ k. receiveOf tree k (x .me) (now (x .message)) in
-    let n = c .before .before .before .before .before .check .ensures in
-    let t = ne-eqb (checkOf (now (x .message))) 1 (λ z. c .before .before .before .before .if1 .left (n ∙ z)) in
-    let e = c .before .before .check2 .ensures in
+    let c4 = c .before .before .before .before in
+    let x = c4 .before .before .before .before .args in
+    let k = recordOf (now (x .bytes)) in
+    let s : Coordinator → Step = λ d. receiveOf tree d (x .me) (now (x .message)) in
+    let t = number-length k (x .me) (now (x .message)) _ (c4 .before .receive-number .ensures k) .1 (c4 .if1 .left) in
+    let e = c .before .before .check .ensures in
     let h = c .before .if2 .taken in (
       c .failed2 .ensures ∙ refused-called s (now (x .bytes)) _ e h ∙ long-answer (x .me) (now (x .message)) (now (x .bytes)) t,
       refused-record s (now (x .bytes)) _ e h,
     )
 
 slice-relend-prefix-receive : tie.Need-slice-relend-prefix-receive
-slice-relend-prefix-receive c = part-long _ (sym (c .before .check2 .ensures) ∙ c .if2 .left)
+slice-relend-prefix-receive c = part-long _ (sym (c .before .check .ensures) ∙ c .if2 .left)
 
 slice-aggregate-receive : tie.Need-slice-aggregate-receive
-slice-aggregate-receive c = part-count _ (sym (c .before .before .check2 .ensures) ∙ c .before .if2 .left)
+slice-aggregate-receive c = part-count _ (sym (c .before .before .check .ensures) ∙ c .before .if2 .left)
 
 receive-requires : tie.Need-receive-requires
-receive-requires c κs = part-checked _ (sym (c .before .before .check2 .ensures) ∙ c .before .if2 .left)
+receive-requires c κs =
+    let c4 = c .before .before .before .before in
+    (part-checked _ (sym (c .before .before .check .ensures) ∙ c .before .if2 .left), c4 .before .receive-number .ensures)
 
 same-length-2 : tie.Need-same-length-2
 same-length-2 c = search needs
 
 returns-3 : tie.Need-returns-3
 returns-3 c =
-    let x = c .before .before .before .before .before .before .before .before .before .before .before .args in
+    let c4 = c .before .before .before .before in
+    let c8 = c4 .before .before .before .before in
+    let x = c8 .before .before .before .args in
     let l = now (x .bytes) in
-    let s : Coordinator → Step = λ k. receiveOf tree k (x .me) (now (x .message)) in
-    let n = c .before .before .before .before .before .before .before .before .check .ensures in
-    let t = ne-eqb (checkOf (now (x .message))) 1 (λ z. c .before .before .before .before .before .before .before .if1 .left (n ∙ z)) in
-    let e = sym (c .before .before .before .before .before .check2 .ensures) ∙ c .before .before .before .before .if2 .left in
+    let s : Coordinator → Step = λ d. receiveOf tree d (x .me) (now (x .message)) in
+    let t = number-length (recordOf l) (x .me) (now (x .message)) _ (c8 .receive-number .ensures (recordOf l)) .1 (c4 .before .before .before .if1 .left) in
+    let e = sym (c4 .before .check .ensures) ∙ c4 .if2 .left in
     let w = c .before .before .receive .ensures in
     (part-called l e s _ (w .0) ∙ long-answer (x .me) (now (x .message)) l t, part-record l e s _ (w .1))
 
@@ -74,10 +77,10 @@ pub receive-spec : {M : Type 1} → statement M
 receive-spec =
     tie.close
     (tie.spec
-    check-requires
+    receive-number-requires
     failed-requires
     returns
-    check-requires-2
+    check-requires
     failed-requires-2
     same-length
     returns-2
