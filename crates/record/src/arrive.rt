@@ -61,12 +61,14 @@ fn copy_fits(bytes: &[u8], m: &[u8]) -> bool
     requires { ⌜ (length (now bytes) ≡ 301) × (recordOf (now bytes) .count ≤ 8) ⌝ }
     ensures { λ r. ⌜ r ≡ copyFits tree (recordOf (now (bytes .entry))) (now (m .entry)) ⌝ }
 {
+    let contacted = octets::get_u16(bytes, CONTACTED);
+    if !is_answer(bytes, OPEN, contacted, m) {
+        return false;
+    }
     let e = wire::nth_entry(m, 0);
     let x = object_named(bytes, e.object);
     let wanted = both(e.mode == x.mode, !coordinator::is_ready(x));
-    let here = both(place(bytes, e.object) < OBJECTS, wanted);
-    let contacted = octets::get_u16(bytes, CONTACTED);
-    both(is_answer(bytes, OPEN, contacted, m), here)
+    both(place(bytes, e.object) < OBJECTS, wanted)
 }
 
 // What a copy brought about.
