@@ -14,7 +14,9 @@ ghost use Rattle.coordinator.specs.Calls.{abortRefusals, endedAborted, a
 use crate::ABORTED;
 use crate::BeginWith;
 use crate::Coordinator;
+use crate::EVERY_NODE;
 use crate::FINISHING;
+use crate::HIGHEST;
 use crate::IDLE;
 use crate::NODES;
 use crate::OBJECTS;
@@ -39,10 +41,6 @@ use numbers::either;
 use numbers::refuse;
 use quorum::Choice;
 use quorum::Kind;
-
-const EVERY_NODE: u16 = 8191;
-
-const HIGHEST: u32 = 4294967295;
 
 // The record of a node that never began a transaction.
 // Ruled out: a record that is not idle; one whose first serial would not be 1.

@@ -26,12 +26,18 @@ pub use objects::at_place;
 pub use objects::is_ready;
 pub use objects::place;
 
-// How many objects a transaction may open, what every object is below, and how many nodes there are.
+// How many objects a transaction may open, and what every object is below.
 pub const OBJECTS: usize = 8;
 
 pub const OBJECTS_END: u8 = 64;
 
+// How many nodes there are, and the mask of all of them.
 pub const NODES: usize = 13;
+
+pub const EVERY_NODE: u16 = 8191;
+
+// The last serial, and the last version: there is none above it.
+pub const HIGHEST: u32 = 4294967295;
 
 // The phases.
 pub const IDLE: u8 = 0;

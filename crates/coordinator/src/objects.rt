@@ -4,13 +4,12 @@ ghost use lib.ListN.{getD, set};
 ghost use Rattle.coordinator.specs.System.{tree};
 ghost use Rattle.coordinator.specs.State.{noObject, placeIn, placeOf, objectAt, ready, andSettled, orUsedUp, allSettled, anyUsedUp, hereElse};
 use crate::Coordinator;
+use crate::HIGHEST;
 use crate::OBJECTS;
 use crate::Object;
 use numbers::both;
 use numbers::either;
 use quorum::Kind;
-
-const HIGHEST: u32 = 4294967295;
 
 // Place i where it has the object, else what was found past it.
 fn here_else(object: u8, count: usize, i: usize, x: Object, rest: usize) -> usize

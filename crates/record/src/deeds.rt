@@ -35,11 +35,13 @@ use crate::store::put_distances;
 use crate::store::put_front;
 use crate::store::put_object;
 use crate::store::put_quorum;
-use crate::verify::EVERY_NODE;
 use coordinator::BeginWith;
+use coordinator::EVERY_NODE;
+use coordinator::HIGHEST;
 use coordinator::IDLE;
 use coordinator::NODES;
 use coordinator::OBJECTS;
+use coordinator::OBJECTS_END;
 use coordinator::OPEN;
 use coordinator::Object;
 use coordinator::VOTING;
@@ -49,10 +51,6 @@ use numbers::either;
 use numbers::refuse;
 use quorum::Choice;
 use quorum::Kind;
-
-const OBJECTS_END: u8 = 64;
-
-const HIGHEST: u32 = 4294967295;
 
 // A call that is refused, and one that is taken.
 pub(crate) fn refused(number: u8) -> Called

@@ -33,21 +33,18 @@ use crate::VERSION_IN;
 use crate::YES;
 use coordinator::ABORTED;
 use coordinator::COMMITTED;
+use coordinator::EVERY_NODE;
 use coordinator::FINISHING;
+use coordinator::HIGHEST;
 use coordinator::IDLE;
 use coordinator::OBJECTS;
+use coordinator::OBJECTS_END;
 use coordinator::OPEN;
 use coordinator::VOTING;
 use mask::subset;
 use numbers::both;
 use numbers::either;
 use quorum::Kind;
-
-pub(crate) const EVERY_NODE: u16 = 8191;
-
-const OBJECTS_END: u8 = 64;
-
-const LAST_VERSION: u32 = 4294967295;
 
 // One test or another.
 fn choose(first: bool, a: bool, b: bool) -> bool
@@ -203,7 +200,7 @@ pub(crate) fn is_used_up(x: &[u8]) -> bool
     ensures { λ r. ⌜ r ≡ lastWritten (objectOf (now (x .entry)) 0) ⌝ }
 {
     let read = octets::get_u8(x, MODE_IN) == 0;
-    both(!read, octets::get_u32(x, VERSION_IN) == LAST_VERSION)
+    both(!read, octets::get_u32(x, VERSION_IN) == HIGHEST)
 }
 
 // An object that votes may be asked for, and that has a next version if it is written.

@@ -11,6 +11,7 @@ use crate::reading::next;
 use crate::reading::noted;
 use crate::results::refusal;
 use crate::steps::perform;
+use coordinator::EVERY_NODE;
 
 const NEWLINE: u8 = 10;
 
@@ -20,9 +21,6 @@ const BAD: u8 = 1;
 const BLANK: u8 = 2;
 
 const STEP: u8 = 3;
-
-// The nodes that there are.
-const EVERY_NODE: u16 = 8191;
 
 // The front of some bytes.
 fn front(out: &mut [u8], at: usize, text: &[u8], long: usize) -> usize

@@ -2,10 +2,10 @@
 ghost use mathlib.Core.Path.{_≡_};
 ghost use lib.ListN.{length};
 ghost use Rattle.station.specs.Buffers.{all, imagesBlank, recordsBlank, blankNumber, blankAfter};
-use crate::EVERY_NODE;
 use crate::IMAGES;
 use crate::OWN;
 use crate::RECORDS;
+use coordinator::EVERY_NODE;
 use coordinator::NODES;
 use numbers::either;
 use numbers::refuse;

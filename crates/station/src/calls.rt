@@ -4,7 +4,6 @@ ghost use Rattle.station.specs.Step.{begin, openRead, openWrite, setValu
 ghost use Rattle.station.specs.OnBytes.{endsFirst, isOn, answerOf};
 ghost use Rattle.station.specs.Buffers.{ends, hostFirst, hostTold, hostRecords};
 use crate::Answer;
-use crate::EVERY_NODE;
 use crate::OWN;
 use crate::RECORDS;
 use crate::common::is_damaged;
@@ -14,6 +13,7 @@ use crate::common::refused;
 use crate::common::when_off;
 use crate::common::wide;
 use coordinator::BeginWith;
+use coordinator::EVERY_NODE;
 use coordinator::NODES;
 use numbers::either;
 use numbers::refuse;

@@ -35,6 +35,3 @@ pub const IMAGES: usize = image::SIZE * coordinator::NODES;
 pub const RECORDS: usize = record::SIZE * coordinator::NODES;
 
 pub const OWN: usize = 2;
-
-// The set of all nodes.
-const EVERY_NODE: u16 = 8191;

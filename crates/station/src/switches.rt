@@ -4,10 +4,10 @@ ghost use mathlib.Core.Bool.{cond};
 ghost use Rattle.mask.specs.Mask.{joined, minus};
 ghost use Rattle.station.specs.Buffers.{ownNumber, switching, switchTold, switchOwn};
 use crate::Answer;
-use crate::EVERY_NODE;
 use crate::OWN;
 use crate::common::on;
 use crate::common::refused;
+use coordinator::EVERY_NODE;
 use numbers::refuse;
 
 // The number of the mask's buffer: 1 another length, 2 a mask that names what is no node.
