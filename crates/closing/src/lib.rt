@@ -1,5 +1,5 @@
-// The end of a scenario as text: for each object with a version above 0 or a value in replay its newest version and value, the nodes that have it and replay's value; and
-// whether the station is at rest and settled.
+// The end of a scenario as text: for each object with a version above 0 or a value in replay its newest version and value, the nodes that have
+// it and replay's value; and whether the station is at rest and settled.
 mod copies;
 mod state;
 

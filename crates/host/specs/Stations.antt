@@ -1,4 +1,5 @@
--- A station's steps for C: distances as bytes, 1 for another length than 26; values as signed numbers; yes and no as bytes, 0 for no and any other for yes. And what waits.
+-- A station's steps for C: distances as bytes, 1 for another length than 26; values as signed numbers; yes and no as bytes, 0 for no
+-- and any other for yes. And what waits.
 use mathlib.Core.Bool.{Bool, cond, not}
 use mathlib.Core.List.{List}
 use Prim.Native.Nat.{ℕ}

@@ -12,7 +12,8 @@ pub record Holds (up : ℕ) (cs : List Call) (b : Buffers) : Type 0 where
   pub whole : Whole b
   pub station : stationOf b ≡ reached up cs
 
--- after one more step, told r: the buffers hold what the longer list left, the number and the answer are the step's own, and the claims hold of the longer list
+-- after one more step, told r: the buffers hold what the longer list left, the number and the answer are the step's own, and the claims hold of
+-- the longer list
 pub record Next (up : ℕ) (cs : List Call) (c : Call) (r : Answer) (b : Buffers) : Type 0 where
   pub holds : Holds up (c ∷ cs) b
   pub number : r .number ≡ step (reached up cs) c .number

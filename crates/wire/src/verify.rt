@@ -228,7 +228,8 @@ fn sized(s: &[u8], n: usize, r: usize, w: usize) -> bool
     )
 }
 
-// Whether the bytes are a message, the bounds on the length aside. Each count is read once, and the sections come first, so that the loops run over few items that are there.
+// Whether the bytes are a message, the bounds on the length aside. Each count is read once, and the sections come first, so that the loops run over
+// few items that are there.
 fn is_accepted(s: &[u8]) -> bool
     ensures { λ r. ⌜ r ≡ accepted (now (s .entry)) ⌝ }
 {

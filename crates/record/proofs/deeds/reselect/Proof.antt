@@ -84,7 +84,8 @@ returns-2 c =
     let q : ℕ = maskOf (tree .nearestRead (x .live) (x .t4)) in
     let d = reselected k (x .live) (x .t4) q in
     let z = sym (b15 .before .before .before .before .before .before .reselect-number .ensures
-    ∙ ap (λ (m : Choice). firstOf (reselectRefusals k (x .me) (x .live) m)) (b23 .nearest .ensures)) ∙ b15 .before .before .before .before .before .if1 .left in
+    ∙ ap (λ (m : Choice). firstOf (reselectRefusals k (x .me) (x .live) m)) (b23 .nearest .ensures))
+    ∙ b15 .before .before .before .before .before .if1 .left in
     let small : Bytes l = λ j. omega (arith, b23 .before .before .slice-known .given j) in
     let m = b15 .before .before .before .before .mask-of .ensures ∙ ap maskOf (b23 .nearest .ensures) in (
       c .taken .ensures ∙ ap (called 0) (c .before .wide .ensures ∙ m) ∙ told-taken _ q k d l z,

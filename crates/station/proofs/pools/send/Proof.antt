@@ -54,7 +54,8 @@ write-at-requires : tie.Need-write-at-requires
 write-at-requires c κs =
     let c6 = c .before .before .before .before .before .before in
     let x = c6 .before .before .before .args in
-    let early = ap₂ lower (sym (c .before .before .before .before .before .ends-number .ensures)) (sym (c .before .before .before .check .ensures)) ∙ sym (c .before .before .lower .ensures) ∙ c .before .if1 .left in
+    let early = ap₂ lower (sym (c .before .before .before .before .before .ends-number .ensures)) (sym (c .before .before .before .check .ensures))
+    ∙ sym (c .before .before .lower .ensures) ∙ c .before .if1 .left in
     (ends-long (now (x .records)) (now (x .own)) (x .node) (lower-none _ _ early .0), search needs)
 
 refused-requires-2 : tie.Need-refused-requires-2
@@ -71,7 +72,8 @@ returns-2 c =
     let R = now (x .records) in
     let P = now (x .pool) in
     let O = now (x .own) in
-    let early = ap₂ lower (sym (c6 .before .before .before .before .ends-number .ensures)) (sym (c6 .before .before .check .ensures)) ∙ sym (c6 .before .lower .ensures) ∙ c6 .if1 .left in
+    let early = ap₂ lower (sym (c6 .before .before .before .before .ends-number .ensures)) (sym (c6 .before .before .check .ensures))
+    ∙ sym (c6 .before .lower .ensures) ∙ c6 .if1 .left in
     let d = owed-two R (x .node) (x .to) (x .object) _ (c .before .before .before .before .write-at .ensures .0) (c .before .if2 .taken) in
     let g : sendFirst (sending R P O) (x .node) ≡ 2 = send-next R P O (x .node) early ∙ simp d in
     let f = sym g in
@@ -103,13 +105,16 @@ returns-3 c =
     let R = now (x .records) in
     let P = now (x .pool) in
     let O = now (x .own) in
-    let early = ap₂ lower (sym (c12 .before .before .ends-number .ensures)) (sym (c12 .check .ensures)) ∙ sym (c6 .before .before .before .before .before .lower .ensures) ∙ c6 .before .before .before .before .if1 .left in
+    let early = ap₂ lower (sym (c12 .before .before .ends-number .ensures)) (sym (c12 .check .ensures))
+    ∙ sym (c6 .before .before .before .before .before .lower .ensures) ∙ c6 .before .before .before .before .if1 .left in
     let due = owed-due R (x .node) (x .to) (x .object) _ (c6 .before .before .write-at .ensures .0) (c .before .before .before .before .before .if2 .left) in
     let w = due .1 in
     let first : sendFirst (sending R P O) (x .node) ≡ 0 = send-next R P O (x .node) early ∙ simp (due .0) in
     let e : contains (onOf O) (x .node) ≡ false =
-    ap (λ (m : ℕ). contains m (x .node)) (sym (c .before .before .before .before .on .ensures)) ∙ sym (c .before .before .before .has .ensures) ∙ not-true _ (c .before .before .if3 .taken) in (
-      c .refused3 .ensures ∙ ap (λ (k : ℕ). answerWith k 0) (c .before .when-off .ensures) ∙ off-told R P O (x .node) (x .to) (x .object) e _ w ∙ started-told R P O (x .node) (x .to) (x .object) first,
+    ap (λ (m : ℕ). contains m (x .node)) (sym (c .before .before .before .before .on .ensures)) ∙ sym (c .before .before .before .has .ensures)
+    ∙ not-true _ (c .before .before .if3 .taken) in (
+      c .refused3 .ensures ∙ ap (λ (k : ℕ). answerWith k 0) (c .before .when-off .ensures) ∙ off-told R P O (x .node) (x .to) (x .object) e _ w
+          ∙ started-told R P O (x .node) (x .to) (x .object) first,
       off-left R P O (x .node) (x .to) (x .object) e ∙ started-pool R P O (x .node) (x .to) (x .object) first,
     )
 
@@ -128,12 +133,14 @@ returns-4 c =
     let R = now (x .records) in
     let P = now (x .pool) in
     let O = now (x .own) in
-    let early = ap₂ lower (sym (c12 .before .before .before .ends-number .ensures)) (sym (c12 .before .check .ensures)) ∙ sym (c12 .lower .ensures) ∙ c6 .before .before .before .before .before .if1 .left in
+    let early = ap₂ lower (sym (c12 .before .before .before .ends-number .ensures)) (sym (c12 .before .check .ensures)) ∙ sym (c12 .lower .ensures)
+    ∙ c6 .before .before .before .before .before .if1 .left in
     let due = owed-due R (x .node) (x .to) (x .object) _ (c6 .before .before .before .write-at .ensures .0) (c6 .if2 .left) in
     let w = due .1 in
     let first : sendFirst (sending R P O) (x .node) ≡ 0 = send-next R P O (x .node) early ∙ simp (due .0) in
     let e : contains (onOf O) (x .node) ≡ true =
-    ap (λ (m : ℕ). contains m (x .node)) (sym (c .before .before .before .before .before .on .ensures)) ∙ sym (c .before .before .before .before .has .ensures) ∙ not-false _ (c .before .before .before .if3 .left) in
+    ap (λ (m : ℕ). contains m (x .node)) (sym (c .before .before .before .before .before .on .ensures))
+    ∙ sym (c .before .before .before .before .has .ensures) ∙ not-false _ (c .before .before .before .if3 .left) in
     let h = c .before .if4 .taken in (
       c .refused4 .ensures ∙ stop-told R P O (x .node) (x .to) (x .object) e _ w h ∙ started-told R P O (x .node) (x .to) (x .object) first,
       stop-left R P O (x .node) (x .to) (x .object) e _ w h ∙ started-pool R P O (x .node) (x .to) (x .object) first,
@@ -157,7 +164,8 @@ returns-5 c =
     let R = now (x .records) in
     let P = now (x .pool) in
     let O = now (x .own) in
-    let early = ap₂ lower (sym (c18 .ends-number .ensures)) (sym (c12 .before .before .before .before .check .ensures)) ∙ sym (c12 .before .before .before .lower .ensures) ∙ c12 .before .before .if1 .left in
+    let early = ap₂ lower (sym (c18 .ends-number .ensures)) (sym (c12 .before .before .before .before .check .ensures))
+    ∙ sym (c12 .before .before .before .lower .ensures) ∙ c12 .before .before .if1 .left in
     let due = owed-due R (x .node) (x .to) (x .object) _ (c12 .write-at .ensures .0) (c6 .before .before .before .if2 .left) in
     let w = due .1 in
     let first : sendFirst (sending R P O) (x .node) ≡ 0 = send-next R P O (x .node) early ∙ simp (due .0) in
@@ -181,7 +189,8 @@ array-share-prefix-b c =
     let c18 = c12 .before .before .before .before .before .before in
     let c24 = c18 .before .before .before .before .before .before in
     let x = c24 .args in
-    let w = owed-due (now (x .records)) (x .node) (x .to) (x .object) _ (c12 .before .before .write-at .ensures .0) (c6 .before .before .before .before .before .if2 .left) .1 in
+    let w = owed-due (now (x .records)) (x .node) (x .to) (x .object) _ (c12 .before .before .write-at .ensures .0)
+    (c6 .before .before .before .before .before .if2 .left) .1 in
     let f = written-fits (recordIn (now (x .records)) (x .node)) (x .node) (x .to) (x .object) _ w in
     let i = c .before .before .wide .ensures in
     let g : length (c12 .before .before .write-at .last .1 .1 .1 .1 .0) ≡ 128 = search needs in
@@ -219,12 +228,14 @@ returns-6 c =
     let R = now (x .records) in
     let P = now (x .pool) in
     let O = now (x .own) in
-    let early = ap₂ lower (sym (c24 .before .ends-number .ensures)) (sym (c18 .before .before .before .before .before .check .ensures)) ∙ sym (c18 .before .before .before .before .lower .ensures) ∙ c18 .before .before .before .if1 .left in
+    let early = ap₂ lower (sym (c24 .before .ends-number .ensures)) (sym (c18 .before .before .before .before .before .check .ensures))
+    ∙ sym (c18 .before .before .before .before .lower .ensures) ∙ c18 .before .before .before .if1 .left in
     let due = owed-due R (x .node) (x .to) (x .object) _ (c18 .before .write-at .ensures .0) (c12 .before .before .before .before .if2 .left) in
     let w = due .1 in
     let first : sendFirst (sending R P O) (x .node) ≡ 0 = send-next R P O (x .node) early ∙ simp (due .0) in
     let e : contains (onOf O) (x .node) ≡ true =
-    ap (λ (m : ℕ). contains m (x .node)) (sym (c12 .before .before .before .on .ensures)) ∙ sym (c12 .before .before .has .ensures) ∙ not-false _ (c12 .before .if3 .left) in
+    ap (λ (m : ℕ). contains m (x .node)) (sym (c12 .before .before .before .on .ensures)) ∙ sym (c12 .before .before .has .ensures)
+    ∙ not-false _ (c12 .before .if3 .left) in
     let h = c6 .before .before .before .before .before .if4 .left in
     let n = c6 .before .before .before .count .ensures .0 in
     let t = c6 .before .before .if5 .left in
@@ -233,7 +244,8 @@ returns-6 c =
     let out = c18 .before .write-at .ensures .1 ∙ owed-put R (x .node) (x .to) (x .object) _ (due .0) in
     let b = sent-both R P O (x .node) (x .to) (x .object) e _ w h f (let i = c6 .before .wide .ensures in let g = c6 .if6 .taken in omega arith) p _ _
     (length-replicate {A = ℕ} 128 0) out _ (c6 .before .wide .ensures) in (
-      c .refused6 .ensures ∙ ap (λ (k : ℕ). answerWith k 0) (c .before .before .before .add .ensures .0) ∙ b .0 ∙ started-told R P O (x .node) (x .to) (x .object) first,
+      c .refused6 .ensures ∙ ap (λ (k : ℕ). answerWith k 0) (c .before .before .before .add .ensures .0) ∙ b .0
+          ∙ started-told R P O (x .node) (x .to) (x .object) first,
       c .before .before .before .add .ensures .1 ∙ b .1 ∙ started-pool R P O (x .node) (x .to) (x .object) first,
     )
 
@@ -253,12 +265,15 @@ returns-7 c =
     let R = now (x .records) in
     let P = now (x .pool) in
     let O = now (x .own) in
-    let early = ap₂ lower (sym (c18 .before .before .ends-number .ensures)) (sym (c18 .check .ensures)) ∙ sym (c12 .before .before .before .before .before .lower .ensures) ∙ c12 .before .before .before .before .if1 .left in
-    let due = owed-due R (x .node) (x .to) (x .object) _ (c12 .before .before .write-at .ensures .0) (c6 .before .before .before .before .before .if2 .left) in
+    let early = ap₂ lower (sym (c18 .before .before .ends-number .ensures)) (sym (c18 .check .ensures))
+    ∙ sym (c12 .before .before .before .before .before .lower .ensures) ∙ c12 .before .before .before .before .if1 .left in
+    let due = owed-due R (x .node) (x .to) (x .object) _ (c12 .before .before .write-at .ensures .0)
+    (c6 .before .before .before .before .before .if2 .left) in
     let w = due .1 in
     let first : sendFirst (sending R P O) (x .node) ≡ 0 = send-next R P O (x .node) early ∙ simp (due .0) in
     let e : contains (onOf O) (x .node) ≡ true =
-    ap (λ (m : ℕ). contains m (x .node)) (sym (c6 .before .before .before .before .on .ensures)) ∙ sym (c6 .before .before .before .has .ensures) ∙ not-false _ (c6 .before .before .if3 .left) in
+    ap (λ (m : ℕ). contains m (x .node)) (sym (c6 .before .before .before .before .on .ensures)) ∙ sym (c6 .before .before .before .has .ensures)
+    ∙ not-false _ (c6 .before .before .if3 .left) in
     let h = c6 .if4 .left in
     let n = c .before .before .before .before .count .ensures .0 in
     let t = c .before .before .before .if5 .left in
