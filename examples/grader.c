@@ -185,7 +185,7 @@ static void receive(station *s, node *n, const letter *l)
     if (senna_check_message(l->bytes, l->length) != SENNA_OK) {
         return;
     }
-    switch (l->bytes[0]) {
+    switch (l->bytes[SENNA_KIND_AT]) {
     case SENNA_FETCH:
     case SENNA_ASK:
     case SENNA_OUTCOME:
@@ -258,7 +258,7 @@ static void deliver(station *s, size_t most)
         letter first = s->cable[0];
         s->waiting--;
         memmove(&s->cable[0], &s->cable[1], s->waiting * sizeof s->cable[0]);
-        node *n = &s->nodes[first.bytes[2]];
+        node *n = &s->nodes[first.bytes[SENNA_TO_AT]];
         if (n->on) {
             receive(s, n, &first);
         }

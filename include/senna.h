@@ -2,7 +2,8 @@
  * senna.h: replicated objects on a tree of thirteen nodes: the quorums, the messages between nodes, a node's stored image, the
  * replica that answers messages from it, the record of the node's own transaction, and a whole station of thirteen nodes.
  *
- * `rt staticlib host` writes the library, target/staticlib/libhost.a. Nothing else is needed, and this line builds a program with it:
+ * `rt staticlib host` writes the library, target/staticlib/libhost.a, for x86-64 Linux. Of the C library it needs memcpy, memmove
+ * and memset alone. This line builds a program with it:
  *
  *   gcc -std=c11 -Iinclude main.c target/staticlib/libhost.a -o main
  *
@@ -149,6 +150,10 @@ senna_choice senna_nearest_write(uint16_t live, const uint8_t *distances, size_t
  * Nodes are 0 to 12, objects 0 to 63, serials and stamps from 1. In an ask and an outcome a read's value is 0, and a write's version is
  * below 4294967295. A message that keeps all of this, with no byte missing or left over, is well formed.
  */
+
+/* Where a message has its kind, and the node that it goes to: what a host looks at to pass it on. */
+#define SENNA_KIND_AT 0
+#define SENNA_TO_AT 2
 
 /* Kinds of messages. */
 #define SENNA_FETCH 1
@@ -458,8 +463,9 @@ senna_called senna_coordinator_abort(uint8_t *record, size_t length, uint8_t me)
 
 /*
  * Delivers a copy, a vote, a done or a yield; answers what it brought about, SENNA_NOTHING to SENNA_FINISHED. The transaction is committed
- * from the delivery on that answers SENNA_COMMITTED, and never before. A message that does not fit the transaction, such as one that comes
- * late or again, changes nothing and is no refusal.
+ * from the delivery on that answers SENNA_COMMITTED, and never before. A no of a participant, or a yield that names this transaction, aborts it
+ * while SENNA_VOTING, a yield also while SENNA_OPEN. A message that does not fit the transaction, such as one that comes late or again, changes
+ * nothing and is no refusal.
  *
  * message  the message; only read
  * size     the bytes at message
@@ -472,6 +478,11 @@ senna_called senna_coordinator_receive(uint8_t *record, size_t length, uint8_t m
 /*
  * Writes the message that is due to a node, and while SENNA_OPEN for an object; in other phases object does not matter. It stays due, and
  * may be sent again, until its answer is delivered. The record is only read. Nothing due: SENNA_OK with length 0, and nothing is written.
+ *
+ *   SENNA_OPEN       a fetch to each node of the present read quorum, while the object is not ready
+ *   SENNA_VOTING     an ask to each participant that has not voted yes
+ *   SENNA_FINISHING  the outcome to each participant that has not said done (where votes were never asked for, to each contacted node); to any
+ *                    other node, after a commit, a yield where it owns a rival that was named
  *
  * node    the node that the message is for
  * object  an opened object, while SENNA_OPEN

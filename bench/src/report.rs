@@ -57,5 +57,5 @@ fn columns(pair: Pair) -> String {
 
 fn figures(pair: Pair) -> String {
     let Pair { product, rust, .. } = pair;
-    format!("{:.1}\t{:.1}\t{:.1}\t{:.1}\t{:.2}", product.median, product.least, rust.median, rust.least, pair.ratio)
+    format!("{:.1}\t{:.1}\t{:.1}\t{:.1}\t{:.4}", product.median, product.least, rust.median, rust.least, pair.ratio)
 }
