@@ -1,4 +1,4 @@
--- The base's (a): found is what replay in the order of the root's first yes gives. So do (0) and (c) in that order.
+-- The base's (a): found is what replay in the order of the root's first yes gives. (0) and (c) in that order rest on this file too.
 -- The idea: the root is a participant of all. When it votes yes, no writer of what is touched is held there; so each earlier writer in the log
 -- was settled, and if committed applied there; so what was found is the chain's end. And as long as a writer in the log is not settled at the
 -- root, nobody who touches what it writes gets in behind it; so if it commits later, its entry is still the next one, also in the log's order.
