@@ -14,8 +14,8 @@ use Rattle.image.proofs.Each.{each-at, each-all}
 use Rattle.clauses.proofs.Parts.{eq-T, true-T}
 use Rattle.coordinator.specs.declared.Coordinator.{Coordinator}
 use Rattle.record.specs.Record.{recordOf}
-use Rattle.station.specs.Station.{Station, Quiescent}
-use Rattle.station.specs.Buffers.{Buffers, imagesSize, recordsSize, imageAt, recordAt, imageIn, recordIn, stationOf}
+use Rattle.steps.specs.Station.{Station, Quiescent}
+use Rattle.buffers.specs.Buffers.{Buffers, imagesSize, recordsSize, imageAt, recordAt, imageIn, recordIn, stationOf}
 use Rattle.closing.specs.State.{idleAt, allIdle, atRest, holds, holdsAt, releasedAt, released, decided, settledWith, settledAt, allSettled, settled}
 use Rattle.closing.specs.Meaning.{Holding, Released}
 

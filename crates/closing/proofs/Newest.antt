@@ -9,12 +9,12 @@ use lib.Dec.{T, eqb, ltb, eqb→eq}
 use borrow.Author.Tests.{ltb-true, ltb-false, eqb-true, eqb-false}
 use Rattle.mask.specs.Mask.{contains, only, joined}
 use Rattle.mask.proofs.Laws.{only-small, contains-power, contains-joined}
-use Rattle.mask.proofs.Tests.{or-left, or-right, or-cases, T-true}
+use Rattle.mask.proofs.Tests.{or-left, or-right, or-cases}
 use Rattle.clauses.proofs.Parts.{eq-T}
-use Rattle.history.proofs.Quiet.{no-bit}
 use Rattle.image.specs.Layout.{version, value}
 use Rattle.image.proofs.Each.{lt-or-le}
-use Rattle.station.specs.Buffers.{imageAt}
+use Rattle.image.proofs.Marks.{contains-none}
+use Rattle.buffers.specs.Buffers.{imageAt}
 use Rattle.closing.specs.declared.Best.{Best}
 use Rattle.closing.specs.Copies.{copyAt, newerOf, newestOf}
 
@@ -111,7 +111,7 @@ module _ (l : List ℕ) (t : ℕ) where
 
   pub nodes-have : (k n : ℕ) → k ≤ 13 → T (contains (best k .nodes) n) → Has k (best k .version) n
   unfolding newestOf copyAt
-  nodes-have zero n h i = absurd (no-bit n (T-true _ i))
+  nodes-have zero n h i = absurd (subst T (contains-none n) i)
   nodes-have (suc k) n h i = by (newer (best k) (copyAt l t k)) (nodes-have k n (omega arith)) i
     where
       -- the k-th itself

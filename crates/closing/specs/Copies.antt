@@ -7,7 +7,7 @@ use lib.ListN.{length}
 use Rattle.mask.specs.Mask.{only, joined}
 use Rattle.image.specs.Layout.{version, value}
 use Rattle.coordinator.specs.State.{thirteen}
-use Rattle.station.specs.Buffers.{imagesSize, imageAt}
+use Rattle.buffers.specs.Buffers.{imagesSize, imageAt}
 use Rattle.closing.specs.declared.Best.{Best}
 
 -- no copy, and node n's own copy of object t

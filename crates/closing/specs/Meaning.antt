@@ -7,7 +7,7 @@ use Rattle.mask.specs.Mask.{contains}
 use Rattle.image.specs.Layout.{state, serial}
 use Rattle.image.specs.Valid.{held}
 use Rattle.coordinator.specs.State.{thirteen, finishingPhase, committed}
-use Rattle.station.specs.Station.{Station}
+use Rattle.steps.specs.Station.{Station}
 
 -- an image holds the transaction of an owner with a serial
 pub record Holding (l : List ℕ) (o s : ℕ) : Type 0 where

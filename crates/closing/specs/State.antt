@@ -10,7 +10,7 @@ use Rattle.image.specs.Valid.{held, each}
 use Rattle.coordinator.specs.declared.Coordinator.{Coordinator}
 use Rattle.coordinator.specs.State.{thirteen, idlePhase, finishingPhase, committed}
 use Rattle.record.specs.Record.{recordOf}
-use Rattle.station.specs.Buffers.{imagesSize, recordsSize, imageAt, recordAt}
+use Rattle.buffers.specs.Buffers.{imagesSize, recordsSize, imageAt, recordAt}
 
 -- ---- at rest: every coordinator is idle
 unfoldable pub idleAt : List ℕ → ℕ → Bool

@@ -74,7 +74,7 @@ fn newest_copy(images: &[u8], object: u8) -> Best
 fn newest(images: &[u8], object: u8) -> Best
     ensures { λ r. ⌜ r ≡ newest (now (images .entry)) object ⌝ }
 {
-    if images.len() == station::IMAGES {
+    if images.len() == buffers::IMAGES {
         newest_copy(images, object)
     } else {
         none()

@@ -4,7 +4,7 @@ ghost use mathlib.Core.Bool.{_&&_};
 ghost use Prim.Native.Nat.{_<_};
 ghost use lib.ListN.{length};
 ghost use Rattle.record.specs.Record.{recordOf};
-ghost use Rattle.station.specs.Buffers.{imageAt, recordAt};
+ghost use Rattle.buffers.specs.Buffers.{imageAt, recordAt};
 ghost use Rattle.closing.specs.State.{idleAt, allIdle, atRest, holds, holdsAt, released, decided, settledWith, settledAt, allSettled, settled};
 use crate::wide;
 use coordinator::COMMITTED;
@@ -50,7 +50,7 @@ fn all_idle(records: &[u8]) -> bool
 pub(crate) fn at_rest(records: &[u8]) -> bool
     ensures { λ r. ⌜ r ≡ atRest (now (records .entry)) ⌝ }
 {
-    if records.len() == station::RECORDS {
+    if records.len() == buffers::RECORDS {
         all_idle(records)
     } else {
         false
@@ -130,8 +130,8 @@ pub(crate) fn settled(images: &[u8], records: &[u8]) -> bool
     ensures { λ r. ⌜ r ≡ settled (now (images .entry)) (now (records .entry)) ⌝ }
 {
     if both(
-        images.len() == station::IMAGES,
-        records.len() == station::RECORDS,
+        images.len() == buffers::IMAGES,
+        records.len() == buffers::RECORDS,
     ) {
         all_settled(images, records)
     } else {

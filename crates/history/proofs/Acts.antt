@@ -32,7 +32,7 @@ use Rattle.replica.proofs.Kept.{keeps-entered, fresh-state, or-split}
 use Rattle.replica.proofs.Taken.{Taken}
 use Rattle.replica.proofs.After.{here-last, listedOwner, entered-copy, entered-owner, fetch-copy, fetch-owner, no-copy, no-owner, yes-copy, yes-owner}
 use Rattle.replica.proofs.After.{commit-copy, abort-copy, outcome-owner, early-copy, early-owner}
-use Rattle.station.specs.Station.{Station, putAt, withImage}
+use Rattle.steps.specs.Station.{Station, putAt, withImage}
 use Rattle.protocol.specs.Table.{pick, In}
 use Rattle.protocol.specs.State.{Tx, Tx-discrete, fresh, committed, aborted, over, listed, held, History, State, Writes, Touches, Held}
 use Rattle.protocol.specs.Transitions.{doList, CanList, list, doCopy, copy, doNo, voteNo, doYes, CanYes, voteYes, doApply, CanApply, apply, doDrop, CanDrop}

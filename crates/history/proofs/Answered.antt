@@ -25,8 +25,8 @@ use Rattle.clauses.proofs.Messages.{vote-owner}
 use Rattle.clauses.proofs.Deliver.{receive-keeps}
 use Rattle.clauses.proofs.Deliveries.{CopyFitting, YesFitting, DoneFitting, OpenOrVoting, copiedObject, afterCopy, saidYes, named, saidDone}
 use Rattle.clauses.proofs.Deliveries.{receive-cases}
-use Rattle.station.specs.Station.{Station, withRecord, without}
-use Rattle.station.specs.Step.{delivery, Outcome, refusedWith, taken, takenOut, atCoordinator}
+use Rattle.steps.specs.Station.{Station, withRecord, without}
+use Rattle.steps.specs.Step.{delivery, Outcome, refusedWith, taken, takenOut, atCoordinator}
 use Rattle.protocol.specs.Table.{In}
 use Rattle.protocol.specs.State.{Tx, tx-path}
 use Rattle.protocol.specs.Proof.Tables.{on}

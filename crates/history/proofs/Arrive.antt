@@ -15,7 +15,7 @@ use Rattle.image.proofs.Sound.{Sound}
 use Rattle.replica.specs.Receive.{step}
 use Rattle.replica.proofs.Kept.{keeps-step}
 use Rattle.replica.proofs.Taken.{Taken}
-use Rattle.station.specs.Station.{Station, putAt, withImage, without}
+use Rattle.steps.specs.Station.{Station, putAt, withImage, without}
 use Rattle.protocol.specs.Table.{In}
 use Rattle.protocol.specs.State.{Tx, Contents, History, State}
 use Rattle.protocol.specs.Proof.Tables.{on}
@@ -79,7 +79,7 @@ module _ (st : Station) (L : Ledger) (F : Past) (w : World st L F) (n : ℕ) (b 
   told p = withDelivered (withPut L pool p) b 0 p
 
   abbrev next : List (List ℕ) → Station
-  next pool' = record { images = putAt (st .images) n image; records = st .records; pool = pool'; on = st .on }
+  next pool' = record { images = putAt (st .images) n image; records = st .records; pool = pool'; own = st .own }
 
   valid-next : (pool' : List (List ℕ)) → ((y : List ℕ) → In y pool' → Bytes y) → Valid (next pool')
   valid-next pool' f = record {
@@ -125,7 +125,7 @@ module _ (st : Station) (L : Ledger) (F : Past) (w : World st L F) (n : ℕ) (b 
         → ((d : Done) → In d (donesPut b p (L .dones)) → In d (L .dones) ⊎ Late (τ .ends) (d .node) (d .tx))
         → World (next pool') (told p) (More F (next pool'))
     arrived p pool' e f g gp h =
-        let sim' = by-pool (withImage st n image) (a .log-after) (a .sim-after) pool' (st .on) (λ y i. on (g y i) (λ j. inl (sub y j)) (λ z. inr (z .0))) in
+        let sim' = by-pool (withImage st n image) (a .log-after) (a .sim-after) pool' (st .own) (λ y i. on (g y i) (λ j. inl (sub y j)) (λ z. inr (z .0))) in
         let bk = w .books in
         record {
           state = τ;

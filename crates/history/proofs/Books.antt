@@ -14,7 +14,7 @@ use Rattle.coordinator.specs.declared.Coordinator.{Coordinator}
 use Rattle.coordinator.specs.System.{tree}
 use Rattle.coordinator.specs.State.{idlePhase, openPhase, votingPhase, finishingPhase, objectAt}
 use Rattle.clauses.proofs.Facts.{Meets}
-use Rattle.station.specs.Station.{Station, putAt}
+use Rattle.steps.specs.Station.{Station, putAt}
 use Rattle.protocol.specs.Table.{In}
 use Rattle.protocol.specs.Rules.{unused, read, write}
 use Rattle.protocol.specs.State.{Tx, fresh, voting, committed, Contents, History, State}
@@ -143,7 +143,7 @@ module _ (F : Past) (st : Station) (σ : State ℕ) (l : List Tx) (sim : Sim st 
 
 -- ---- a step that is no transition and changes one record: a host call, or a message that is taken out or kept
 abbrev pub changed : Station → ℕ → Coordinator → List (List ℕ) → Station
-changed st n c pool = record { images = st .images; records = putAt (st .records) n c; pool = pool; on = st .on }
+changed st n c pool = record { images = st .images; records = putAt (st .records) n c; pool = pool; own = st .own }
 
 module _ (st : Station) (L : Ledger) (F : Past) (w : World st L F) (n : ℕ) (c' : Coordinator) (pool : List (List ℕ)) where
   abbrev after : Station
@@ -168,7 +168,7 @@ module _ (st : Station) (L : Ledger) (F : Past) (w : World st L F) (n : ℕ) (c'
       → Shows c' (st .records n .serial) t v)
       → World after L' (More F after)
   quiet L' ow m sub lp ll ld lr le lq f =
-      let sim' = by-none st (w .log) (w .sim) n c' pool (st .on) ow (λ b i. inl (sub b i)) in
+      let sim' = by-none st (w .log) (w .sim) n c' pool (st .own) ow (λ b i. inl (sub b i)) in
       let meets = put-all (λ (i : ℕ) (c : Coordinator). Meets tree c) (st .records) n c' m (λ i e. w .valid .records i) in
       let b = w .books in
       record {

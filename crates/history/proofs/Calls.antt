@@ -28,11 +28,10 @@ use Rattle.clauses.proofs.Facts.{Meets}
 use Rattle.clauses.proofs.Cases.{either-of}
 use Rattle.clauses.proofs.Quorums.{tree-quorums}
 use Rattle.clauses.proofs.Keep.{begin-keeps, open-keeps, set-keeps, reselect-keeps, request-keeps, abort-keeps}
-use Rattle.station.proofs.Hosted.{off-number}
-use Rattle.station.specs.Station.{Station, withRecord}
-use Rattle.station.specs.Step.{Call, begin, openRead, openWrite, setValue, found, reselect, requestCommit, abort, Outcome, refusedWith, taken, whenOff}
-use Rattle.station.specs.Step.{hosted}
-use Rattle.station.specs.Run.{eventOf}
+use Rattle.steps.proofs.Nodes.{off-number}
+use Rattle.steps.specs.Station.{Station, withRecord}
+use Rattle.steps.specs.Step.{Call, begin, openRead, openWrite, setValue, found, reselect, requestCommit, abort, Outcome, refusedWith, taken, whenOff, hosted}
+use Rattle.steps.specs.Run.{eventOf}
 use Rattle.protocol.specs.Proof.Tables.{on}
 use Rattle.history.specs.Ledger.{Ledger, withMode, noted, note}
 use Rattle.replica.proofs.Delivered.{or-neither}
@@ -73,7 +72,7 @@ module _ (P : Outcome → Type 0) (st : Station) (n : ℕ) (rs : List Refusal) (
 
   pub host-cases : P (hosted st n (stepOf (firstOf rs) answer c c'))
   unfolding hosted stepOf
-  host-cases = by-number (contains (st .on) n) (eqb (firstOf rs) 0) refl
+  host-cases = by-number (contains (st .own .on) n) (eqb (firstOf rs) 0) refl
 
 pub told-still : {L : Ledger} → SameTold L L
 told-still = record { serials = refl; modes = refl; news = refl; parties = refl }

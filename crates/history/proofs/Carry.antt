@@ -10,7 +10,7 @@ use lib.ListN.{getD}
 use borrow.Author.Tests.{eqb-true, eqb-false}
 use Rattle.coordinator.specs.declared.Coordinator.{Coordinator}
 use Rattle.coordinator.specs.State.{noObject}
-use Rattle.station.specs.Station.{Station, putAt, sent}
+use Rattle.steps.specs.Station.{Own, Station, putAt, sent}
 use Rattle.protocol.specs.Table.{In}
 use Rattle.protocol.specs.State.{Tx, fresh, Contents, Copy, Votes, History, Chain, State}
 use Rattle.protocol.specs.Transitions.{byCoordinator, Step}
@@ -100,11 +100,11 @@ pub reads-still : (st : Station) (σ : State ℕ) (h : History ℕ) (ch : Chain 
 reads-still st σ h ch r = record { r-version = r .r-version; r-value = r .r-value; r-last = r .r-last; r-state = r .r-state }
 
 -- ---- a step by none: the images stay, one record changes
-pub by-none : {σ : State ℕ} (st : Station) (l : List Tx) → Sim st σ l → (n : ℕ) (c : Coordinator) (pool : List (List ℕ)) (up : ℕ)
+pub by-none : {σ : State ℕ} (st : Station) (l : List Tx) → Sim st σ l → (n : ℕ) (c : Coordinator) (pool : List (List ℕ)) (own : Own)
     → Owner (σ .history) (σ .votes) (σ .sent) n c
     → ((b : List ℕ) → In b pool → In b (st .pool) ⊎ Tells (σ .history) (σ .votes) (σ .sent) b)
-    → Sim (record { images = st .images; records = putAt (st .records) n c; pool = pool; on = up }) σ l
-by-none {σ = σ} st l sim n c pool up ow new = record {
+    → Sim (record { images = st .images; records = putAt (st .records) n c; pool = pool; own = own }) σ l
+by-none {σ = σ} st l sim n c pool own ow new = record {
   kept = sim .kept;
   reads = sim .reads;
   owners = put-all (Owner (σ .history) (σ .votes) (σ .sent)) (st .records) n c ow (λ i e. sim .owners i);
@@ -112,8 +112,8 @@ by-none {σ = σ} st l sim n c pool up ow new = record {
 }
 
 -- only the pool changes, or who is on
-pub by-pool : {σ : State ℕ} (st : Station) (l : List Tx) → Sim st σ l → (pool : List (List ℕ)) (up : ℕ)
+pub by-pool : {σ : State ℕ} (st : Station) (l : List Tx) → Sim st σ l → (pool : List (List ℕ)) (own : Own)
     → ((b : List ℕ) → In b pool → In b (st .pool) ⊎ Tells (σ .history) (σ .votes) (σ .sent) b)
-    → Sim (record { images = st .images; records = st .records; pool = pool; on = up }) σ l
-by-pool st l sim pool up new =
+    → Sim (record { images = st .images; records = st .records; pool = pool; own = own }) σ l
+by-pool st l sim pool own new =
     record { kept = sim .kept; reads = sim .reads; owners = sim .owners; waits = λ b i. on (new b i) (λ j. sim .waits b j) (λ t. t) }

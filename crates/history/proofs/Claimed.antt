@@ -25,9 +25,9 @@ use Rattle.coordinator.specs.State.{eight, idlePhase, idleAfter, placeOf, objec
 use Rattle.coordinator.specs.Calls.{foundRefusals, foundOf}
 use Rattle.coordinator.proofs.Refusals.{clear}
 use Rattle.clauses.proofs.Places.{place-open}
-use Rattle.station.specs.Station.{Station, withRecord}
-use Rattle.station.specs.Step.{Call, found, Outcome, refusedWith, taken, hosted, whenOff, step}
-use Rattle.station.specs.Run.{after}
+use Rattle.steps.specs.Station.{Station, withRecord}
+use Rattle.steps.specs.Step.{Call, found, Outcome, refusedWith, taken, hosted, whenOff, step}
+use Rattle.steps.specs.Run.{after}
 use Rattle.protocol.specs.Table.{In, Suffix, times, select}
 use Rattle.protocol.specs.Rules.{unused, write}
 use Rattle.protocol.specs.State.{Tx, Tx-discrete, committed, State}
@@ -47,7 +47,7 @@ use Rattle.history.proofs.Quorums.{quorums, rules, top, of-mask}
 use Rattle.history.proofs.Sim.{tx, Match}
 use Rattle.history.proofs.Books.{Decided, Past, More, World}
 use Rattle.history.proofs.Tests.{not-false}
-use Rattle.station.proofs.Hosted.{off-number}
+use Rattle.steps.proofs.Nodes.{off-number}
 use Rattle.history.proofs.Theorem.{Good, good-next, good-past, blank-good}
 use Rattle.history.proofs.Polls.{Counts, blank-counts, counts-next}
 use Rattle.history.proofs.Meaning.{note-told, ripe-told, says-ripens, ripens-says}
@@ -179,7 +179,7 @@ module _ (st : Station) (L : Ledger) (F : Past) (g : Good st L F) where
 found-taken : (st : Station) (n t : ℕ) → step st (found n t) .number ≡ 0
     → (firstOf (foundRefusals tree (st .records n) n t) ≡ 0) × (step st (found n t) .answer ≡ objectAt (st .records n) t .value)
 unfolding step hosted foundOf stepOf
-found-taken st n t e = by (contains (st .on) n) (eqb number 0) refl e
+found-taken st n t e = by (contains (st .own .on) n) (eqb number 0) refl e
   where
     c : Coordinator
     c = st .records n

@@ -15,7 +15,7 @@ use Rattle.quorum.specs.Quorum.{isQuorum}
 use Rattle.coordinator.specs.declared.Coordinator.{Coordinator}
 use Rattle.coordinator.specs.State.{openPhase, votingPhase, finishingPhase, placeOf, objectAt, isOpen, awaited, idleAfter}
 use Rattle.coordinator.specs.Calls.{withPhase, requested, endedAborted}
-use Rattle.station.specs.Station.{Station, putAt}
+use Rattle.steps.specs.Station.{Station, putAt}
 use Rattle.protocol.specs.Table.{put, In}
 use Rattle.protocol.specs.Rules.{unused}
 use Rattle.protocol.specs.State.{Tx, Tx-discrete, fresh, voting, committed, aborted, Contents, State}
@@ -52,7 +52,7 @@ module _ (st : Station) (σ : State ℕ) (l : List Tx) (sim : Sim st σ l) (n : 
   w = sim .owners n
 
   abbrev withIt : Coordinator → List (List ℕ) → Station
-  withIt d pool = record { images = st .images; records = putAt (st .records) n d; pool = pool; on = st .on }
+  withIt d pool = record { images = st .images; records = putAt (st .records) n d; pool = pool; own = st .own }
 
   module _ (party : ℕ) (open-now : c .phase ≡ openPhase) (counts : isQuorum Write party ≡ true)
       (placed : (t : ℕ) → isOpen c t ≡ true → objectAt c t .object ≡ t) where

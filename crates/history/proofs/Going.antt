@@ -30,7 +30,7 @@ use Rattle.clauses.proofs.Sets.{node-known, within-left, within-right}
 use Rattle.clauses.proofs.Cases.{step-keeps}
 use Rattle.clauses.proofs.Messages.{vote-owner}
 use Rattle.clauses.proofs.Deliveries.{YesFitting, DoneFitting, Endings, abort-cases, saidYes, saidDone, receive-cases}
-use Rattle.station.specs.Station.{Station}
+use Rattle.steps.specs.Station.{Station}
 use Rattle.protocol.specs.Proof.Tables.{on}
 use Rattle.history.proofs.Tests.{and-true, not-false}
 use Rattle.history.proofs.Quiet.{no-bit, agreed-by}

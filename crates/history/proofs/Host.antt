@@ -20,7 +20,7 @@ use Rattle.arrivals.specs.Receive.{withCopy}
 use Rattle.wire.specs.declared.Entry.{Entry}
 use Rattle.clauses.proofs.Facts.{Meets}
 use Rattle.clauses.proofs.Places.{place-open}
-use Rattle.station.specs.Station.{Station}
+use Rattle.steps.specs.Station.{Own, Station}
 use Rattle.protocol.specs.Table.{put, put2, In}
 use Rattle.protocol.specs.Rules.{Mode, unused}
 use Rattle.protocol.specs.State.{Tx, Tx-discrete, fresh, committed}
@@ -392,13 +392,13 @@ module _ (st : Station) (L : Ledger) (F : Past) (w : World st L F) where
   abbrev True : List ℕ → Type 0
   True b = Tells (w .state .history) (w .state .votes) (w .state .sent) b
 
-  pub steady : (pool : List (List ℕ)) (up : ℕ) (L' : Ledger) → ((y : List ℕ) → In y pool → In y (st .pool) ⊎ (True y × Bytes y)) → L' .pool ≡ pool
+  pub steady : (pool : List (List ℕ)) (own : Own) (L' : Ledger) → ((y : List ℕ) → In y pool → In y (st .pool) ⊎ (True y × Bytes y)) → L' .pool ≡ pool
       → ((y : List ℕ) → In y (L' .puts) → In y (L .puts) ⊎ True y) → L' .log ≡ L .log → L' .committed ≡ L .committed → L' .dones ≡ L .dones → SameTold L L'
-      → World (record { images = st .images; records = st .records; pool = pool; on = up }) L'
-      (More F (record { images = st .images; records = st .records; pool = pool; on = up }))
-  steady pool up L' new a puts b d e told =
-      let st' : Station = record { images = st .images; records = st .records; pool = pool; on = up } in
-      let sim' = by-pool st (w .log) (w .sim) pool up (λ y i. on (new y i) inl (λ z. inr (z .0))) in
+      → World (record { images = st .images; records = st .records; pool = pool; own = own }) L'
+      (More F (record { images = st .images; records = st .records; pool = pool; own = own }))
+  steady pool own L' new a puts b d e told =
+      let st' : Station = record { images = st .images; records = st .records; pool = pool; own = own } in
+      let sim' = by-pool st (w .log) (w .sim) pool own (λ y i. on (new y i) inl (λ z. inr (z .0))) in
       let bk = w .books in
       record {
         state = w .state;
@@ -422,12 +422,12 @@ module _ (st : Station) (L : Ledger) (F : Past) (w : World st L F) where
       }
 
   -- fewer messages wait, or others are on; nothing is put
-  pub fewer : (pool : List (List ℕ)) (up : ℕ) (L' : Ledger) → ((y : List ℕ) → In y pool → In y (st .pool)) → L' .pool ≡ pool → L' .log ≡ L .log
+  pub fewer : (pool : List (List ℕ)) (own : Own) (L' : Ledger) → ((y : List ℕ) → In y pool → In y (st .pool)) → L' .pool ≡ pool → L' .log ≡ L .log
       → L' .dones ≡ L .dones → L' .puts ≡ L .puts → L' .committed ≡ L .committed → SameTold L L'
-      → World (record { images = st .images; records = st .records; pool = pool; on = up }) L'
-      (More F (record { images = st .images; records = st .records; pool = pool; on = up }))
-  fewer pool up L' sub a b c cp d told = steady pool up L' (λ y i. inl (sub y i)) a (λ y i. inl (subst (In y) cp i)) b d c told
+      → World (record { images = st .images; records = st .records; pool = pool; own = own }) L'
+      (More F (record { images = st .images; records = st .records; pool = pool; own = own }))
+  fewer pool own L' sub a b c cp d told = steady pool own L' (λ y i. inl (sub y i)) a (λ y i. inl (subst (In y) cp i)) b d c told
 
   -- the same station once more
   pub again : World st L (More F st)
-  again = fewer (st .pool) (st .on) L (λ y i. i) (w .books .pool-as) refl refl refl refl (record { serials = refl; modes = refl; news = refl; parties = refl })
+  again = fewer (st .pool) (st .own) L (λ y i. i) (w .books .pool-as) refl refl refl refl (record { serials = refl; modes = refl; news = refl; parties = refl })

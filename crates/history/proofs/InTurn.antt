@@ -18,7 +18,7 @@ use Rattle.image.proofs.Blanks.{blank-zero}
 use Rattle.coordinator.specs.declared.Coordinator.{Coordinator}
 use Rattle.coordinator.specs.State.{idlePhase, awaited, idleAfter}
 use Rattle.arrivals.specs.Receive.{forReplica}
-use Rattle.station.specs.Station.{Station, blankStation, putAt}
+use Rattle.steps.specs.Station.{Own, Station, blankStation, putAt}
 use Rattle.protocol.specs.Table.{In}
 use Rattle.protocol.specs.Proof.Tables.{on}
 use Rattle.history.proofs.Carry.{put-all}
@@ -79,9 +79,9 @@ module _ (st : Station) (t : InTurn st) where
       (subst (Behind (st .images n) o) (t .not-over n o q .present) (t .said-done n o e))
 
   -- ---- another pool, whoever is on
-  pub pool-turn : (pool : List (List ℕ)) (up : ℕ) → ((b : List ℕ) → In b pool → In b (st .pool) ⊎ Timely (st .images) (st .records) b)
-      → InTurn (record { images = st .images; records = st .records; pool = pool; on = up })
-  pool-turn pool up new = record {
+  pub pool-turn : (pool : List (List ℕ)) (own : Own) → ((b : List ℕ) → In b pool → In b (st .pool) ⊎ Timely (st .images) (st .records) b)
+      → InTurn (record { images = st .images; records = st .records; pool = pool; own = own })
+  pool-turn pool own new = record {
     below = t .below;
     not-over = t .not-over;
     said-yes = t .said-yes;
@@ -97,7 +97,7 @@ module _ (st : Station) (t : InTurn st) where
     pub yes : (i : ℕ) → contains (c' .yes) i ≡ true → Bound (st .images i) n (c' .serial)
     pub done : (i : ℕ) → contains (c' .done) i ≡ true → Behind (st .images i) n (c' .serial)
 
-  module _ (n : ℕ) (c' : Coordinator) (g : Goes n c') (pool : List (List ℕ)) (up : ℕ) (sub : (b : List ℕ) → In b pool → In b (st .pool)) where
+  module _ (n : ℕ) (c' : Coordinator) (g : Goes n c') (pool : List (List ℕ)) (own : Own) (sub : (b : List ℕ) → In b pool → In b (st .pool)) where
     abbrev records : ℕ → Coordinator
     records = putAt (st .records) n c'
 
@@ -118,7 +118,7 @@ module _ (st : Station) (t : InTurn st) where
       a-done = w .a-done;
     }
 
-    pub record-turn : InTurn (record { images = st .images; records = records; pool = pool; on = up })
+    pub record-turn : InTurn (record { images = st .images; records = records; pool = pool; own = own })
     record-turn = record {
       below = λ i o. put-all (λ (o : ℕ) (c : Coordinator). serial (st .images i) o ≤ c .serial) (st .records) n c'
           (let h = t .below i n in let k = g .rises in omega (arith, h, k)) (λ o e. t .below i o) o;
@@ -174,9 +174,9 @@ module _ (st : Station) (t : InTurn st) where
       a-done = λ e. behind-still (fromOf b) (ownerOf b) (serialOf b) (w .a-done e);
     }
 
-    pub image-turn : (pool : List (List ℕ)) (up : ℕ) → ((b : List ℕ) → In b pool → In b (st .pool) ⊎ Timely images (st .records) b)
-        → InTurn (record { images = images; records = st .records; pool = pool; on = up })
-    image-turn pool up new = record {
+    pub image-turn : (pool : List (List ℕ)) (own : Own) → ((b : List ℕ) → In b pool → In b (st .pool) ⊎ Timely images (st .records) b)
+        → InTurn (record { images = images; records = st .records; pool = pool; own = own })
+    image-turn pool own new = record {
       below = put-all (λ (i : ℕ) (j : List ℕ). (w : ℕ) → serial j w ≤ st .records w .serial) (st .images) n k
           (λ w. fair-after moves w .0) (λ i e. t .below i);
       not-over = put-all (λ (i : ℕ) (j : List ℕ). (w : ℕ) → state j w ≢ over → Awaited (st .records w) i (serial j w)) (st .images) n k

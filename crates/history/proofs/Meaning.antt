@@ -25,10 +25,10 @@ use Rattle.arrivals.specs.Receive.{forReplica, receiveOf}
 use Rattle.clauses.proofs.Parts.{on-cond, true-T, by-test}
 use Rattle.clauses.proofs.Messages.{vote-owner}
 use Rattle.clauses.proofs.Laws.{Commits, commit-needs-every-yes}
-use Rattle.station.specs.Station.{Station}
-use Rattle.station.specs.Step.{Call, begin, openRead, openWrite, setValue, found, reselect, requestCommit, abort, send, delivery, drop, switch}
-use Rattle.station.specs.Step.{Outcome, full, answered, atReplica, atCoordinator, arriving, deliveryOf, step}
-use Rattle.station.specs.Run.{Event, eventOf}
+use Rattle.steps.specs.Station.{Station}
+use Rattle.steps.specs.Step.{Call, begin, openRead, openWrite, setValue, found, reselect, requestCommit, abort, send, delivery, drop, switch, Outcome, full}
+use Rattle.steps.specs.Step.{answered, atReplica, atCoordinator, arriving, deliveryOf, step}
+use Rattle.steps.specs.Run.{Event, eventOf}
 use Rattle.protocol.specs.Table.{In}
 use Rattle.protocol.specs.State.{Tx, tx-path}
 use Rattle.protocol.specs.Proof.Tables.{on}
@@ -146,7 +146,7 @@ module _ (st : Station) (L : Ledger) (F : Past) (B : Ballots) (g : Good st L F) 
   pub record Committing (j : ℕ) (b : List ℕ) : Type 0 where
     pub waits : j < length (st .pool)
     pub checked : checkOf b ≡ 0
-    pub is-on : contains (st .on) (toOf b) ≡ true
+    pub is-on : contains (st .own .on) (toOf b) ≡ true
     pub commits : Commits (st .records (toOf b)) (toOf b) b
 
   module _ (j : ℕ) (kept : Bool) where
@@ -169,7 +169,7 @@ module _ (st : Station) (L : Ledger) (F : Past) (B : Ballots) (g : Good st L F) 
         let d = deliver longest (st .images n) n b in
         on-cond If (ltb j (length (st .pool))) _ _
         (λ p. on-cond If (eqb (checkOf b) 0) _ _
-        (λ q. on-cond If (contains (st .on) n) _ _
+        (λ q. on-cond If (contains (st .own .on) n) _ _
         (λ u. on-cond If (forReplica (kindOf b)) _ _
         (λ f. on-cond If (eqb (d .number) 0) _ _ (λ i. silent-if n (d .image) (d .answer)) (λ i e. absurd (let z : ⊥ = omega arith in z)))
         (λ f. on-cond If (eqb (receiveOf tree (st .records n) n b .number) 0) _ _

@@ -31,9 +31,9 @@ use Rattle.coordinator.specs.State.{awaited}
 use Rattle.arrivals.specs.Receive.{answers, copyFits, copyTaken, withYes, voteTaken, withDone, doneTaken, yieldTaken, delivered, forReplica}
 use Rattle.arrivals.specs.Receive.{receiveRefusals, receiveOf}
 use Rattle.clauses.proofs.Deliveries.{saidYes, saidDone}
-use Rattle.station.specs.Station.{Station, poolSize, withImage, withRecord}
-use Rattle.station.specs.Step.{Call, delivery, Outcome, refusedWith, taken, putting, takenOut, full, answered, atReplica, atCoordinator, arriving, deliveryOf}
-use Rattle.station.specs.Step.{step}
+use Rattle.steps.specs.Station.{Station, poolSize, withImage, withRecord}
+use Rattle.steps.specs.Step.{Call, delivery, Outcome, refusedWith, taken, putting, takenOut, full, answered, atReplica, atCoordinator, arriving, deliveryOf}
+use Rattle.steps.specs.Step.{step}
 use Rattle.protocol.specs.Table.{In}
 use Rattle.protocol.specs.Proof.Tables.{on, clash}
 use Rattle.history.specs.Ledger.{Ledger}
@@ -194,7 +194,7 @@ module _ (st : Station) (L : Ledger) (F : Past) (w : World st L F) (t : InTurn s
       (lt-ltb k (length (st .pool)) waits)
       ∙ ap (λ (x : Bool). cond x (arriving st k kept b) (refusedWith (checkOf b) st)) (eq-eqb (checkOf b) 0 (w .sim .waits b waiting .well))
 
-  arrives-at : (kept up order : Bool) → contains (st .on) (toOf b) ≡ up → forReplica (kindOf b) ≡ order
+  arrives-at : (kept up order : Bool) → contains (st .own .on) (toOf b) ≡ up → forReplica (kindOf b) ≡ order
       → step st (delivery k kept) ≡ cond up (cond order (atReplica st k kept (toOf b) b) (atCoordinator st k kept (toOf b) b)) (taken 0 (takenOut st k kept))
   unfolding arriving
   arrives-at kept up order p q = arrives kept
@@ -233,9 +233,9 @@ module _ (st : Station) (L : Ledger) (F : Past) (w : World st L F) (t : InTurn s
   is-full e = let h = ltb-false (length (st .pool)) poolSize (not-true (ltb (length (st .pool)) poolSize) e) in omega (arith, h, room)
 
   pub waiting-number : (kept : Bool) → (step st (delivery k kept) .number ≡ 0) ⊎ Crowded st k kept
-  waiting-number kept = by (contains (st .on) (toOf b)) (forReplica (kindOf b)) refl refl
+  waiting-number kept = by (contains (st .own .on) (toOf b)) (forReplica (kindOf b)) refl refl
     where
-      by : (up order : Bool) → contains (st .on) (toOf b) ≡ up → forReplica (kindOf b) ≡ order → (step st (delivery k kept) .number ≡ 0) ⊎ Crowded st k kept
+      by : (up order : Bool) → contains (st .own .on) (toOf b) ≡ up → forReplica (kindOf b) ≡ order → (step st (delivery k kept) .number ≡ 0) ⊎ Crowded st k kept
       by false order p q = inl (ap (λ (r : Outcome). r .number) (arrives-at kept false order p q))
       by true false p q = inl (ap (λ (r : Outcome). r .number) (arrives-at kept true false p q) ∙ coordinator-number kept q)
       by true true p q =

@@ -41,11 +41,11 @@ use Rattle.clauses.proofs.Quorums.{tree-quorums}
 use Rattle.clauses.proofs.Keep.{request-keeps}
 use Rattle.clauses.proofs.Deliveries.{afterCopy, copiedObject, saidYes, named, saidDone}
 use Rattle.due.specs.Due.{messageDue}
-use Rattle.station.specs.Station.{Station, blankStation, withRecord, without}
-use Rattle.station.specs.Step.{Call, begin, openRead, openWrite, setValue, found, reselect, requestCommit, abort, send, delivery, drop, switch}
-use Rattle.station.specs.Step.{Outcome, refusedWith, taken, putting, full, takenOut, sendNumber, hosted, answered, atReplica, atCoordinator, arriving}
-use Rattle.station.specs.Step.{deliveryOf, dropOf, switchOf, sendOf, step}
-use Rattle.station.specs.Run.{eventOf}
+use Rattle.steps.specs.Station.{Station, blankStation, withRecord, without}
+use Rattle.steps.specs.Step.{Call, begin, openRead, openWrite, setValue, found, reselect, requestCommit, abort, send, delivery, drop, switch, Outcome}
+use Rattle.steps.specs.Step.{refusedWith, taken, putting, full, takenOut, sendNumber, hosted, answered, atReplica, atCoordinator, arriving, deliveryOf}
+use Rattle.steps.specs.Step.{dropOf, switchOf, sendOf, step}
+use Rattle.steps.specs.Run.{eventOf}
 use Rattle.protocol.specs.Table.{put, In}
 use Rattle.protocol.specs.Rules.{read, write}
 use Rattle.protocol.specs.State.{Tx, Tx-discrete, tx-path}
@@ -69,7 +69,7 @@ abbrev CountedBy : Ledger → Ballots → ℕ → Coordinator → Type 0
 CountedBy L B n c = Counted (L .participants) (L .committed) (B .agreed) (B .spoilt) n (c .serial) (c .phase) (c .yes)
 
 pub record Counts (st : Station) (L : Ledger) (B : Ballots) : Type 0 where
-  pub up : B .on ≡ st .on
+  pub up : B .on ≡ st .own .on
   -- what was told committed has every participant's yes
   pub all-agreed : (x : Tx) → In x (L .committed) → Full (L .participants) (B .agreed) x
   pub counted : (n : ℕ) → CountedBy L B n (st .records n)
@@ -100,7 +100,7 @@ module _ (st : Station) (L : Ledger) (F : Past) (B : Ballots) (g : Good st L F) 
 
   -- the records as before, and what is told too
   pool-counts : (images : ℕ → List ℕ) (pool : List (List ℕ)) (L' : Ledger) → L' .participants ≡ L .participants → L' .committed ≡ L .committed
-      → Counts (record { images = images; records = st .records; pool = pool; on = st .on }) L' B
+      → Counts (record { images = images; records = st .records; pool = pool; own = st .own }) L' B
   pool-counts images pool L' p c = record {
     up = k .up;
     all-agreed = λ x i. subst (λ (P : Tx → ℕ). Full P (B .agreed) x) (sym p) (k .all-agreed x (subst (In x) c i));
@@ -275,7 +275,7 @@ module _ (st : Station) (L : Ledger) (F : Past) (B : Ballots) (g : Good st L F) 
         ap (λ (l : List (List ℕ)). withDelivered (withPut L (cond kept l (without j l)) p) (getD l j []) answer p) (g .world .books .pool-as)
         ∙ ap (λ (y : List ℕ). withDelivered (withPut L pool p) y answer p) (sym is-b)
 
-    pub as-polled : polled L B call ≡ cond (contains (st .on) (toOf b)) (heard L B b) B
+    pub as-polled : polled L B call ≡ cond (contains (st .own .on) (toOf b)) (heard L B b) B
     unfolding polled
     as-polled = ap (λ (l : List (List ℕ)). delivered L B (getD l j [])) (g .world .books .pool-as) ∙ ap (delivered L B) (sym is-b)
         ∙ ap (λ (o : ℕ). cond (contains o (toOf b)) (heard L B b) B) (k .up)
@@ -287,11 +287,11 @@ module _ (st : Station) (L : Ledger) (F : Past) (B : Ballots) (g : Good st L F) 
     go answer p st' B' e z = subst (λ (L' : Ledger). Counts st' L' (polled L B call)) (sym (as-told answer p)) (subst (Counts st' (told answer p)) (sym e) z)
 
     -- a node that is off hears nothing
-    off-counts : contains (st .on) (toOf b) ≡ false → Next call (taken 0 (takenOut st j kept))
+    off-counts : contains (st .own .on) (toOf b) ≡ false → Next call (taken 0 (takenOut st j kept))
     off-counts e = go 0 none (takenOut st j kept) B (as-polled ∙ ap (λ (t : Bool). cond t (heard L B b) B) e)
         (pool-counts (st .images) pool (told 0 none) refl refl)
 
-    module _ (is-on : contains (st .on) (toOf b) ≡ true) where
+    module _ (is-on : contains (st .own .on) (toOf b) ≡ true) where
       is-heard : polled L B call ≡ heard L B b
       is-heard = as-polled ∙ ap (λ (t : Bool). cond t (heard L B b) B) is-on
 
@@ -555,7 +555,7 @@ module _ (st : Station) (L : Ledger) (F : Past) (B : Ballots) (g : Good st L F) 
 
     arriving-counts : Next call (arriving st j kept b)
     unfolding arriving
-    arriving-counts = on-cond (Next call) (contains (st .on) (toOf b)) _ _
+    arriving-counts = on-cond (Next call) (contains (st .own .on) (toOf b)) _ _
         (λ e. on-cond (Next call) (forReplica (kindOf b)) _ _ (replica-counts e) (λ f. coordinator-counts e)) off-counts
 
   delivery-counts : (j : ℕ) (kept : Bool) → Next (delivery j kept) (deliveryOf st j kept)

@@ -27,7 +27,7 @@ use Rattle.replica.proofs.Spoken.{Named, named-of, done-formed, vote-formed, co
 use Rattle.replica.proofs.Delivered.{entries-of}
 use Rattle.replica.proofs.Late.{late-outcome}
 use Rattle.replica.proofs.Taken.{Taken, fetch-still, ask-still, outcome-cases, turn-outcome}
-use Rattle.station.specs.Station.{Station}
+use Rattle.steps.specs.Station.{Station}
 use Rattle.protocol.specs.Table.{pick, In}
 use Rattle.protocol.specs.State.{Tx, Tx-discrete, fresh, committed, aborted, Copy, Votes, History, State}
 use Rattle.protocol.specs.Proof.Tables.{on, clash, pick-cases}

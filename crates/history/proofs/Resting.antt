@@ -12,8 +12,8 @@ use Rattle.image.specs.Layout.{shape, value, state, stateField}
 use Rattle.image.specs.Valid.{over}
 use Rattle.image.proofs.Each.{lt-or-le}
 use Rattle.image.proofs.Lens.{of-out}
-use Rattle.station.specs.Station.{Station, Quiescent}
-use Rattle.station.specs.Step.{Call}
+use Rattle.steps.specs.Station.{Station, Quiescent}
+use Rattle.steps.specs.Step.{Call}
 use Rattle.protocol.specs.State.{Held}
 use Rattle.protocol.specs.Claims.{AllApplied}
 use Rattle.protocol.specs.Proof.Tables.{on, clash}

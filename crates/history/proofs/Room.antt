@@ -23,12 +23,12 @@ use Rattle.arrivals.specs.Receive.{forReplica, receiveOf}
 use Rattle.due.specs.Kind.{dueKind, dueRefusals}
 use Rattle.clauses.proofs.Parts.{on-cond}
 use Rattle.due.specs.Due.{messageDue}
-use Rattle.station.specs.Station.{Station, poolSize, without}
-use Rattle.station.specs.Step.{Call, begin, openRead, openWrite, setValue, found, reselect, requestCommit, abort, send, delivery, drop, switch, step}
-use Rattle.station.specs.Step.{Outcome, refusedWith, taken, putting, full, whenOff, sendNumber, sendOf, hosted, answered, atReplica, atCoordinator, arriving}
-use Rattle.station.specs.Step.{deliveryOf, dropOf, switchOf}
+use Rattle.steps.specs.Station.{Station, poolSize, without}
+use Rattle.steps.specs.Step.{Call, begin, openRead, openWrite, setValue, found, reselect, requestCommit, abort, send, delivery, drop, switch, step, Outcome}
+use Rattle.steps.specs.Step.{refusedWith, taken, putting, full, whenOff, sendNumber, sendOf, hosted, answered, atReplica, atCoordinator, arriving, deliveryOf}
+use Rattle.steps.specs.Step.{dropOf, switchOf}
 use Rattle.history.proofs.Tests.{not-false}
-use Rattle.station.proofs.Hosted.{off-number}
+use Rattle.steps.proofs.Nodes.{off-number}
 
 -- ---- lists
 pub length-without : {A : Type 0} (k : ℕ) (l : List A) → k < length l → length (without k l) + 1 ≡ length l
@@ -51,7 +51,7 @@ module _ (st : Station) (room : length (st .pool) ≤ poolSize) where
 
   hosted-room : (n : ℕ) (s : Step) → Room (hosted st n s)
   unfolding hosted
-  hosted-room n s = either-way Room (contains (st .on) n) _ _ (either-way Room (eqb (s .number) 0) _ _ room room) room
+  hosted-room n s = either-way Room (contains (st .own .on) n) _ _ (either-way Room (eqb (s .number) 0) _ _ room room) room
 
   module _ (k : ℕ) (waits : k < length (st .pool)) where
     taken-less : (kept : Bool) → length (cond kept (st .pool) (without k (st .pool))) ≤ poolSize
@@ -69,7 +69,7 @@ module _ (st : Station) (room : length (st .pool) ≤ poolSize) where
 
     arriving-room : (kept : Bool) (b : List ℕ) → Room (arriving st k kept b)
     unfolding arriving atReplica atCoordinator
-    arriving-room kept b = either-way Room (contains (st .on) (toOf b)) _ _
+    arriving-room kept b = either-way Room (contains (st .own .on) (toOf b)) _ _
         (either-way Room (forReplica (kindOf b)) _ _
         (let d = deliver longest (st .images (toOf b)) (toOf b) b in
         either-way Room (eqb (d .number) 0) _ _ (answered-room kept (toOf b) (d .image) (d .answer)) room)
@@ -106,7 +106,7 @@ module _ (st : Station) (room : length (st .pool) ≤ poolSize) where
       on-cond Room (eqb number 0) (cond (not (eqb kind 0)) (putting (encode a) st) (taken 0 st)) (refusedWith number st)
       (λ e. either-way Room (not (eqb kind 0)) (putting (encode a) st) (taken 0 st)
       (more (st .pool) (encode a) (not-full
-      (send-by (contains (st .on) n) (eqb refused 0) (not (eqb kind 0) && not (wellFormed a)) refused refl (eqb-true number 0 e)))) room)
+      (send-by (contains (st .own .on) n) (eqb refused 0) (not (eqb kind 0) && not (wellFormed a)) refused refl (eqb-true number 0 e)))) room)
       (λ e. room)
 
   pub room-next : (call : Call) → length (step st call .station .pool) ≤ poolSize

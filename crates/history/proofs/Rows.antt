@@ -10,7 +10,7 @@ use native.Mathlib.Decide.{ℕ-discrete}
 use lib.Dec.{eqb, ltb}
 use borrow.Author.Tests.{eqb-true, eqb-false}
 use Rattle.image.specs.Layout.{value, version, holder, serial, state}
-use Rattle.station.specs.Station.{Station, putAt, withImage}
+use Rattle.steps.specs.Station.{Station, putAt, withImage}
 use Rattle.protocol.specs.Table.{put2, putRow}
 use Rattle.protocol.specs.State.{Tx, over, listed, held, State, Writes, writes?}
 use Rattle.protocol.specs.Transitions.{doList, CanList, doCopy, doYes, CanYes, doNo, CanNo, doApply, CanApply, doDrop, CanDrop}
@@ -202,4 +202,4 @@ put-put f n a b = λ k i. same (eqb i n) (f i) k
 
 pub sim-twice : (st : Station) (σ : State ℕ) (l : List Tx) (n : ℕ) (a b : List ℕ) → Sim (withImage (withImage st n a) n b) σ l → Sim (withImage st n b) σ l
 sim-twice st σ l n a b s =
-    subst (λ (f : ℕ → List ℕ). Sim (record { images = f; records = st .records; pool = st .pool; on = st .on }) σ l) (put-put (st .images) n a b) s
+    subst (λ (f : ℕ → List ℕ). Sim (record { images = f; records = st .records; pool = st .pool; own = st .own }) σ l) (put-put (st .images) n a b) s

@@ -29,10 +29,10 @@ use Rattle.replay.specs.Digest.{Digest, largest}
 use Rattle.replay.specs.Layout.{objects, size}
 use Rattle.replay.specs.Sheet.{valueOf}
 use Rattle.replay.proofs.Laws.{Reads, owner-below, blank-law, begun-law, opened-law, valued-law, put-law, committed-law, value-reads}
-use Rattle.station.specs.Station.{Station, blankStation}
-use Rattle.station.specs.Step.{Call, begin, openRead, openWrite, setValue, found, reselect, requestCommit, abort, send, delivery, drop, switch, step}
-use Rattle.station.specs.Step.{Outcome, refusedWith, taken, whenOff, hosted, full, answered, atReplica, atCoordinator, arriving, deliveryOf}
-use Rattle.station.specs.Run.{eventOf, trace}
+use Rattle.steps.specs.Station.{Station, blankStation}
+use Rattle.steps.specs.Step.{Call, begin, openRead, openWrite, setValue, found, reselect, requestCommit, abort, send, delivery, drop, switch, step, Outcome}
+use Rattle.steps.specs.Step.{refusedWith, taken, whenOff, hosted, full, answered, atReplica, atCoordinator, arriving, deliveryOf}
+use Rattle.steps.specs.Run.{eventOf, trace}
 use Rattle.protocol.specs.Table.{In, times}
 use Rattle.protocol.specs.Rules.{unused, read, write}
 use Rattle.protocol.specs.State.{Tx, Tx-discrete, tx-path, committed}
@@ -44,7 +44,7 @@ use Rattle.history.specs.Running.{putIn, telling, keeping, keptFrom, dig
 use Rattle.history.proofs.Sim.{tx}
 use Rattle.history.proofs.Books.{Past, World}
 use Rattle.history.proofs.Tests.{not-false}
-use Rattle.station.proofs.Hosted.{off-number}
+use Rattle.steps.proofs.Nodes.{off-number}
 use Rattle.history.proofs.Theorem.{Good, good-next}
 use Rattle.history.proofs.Claimed.{is-logged-once, always-good}
 use Rattle.history.proofs.Ranks.{is-in, thin-among}
@@ -82,10 +82,10 @@ module _ (st : Station) (L : Ledger) (F : Past) (g : Good st L F) where
 -- ---- an accepted call found its transaction open
 hosted-number : (st : Station) (n : ℕ) (s : Step) → hosted st n s .number ≡ 0 → s .number ≡ 0
 unfolding hosted
-hosted-number st n s e = by (contains (st .on) n) (eqb (s .number) 0) refl e
+hosted-number st n s e = by (contains (st .own .on) n) (eqb (s .number) 0) refl e
   where
     by : (up b : Bool) → eqb (s .number) 0 ≡ b
-        → cond {A = Outcome} up (cond b (taken (s .answer) (Rattle.station.specs.Station.withRecord st n (s .coordinator))) (refusedWith (s .number) st))
+        → cond {A = Outcome} up (cond b (taken (s .answer) (Rattle.steps.specs.Station.withRecord st n (s .coordinator))) (refusedWith (s .number) st))
         (refusedWith (whenOff (s .number)) st) .number ≡ 0 → s .number ≡ 0
     by true true p q = eqb-true (s .number) 0 p
     by true false p q = q
@@ -167,7 +167,7 @@ module _ (st : Station) (k : ℕ) (kept : Bool) where
   unfolding deliveryOf arriving
   commit-of = either-way Told (ltb k (length (st .pool))) _ _
       (either-way Told (eqb (checkOf b) 0) _ _
-      (either-way Told (contains (st .on) (toOf b)) _ _
+      (either-way Told (contains (st .own .on) (toOf b)) _ _
       (either-way Told (forReplica (kindOf b)) _ _ (at-replica (toOf b)) (at-coordinator (toOf b)))
       mute)
       mute)

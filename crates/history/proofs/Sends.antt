@@ -29,9 +29,9 @@ use Rattle.due.specs.Due.{entryFor, entriesOf, fetchTo, askTo, outcomeTo, yield
 use Rattle.due.proofs.Entries.{Stands, open-place, every-entry, entries-only, entries-every}
 use Rattle.coordinator.specs.Calls.{noNode}
 use Rattle.coordinator.proofs.Refusals.{clear}
-use Rattle.station.proofs.Hosted.{off-number}
-use Rattle.station.specs.Station.{Station, withPool}
-use Rattle.station.specs.Step.{send, refusedWith, putting, full, whenOff, sendNumber, sendOf}
+use Rattle.steps.proofs.Nodes.{off-number}
+use Rattle.steps.specs.Station.{Station, withPool}
+use Rattle.steps.specs.Step.{send, refusedWith, putting, full, whenOff, sendNumber, sendOf}
 use Rattle.protocol.specs.Table.{In}
 use Rattle.protocol.specs.Rules.{unused, read, write}
 use Rattle.protocol.specs.State.{Tx, fresh, committed, aborted, Contents, Copy, Votes, History}
@@ -305,7 +305,7 @@ module _ (st : Station) (L : Ledger) (F : Past) (w : World st L F) (n to object 
   put-world : (b : List ℕ) → Bytes b → Tells (w .state .history) (w .state .votes) (w .state .sent) b → (rootYes b ≡ false)
       → World (withPool st (st .pool ++ (b ∷ []))) (withPut L (L .pool) (some b)) (More F (withPool st (st .pool ++ (b ∷ []))))
   put-world b y t quiet =
-      steady st L F w (st .pool ++ (b ∷ [])) (st .on) (withPut L (L .pool) (some b))
+      steady st L F w (st .pool ++ (b ∷ [])) (st .own) (withPut L (L .pool) (some b))
       (λ z i. on (in-append z (st .pool) (b ∷ []) i) inl
       (λ j. on j (λ e. inr (subst (Tells (w .state .history) (w .state .votes) (w .state .sent)) (sym e) t, subst Bytes (sym e) y)) (λ q. absurd q)))
       (ap (λ (l : List (List ℕ)). l ++ (b ∷ [])) (w .books .pool-as))
@@ -325,12 +325,12 @@ module _ (st : Station) (L : Ledger) (F : Past) (w : World st L F) (n to object 
           → Next st L F w (send n to object) (cond x (cond (not y) (putting (encode a) st) (record { number = 0; answer = 0; put = none; station = st }))
           (refusedWith num st))
       by true false p q =
-          let z = allowed (contains (st .on) n) (eqb-true num 0 p) in
+          let z = allowed (contains (st .own .on) n) (eqb-true num 0 p) in
           let t = due-sent st L F w n f to object (known-to (z .0)) (eqb-false kind 0 q) (well-formed (eqb kind 0) (wellFormed a) (z .1) q) in
           put-world (encode a) (t .bytes) (t .tells) (t .no-yes)
       by true true p q = idle-here
         where
           idle-here : World st (withPut L (L .pool) none) (More F st)
-          idle-here = fewer st L F w (st .pool) (st .on) (withPut L (L .pool) none) (λ y i. i) (w .books .pool-as) refl refl refl refl
+          idle-here = fewer st L F w (st .pool) (st .own) (withPut L (L .pool) none) (λ y i. i) (w .books .pool-as) refl refl refl refl
               (record { serials = refl; modes = refl; news = refl; parties = refl })
       by false y p q = refused-next st L F w (send n to object) num (eqb-false num 0 p)

@@ -20,9 +20,8 @@ use Rattle.replica.proofs.Spoken.{named-of}
 use Rattle.replica.proofs.Taken.{Taken, taken}
 use Rattle.coordinator.specs.Calls.{noNode}
 use Rattle.arrivals.specs.Receive.{forReplica}
-use Rattle.station.specs.Station.{Station, withImage, withOn, withPool, without}
-use Rattle.station.specs.Step.{delivery, drop, switch, refusedWith, full, takenOut, answered, atReplica, atCoordinator, arriving, deliveryOf}
-use Rattle.station.specs.Step.{dropOf, switchOf}
+use Rattle.steps.specs.Station.{Station, withImage, nowOn, withOn, withPool, without}
+use Rattle.steps.specs.Step.{delivery, drop, switch, refusedWith, full, takenOut, answered, atReplica, atCoordinator, arriving, deliveryOf, dropOf, switchOf}
 use Rattle.protocol.specs.Table.{In}
 use Rattle.protocol.specs.State.{Tx, fresh, committed, aborted}
 use Rattle.protocol.specs.Proof.Tables.{on, clash}
@@ -155,11 +154,11 @@ module _ (st : Station) (L : Ledger) (F : Past) (w : World st L F) (k : ℕ) (ke
   off-taken : Next st L F w (delivery k kept) (record { number = 0; answer = 0; put = none; station = takenOut st k kept })
   unfolding note
   off-taken = subst (λ (L' : Ledger). World (takenOut st k kept) L' (More F (takenOut st k kept))) (sym (as-told none))
-      (fewer st L F w pool (st .on) (told none) sub refl refl refl refl refl (record { serials = refl; modes = refl; news = refl; parties = refl }))
+      (fewer st L F w pool (st .own) (told none) sub refl refl refl refl refl (record { serials = refl; modes = refl; news = refl; parties = refl }))
 
   pub arriving-next : Next st L F w (delivery k kept) (arriving st k kept b)
   unfolding arriving
-  arriving-next = by (contains (st .on) (toOf b)) (forReplica (kindOf b))
+  arriving-next = by (contains (st .own .on) (toOf b)) (forReplica (kindOf b))
     where
       by : (up r : Bool) → Next st L F w (delivery k kept) (cond up (cond r (atReplica st k kept (toOf b) b) (atCoordinator st k kept (toOf b) b))
           (record { number = 0; answer = 0; put = none; station = takenOut st k kept }))
@@ -188,7 +187,7 @@ module _ (st : Station) (L : Ledger) (F : Past) (w : World st L F) where
     where
       by : (x : Bool) → Next st L F w (drop k) (cond x (record { number = 0; answer = 0; put = none; station = withPool st (without k (st .pool)) })
           (refusedWith 5 st))
-      by true = fewer st L F w (without k (st .pool)) (st .on) (withPut L (without k (L .pool)) none) (λ y i. in-without y k (st .pool) i)
+      by true = fewer st L F w (without k (st .pool)) (st .own) (withPut L (without k (L .pool)) none) (λ y i. in-without y k (st .pool) i)
           (ap (without k) (w .books .pool-as)) refl refl refl refl (record { serials = refl; modes = refl; news = refl; parties = refl })
       by false = refused-next st L F w (drop k) 5 (λ e. let z : ⊥ = omega arith in z)
 
@@ -197,9 +196,9 @@ module _ (st : Station) (L : Ledger) (F : Past) (w : World st L F) where
   switch-next n up = by (noNode n)
     where
       on' : ℕ
-      on' = cond up (joined (st .on) (only n)) (minus (st .on) (only n))
+      on' = cond up (joined (st .own .on) (only n)) (minus (st .own .on) (only n))
 
       by : (x : Bool) → Next st L F w (switch n up) (cond x (refusedWith 4 st) (record { number = 0; answer = 0; put = none; station = withOn st on' }))
       by true = refused-next st L F w (switch n up) 4 (λ e. let z : ⊥ = omega arith in z)
-      by false = fewer st L F w (st .pool) on' L (λ y i. i) (w .books .pool-as) refl refl refl refl
+      by false = fewer st L F w (st .pool) (nowOn (st .own) on') L (λ y i. i) (w .books .pool-as) refl refl refl refl
           (record { serials = refl; modes = refl; news = refl; parties = refl })

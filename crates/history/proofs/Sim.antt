@@ -19,7 +19,7 @@ use Rattle.image.specs.Valid.{nobody}
 use Rattle.coordinator.specs.declared.Object.{Object}
 use Rattle.coordinator.specs.declared.Coordinator.{Coordinator}
 use Rattle.coordinator.specs.State.{openPhase, votingPhase, finishingPhase, noObject, objectAt, isOpen}
-use Rattle.station.specs.Station.{Station}
+use Rattle.steps.specs.Station.{Station}
 use Rattle.protocol.specs.Table.{In}
 use Rattle.protocol.specs.Rules.{Mode, unused, read, write}
 use Rattle.protocol.specs.State.{Tx, fresh, voting, committed, aborted, Contents, Copy, OwnerState, over, listed, held, refused}

@@ -35,10 +35,10 @@ use Rattle.coordinator.proofs.Theorems.{found-leaves}
 use Rattle.clauses.proofs.Cases.{step-keeps}
 use Rattle.clauses.proofs.Deliveries.{Endings, abort-cases, receive-cases}
 use Rattle.due.specs.Due.{entriesOf, fetchTo, askTo, outcomeTo, yieldTo, messageDue}
-use Rattle.station.specs.Station.{Station, blankStation, putAt, without}
-use Rattle.station.specs.Step.{Call, begin, openRead, openWrite, setValue, found, reselect, requestCommit, abort, send, delivery, drop, switch}
-use Rattle.station.specs.Step.{Outcome, refusedWith, taken, putting, full, sendNumber, hosted, answered, atReplica, atCoordinator, arriving, deliveryOf}
-use Rattle.station.specs.Step.{dropOf, switchOf, sendOf}
+use Rattle.steps.specs.Station.{Own, Station, blankStation, putAt, without}
+use Rattle.steps.specs.Step.{Call, begin, openRead, openWrite, setValue, found, reselect, requestCommit, abort, send, delivery, drop, switch, Outcome}
+use Rattle.steps.specs.Step.{refusedWith, taken, putting, full, sendNumber, hosted, answered, atReplica, atCoordinator, arriving, deliveryOf, dropOf}
+use Rattle.steps.specs.Step.{switchOf, sendOf}
 use Rattle.protocol.specs.Table.{In}
 use Rattle.protocol.specs.Proof.Tables.{on}
 use Rattle.history.specs.Claims.{Typed}
@@ -179,21 +179,21 @@ module _ (st : Station) (s : Stamped st) (v : Valid st) (w : Wide st) where
       each b i = on (p b i) (λ j. under-on (st .records (ownerOf b)) (st' .records (ownerOf b)) b (g (ownerOf b)) (under b j)) (λ u. u)
 
   -- one record changed, the pool no larger
-  record-stamped : (n : ℕ) (c : Coordinator) (pool : List (List ℕ)) (on : ℕ) → GoesOn (st .records n) c → ((b : List ℕ) → In b pool → In b (st .pool))
-      → Stamped (record { images = st .images; records = putAt (st .records) n c; pool = pool; on = on })
-  record-stamped n c pool on g sub = moved (record { images = st .images; records = putAt (st .records) n c; pool = pool; on = on })
+  record-stamped : (n : ℕ) (c : Coordinator) (pool : List (List ℕ)) (own : Own) → GoesOn (st .records n) c → ((b : List ℕ) → In b pool → In b (st .pool))
+      → Stamped (record { images = st .images; records = putAt (st .records) n c; pool = pool; own = own })
+  record-stamped n c pool own g sub = moved (record { images = st .images; records = putAt (st .records) n c; pool = pool; own = own })
       (put-all (λ (i : ℕ) (d : Coordinator). GoesOn (st .records i) d) (st .records) n c g (λ i e. same (st .records i))) (λ b i. inl (sub b i))
 
   -- the records as before
-  pool-stamped : (images : ℕ → List ℕ) (pool : List (List ℕ)) (on : ℕ)
+  pool-stamped : (images : ℕ → List ℕ) (pool : List (List ℕ)) (own : Own)
       → ((b : List ℕ) → In b pool → In b (st .pool) ⊎ Under (st .records (ownerOf b)) b)
-      → Stamped (record { images = images; records = st .records; pool = pool; on = on })
-  pool-stamped images pool on p = moved (record { images = images; records = st .records; pool = pool; on = on }) (λ i. same (st .records i)) p
+      → Stamped (record { images = images; records = st .records; pool = pool; own = own })
+  pool-stamped images pool own p = moved (record { images = images; records = st .records; pool = pool; own = own }) (λ i. same (st .records i)) p
 
   hosted-stamped : (n : ℕ) (x : Step) → GoesOn (st .records n) (x .coordinator) → Stamped (hosted st n x .station)
   unfolding hosted
-  hosted-stamped n x g = either-way (λ (r : Outcome). Stamped (r .station)) (contains (st .on) n) _ _
-      (either-way (λ (r : Outcome). Stamped (r .station)) (eqb (x .number) 0) _ _ (record-stamped n (x .coordinator) (st .pool) (st .on) g (λ b i. i)) s) s
+  hosted-stamped n x g = either-way (λ (r : Outcome). Stamped (r .station)) (contains (st .own .on) n) _ _
+      (either-way (λ (r : Outcome). Stamped (r .station)) (eqb (x .number) 0) _ _ (record-stamped n (x .coordinator) (st .pool) (st .own) g (λ b i. i)) s) s
 
   -- a message that names an owner, with a serial and a stamp under its record, put at a pool's end
   put-under : (m : Message) (owner serial stamp : ℕ) → Names owner serial stamp m → (serial < 256 ^ 4) × (stamp < 256 ^ 4)
@@ -224,7 +224,7 @@ module _ (st : Station) (s : Stamped st) (v : Valid st) (w : Wide st) where
       (omega arith) (λ e. refl) in
       either-way (λ (r : Outcome). Stamped (r .station)) (eqb number 0) (cond due (putting (encode m) st) (taken 0 st)) (refusedWith number st)
       (either-way (λ (r : Outcome). Stamped (r .station)) due (putting (encode m) st) (taken 0 st)
-      (pool-stamped (st .images) (st .pool ++ (encode m ∷ [])) (st .on) (λ b i. put-cases (st .pool) (encode m) b (λ y j. j) u i)) s) s
+      (pool-stamped (st .images) (st .pool ++ (encode m ∷ [])) (st .own) (λ b i. put-cases (st .pool) (encode m) b (λ y j. j) u i)) s) s
 
   -- a delivery of the message b, which waits
   module _ (k : ℕ) (kept : Bool) (b : List ℕ) (waits : In b (st .pool)) where
@@ -241,22 +241,22 @@ module _ (st : Station) (s : Stamped st) (v : Valid st) (w : Wide st) where
 
     answered-stamped : (n : ℕ) (l : List ℕ) (a : Answer) → Echoes (decode b) a → Stamped (answered st k kept n l a .station)
     unfolding answered
-    answered-stamped n l silent z = pool-stamped (putAt (st .images) n l) left (st .on) (λ y i. inl (sub y i))
+    answered-stamped n l silent z = pool-stamped (putAt (st .images) n l) left (st .own) (λ y i. inl (sub y i))
     answered-stamped n l (says a) z = either-way (λ (r : Outcome). Stamped (r .station)) (kept && full st) _ _ s
-        (pool-stamped (putAt (st .images) n l) (left ++ (encode a ∷ [])) (st .on) (λ y i. put-cases left (encode a) y sub (echo-under a z) i))
+        (pool-stamped (putAt (st .images) n l) (left ++ (encode a ∷ [])) (st .own) (λ y i. put-cases left (encode a) y sub (echo-under a z) i))
 
     arriving-stamped : Stamped (arriving st k kept b .station)
     unfolding arriving atReplica atCoordinator
     arriving-stamped =
         let n = toOf b in
         let d = deliver longest (st .images n) n b in
-        either-way (λ (r : Outcome). Stamped (r .station)) (contains (st .on) n) _ _
+        either-way (λ (r : Outcome). Stamped (r .station)) (contains (st .own .on) n) _ _
         (either-way (λ (r : Outcome). Stamped (r .station)) (forReplica (kindOf b)) _ _
         (either-way (λ (r : Outcome). Stamped (r .station)) (eqb (d .number) 0) _ _
         (answered-stamped n (d .image) (d .answer) (deliver-echoes (st .images n) n b)) s)
         (either-way (λ (r : Outcome). Stamped (r .station)) (eqb (receiveOf tree (st .records n) n b .number) 0) _ _
-        (record-stamped n _ left (st .on) (receive-on (st .records n) n b) sub) s))
-        (pool-stamped (st .images) left (st .on) (λ y i. inl (sub y i)))
+        (record-stamped n _ left (st .own) (receive-on (st .records n) n b) sub) s))
+        (pool-stamped (st .images) left (st .own) (λ y i. inl (sub y i)))
 
   delivery-stamped : (k : ℕ) (kept : Bool) → Stamped (deliveryOf st k kept .station)
   unfolding deliveryOf
@@ -271,8 +271,8 @@ module _ (st : Station) (s : Stamped st) (v : Valid st) (w : Wide st) where
           (arriving-stamped k kept b (in-place (st .pool) k [] (ltb-true k (length (st .pool)) e))) s
       by false e = s
 
-  pub stamped-next : (c : Call) → Typed c → Stamped (Rattle.station.specs.Step.step st c .station)
-  unfolding Rattle.station.specs.Step.step dropOf switchOf
+  pub stamped-next : (c : Call) → Typed c → Stamped (Rattle.steps.specs.Step.step st c .station)
+  unfolding Rattle.steps.specs.Step.step dropOf switchOf
   stamped-next (begin n a) t = hosted-stamped n _ (begin-on (st .records n) n a)
   stamped-next (openRead n x) t = hosted-stamped n _ (open-on (st .records n) n x 0)
   stamped-next (openWrite n x) t = hosted-stamped n _ (open-on (st .records n) n x 1)
@@ -284,5 +284,5 @@ module _ (st : Station) (s : Stamped st) (v : Valid st) (w : Wide st) where
   stamped-next (send n to x) t = send-stamped n to x
   stamped-next (delivery k kept) t = delivery-stamped k kept
   stamped-next (drop k) t = either-way (λ (r : Outcome). Stamped (r .station)) (ltb k (length (st .pool))) _ _
-      (pool-stamped (st .images) (without k (st .pool)) (st .on) (λ b i. inl (in-without b k (st .pool) i))) s
+      (pool-stamped (st .images) (without k (st .pool)) (st .own) (λ b i. inl (in-without b k (st .pool) i))) s
   stamped-next (switch n up) t = either-way (λ (r : Outcome). Stamped (r .station)) (noNode n) _ _ s (pool-stamped (st .images) (st .pool) _ (λ b i. inl i))

@@ -12,9 +12,9 @@ use Rattle.image.proofs.Each.{lt-or-le}
 use Rattle.coordinator.specs.System.{tree}
 use Rattle.coordinator.specs.State.{eight, blankRecord, idleAfter}
 use Rattle.clauses.proofs.Keep.{blank-meets}
-use Rattle.station.specs.Station.{Station, blankStation}
-use Rattle.station.specs.Step.{Call, begin, openRead, openWrite, setValue, found, reselect, requestCommit, abort, send, delivery, drop, switch, step}
-use Rattle.station.specs.Run.{eventOf}
+use Rattle.steps.specs.Station.{Station, blankStation}
+use Rattle.steps.specs.Step.{Call, begin, openRead, openWrite, setValue, found, reselect, requestCommit, abort, send, delivery, drop, switch, step}
+use Rattle.steps.specs.Run.{eventOf}
 use Rattle.protocol.specs.State.{Tx, State, blankState}
 use Rattle.protocol.specs.Proof.Tables.{on, clash}
 use Rattle.protocol.specs.Proof.Core.{claims}

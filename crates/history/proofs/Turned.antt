@@ -33,10 +33,10 @@ use Rattle.clauses.proofs.Facts.{Meets}
 use Rattle.clauses.proofs.Parts.{true-T, false-T, by-test, on-cond}
 use Rattle.clauses.proofs.Places.{place-open}
 use Rattle.due.specs.Due.{entriesOf, fetchTo, askTo, outcomeTo, yieldTo, messageDue}
-use Rattle.station.specs.Station.{Station, putAt, without}
-use Rattle.station.specs.Step.{Call, begin, openRead, openWrite, setValue, found, reselect, requestCommit, abort, send, delivery, drop, switch}
-use Rattle.station.specs.Step.{Outcome, refusedWith, putting, full, sendNumber, hosted, answered, atReplica, atCoordinator, arriving, deliveryOf, dropOf}
-use Rattle.station.specs.Step.{switchOf, sendOf}
+use Rattle.steps.specs.Station.{Station, putAt, without}
+use Rattle.steps.specs.Step.{Call, begin, openRead, openWrite, setValue, found, reselect, requestCommit, abort, send, delivery, drop, switch, Outcome}
+use Rattle.steps.specs.Step.{refusedWith, putting, full, sendNumber, hosted, answered, atReplica, atCoordinator, arriving, deliveryOf, dropOf, switchOf}
+use Rattle.steps.specs.Step.{sendOf}
 use Rattle.protocol.specs.Table.{In}
 use Rattle.protocol.specs.State.{Tx}
 use Rattle.protocol.specs.Proof.Tables.{on}
@@ -188,8 +188,8 @@ module _ (st : Station) (L : Ledger) (F : Past) (w : World st L F) (g : Wide st)
 
   hosted-turn : (n : ℕ) (s : Step) → Goes st t n (s .coordinator) → Kept (hosted st n s)
   unfolding hosted
-  hosted-turn n s h = either-way Kept (contains (st .on) n) _ _
-      (either-way Kept (eqb (s .number) 0) _ _ (record-turn st t n (s .coordinator) h (st .pool) (st .on) (λ b i. i)) t) t
+  hosted-turn n s h = either-way Kept (contains (st .own .on) n) _ _
+      (either-way Kept (eqb (s .number) 0) _ _ (record-turn st t n (s .coordinator) h (st .pool) (st .own) (λ b i. i)) t) t
 
   -- ---- a delivery of the message b, the k-th that waits
   module _ (k : ℕ) (kept : Bool) (b : List ℕ) (in-pool : In b (st .pool)) where
@@ -202,7 +202,7 @@ module _ (st : Station) (L : Ledger) (F : Past) (w : World st L F) (g : Wide st)
     coordinator-turn : (n : ℕ) → Kept (atCoordinator st k kept n b)
     unfolding atCoordinator
     coordinator-turn n = either-way Kept (eqb (receiveOf tree (st .records n) n b .number) 0) _ _
-        (record-turn st t n _ (receive-goes st t (w .valid) n b (t .waits b in-pool)) pool (st .on) sub) t
+        (record-turn st t n _ (receive-goes st t (w .valid) n b (t .waits b in-pool)) pool (st .own) sub) t
 
     -- at a replica, which is the node that it names
     module _ (order : forReplica (kindOf b) ≡ true) where
@@ -234,9 +234,9 @@ module _ (st : Station) (L : Ledger) (F : Past) (w : World st L F) (g : Wide st)
 
         answered-turn : (a : Answer) → Replies l m z i n a → Kept (answered st k kept n i a)
         unfolding answered
-        answered-turn silent r = image-turn st t n i (m .owner) (m .serial) moves heard pool (st .on) (λ y j. inl (sub y j))
+        answered-turn silent r = image-turn st t n i (m .owner) (m .serial) moves heard pool (st .own) (λ y j. inl (sub y j))
         answered-turn (says a) r = either-way Kept (kept && full st) _ _ t
-            (image-turn st t n i (m .owner) (m .serial) moves heard (pool ++ (encode a ∷ [])) (st .on)
+            (image-turn st t n i (m .owner) (m .serial) moves heard (pool ++ (encode a ∷ [])) (st .own)
             (λ y j. on (in-append y pool (encode a ∷ []) j) (λ q. inl (sub y q))
             (λ q. on q (λ e. inr (subst (Timely images (st .records)) (sym e) (answer-timely a r))) (λ q. absurd q))))
 
@@ -257,9 +257,9 @@ module _ (st : Station) (L : Ledger) (F : Past) (w : World st L F) (g : Wide st)
 
     arriving-turn : Kept (arriving st k kept b)
     unfolding arriving
-    arriving-turn = either-way Kept (contains (st .on) (toOf b)) _ _
+    arriving-turn = either-way Kept (contains (st .own .on) (toOf b)) _ _
         (on-cond Kept (forReplica (kindOf b)) _ _ (λ e. replica-turn e) (λ e. coordinator-turn (toOf b)))
-        (pool-turn st t pool (st .on) (λ y i. inl (sub y i)))
+        (pool-turn st t pool (st .own) (λ y i. inl (sub y i)))
 
   delivery-turn : (k : ℕ) (kept : Bool) → Kept (deliveryOf st k kept)
   unfolding deliveryOf
@@ -277,21 +277,21 @@ module _ (st : Station) (L : Ledger) (F : Past) (w : World st L F) (g : Wide st)
       let kind = dueKind tree c to object in
       let a = messageDue c n to object kind in
       let number = sendNumber st n to object a (not (eqb kind 0)) in
-      on-cond Kept (eqb number 0) (cond (not (eqb kind 0)) (putting (encode a) st) (Rattle.station.specs.Step.taken 0 st)) (refusedWith number st)
-      (λ e. on-cond Kept (not (eqb kind 0)) (putting (encode a) st) (Rattle.station.specs.Step.taken 0 st)
-      (λ q. pool-turn st t (st .pool ++ (encode a ∷ [])) (st .on)
+      on-cond Kept (eqb number 0) (cond (not (eqb kind 0)) (putting (encode a) st) (Rattle.steps.specs.Step.taken 0 st)) (refusedWith number st)
+      (λ e. on-cond Kept (not (eqb kind 0)) (putting (encode a) st) (Rattle.steps.specs.Step.taken 0 st)
+      (λ q. pool-turn st t (st .pool ++ (encode a ∷ [])) (st .own)
       (λ y j. on (in-append y (st .pool) (encode a ∷ []) j) inl
       (λ r. on r (λ s. inr (subst (Timely (st .images) (st .records)) (sym s)
       (due-timely st t n (w .valid .records n) (g .fits n) to object
-      (allowed st L F w n to object (contains (st .on) n) (eqb-true number 0 e) .0)
+      (allowed st L F w n to object (contains (st .own .on) n) (eqb-true number 0 e) .0)
       (λ z. no-both (eq-eqb kind 0 z) (not-true (eqb kind 0) q)))))
       (λ s. absurd s))))
       (λ q. t))
       (λ e. t)
 
   -- ---- every step
-  pub in-turn-next : (call : Call) → InTurn (Rattle.station.specs.Step.step st call .station)
-  unfolding Rattle.station.specs.Step.step dropOf switchOf
+  pub in-turn-next : (call : Call) → InTurn (Rattle.steps.specs.Step.step st call .station)
+  unfolding Rattle.steps.specs.Step.step dropOf switchOf
   in-turn-next (begin n a) = hosted-turn n _ (begin-goes st t (w .valid) n a)
   in-turn-next (openRead n x) = hosted-turn n _ (open-goes st t (w .valid) n x 0)
   in-turn-next (openWrite n x) = hosted-turn n _ (open-goes st t (w .valid) n x 1)
@@ -303,5 +303,5 @@ module _ (st : Station) (L : Ledger) (F : Past) (w : World st L F) (g : Wide st)
   in-turn-next (send n to x) = send-turn n to x
   in-turn-next (delivery k kept) = delivery-turn k kept
   in-turn-next (drop k) = either-way Kept (ltb k (length (st .pool))) _ _
-      (pool-turn st t (without k (st .pool)) (st .on) (λ y i. inl (in-without y k (st .pool) i))) t
+      (pool-turn st t (without k (st .pool)) (st .own) (λ y i. inl (in-without y k (st .pool) i))) t
   in-turn-next (switch n up) = either-way Kept (noNode n) _ _ t (pool-turn st t (st .pool) _ (λ y i. inl i))

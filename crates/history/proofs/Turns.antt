@@ -20,7 +20,7 @@ use Rattle.coordinator.specs.State.{awaited, idleAfter}
 use Rattle.coordinator.specs.Calls.{withPhase, requested, endedAborted}
 use Rattle.clauses.proofs.Facts.{Meets}
 use Rattle.clauses.proofs.Places.{place-open, across-at}
-use Rattle.station.specs.Station.{Station, putAt}
+use Rattle.steps.specs.Station.{Station, putAt}
 use Rattle.protocol.specs.Table.{put, In}
 use Rattle.protocol.specs.Rules.{Mode, unused}
 use Rattle.protocol.specs.State.{Tx, Tx-discrete, tx-path, Phase, fresh, voting, committed, aborted, Contents, History, State}

@@ -26,10 +26,10 @@ use Rattle.due.specs.Due.{messageDue}
 use Rattle.coordinator.proofs.Theorems.{found-leaves}
 use Rattle.clauses.proofs.Quorums.{tree-quorums}
 use Rattle.clauses.proofs.Fits.{Fits, blank-fits, begin-fits, open-fits, set-fits, reselect-fits, request-fits, abort-fits, receive-fits}
-use Rattle.station.specs.Station.{Station, blankStation, putAt}
-use Rattle.station.specs.Step.{Call, begin, openRead, openWrite, setValue, found, reselect, requestCommit, abort, send, delivery, drop, switch}
-use Rattle.station.specs.Step.{Outcome, refusedWith, taken, putting, sendNumber, hosted, answered, atReplica, atCoordinator, arriving, deliveryOf, dropOf}
-use Rattle.station.specs.Step.{switchOf, sendOf}
+use Rattle.steps.specs.Station.{Own, Station, blankStation, putAt}
+use Rattle.steps.specs.Step.{Call, begin, openRead, openWrite, setValue, found, reselect, requestCommit, abort, send, delivery, drop, switch, Outcome}
+use Rattle.steps.specs.Step.{refusedWith, taken, putting, sendNumber, hosted, answered, atReplica, atCoordinator, arriving, deliveryOf, dropOf, switchOf}
+use Rattle.steps.specs.Step.{sendOf}
 use Rattle.history.specs.Claims.{Typed}
 use Rattle.history.proofs.Carry.{put-all}
 use Rattle.history.proofs.Books.{Valid}
@@ -44,30 +44,30 @@ blank-wide on = record { fits = λ n. blank-fits tree; beyond = λ n h. refl }
 
 module _ (st : Station) (w : Wide st) (v : Valid st) where
   -- one record changed, whatever becomes of pool and nodes
-  record-wide : (n : ℕ) (c : Coordinator) (pool : List (List ℕ)) (on : ℕ) → Fits c
-      → Wide (record { images = st .images; records = putAt (st .records) n c; pool = pool; on = on })
-  record-wide n c pool on f = record { fits = put-all (λ (i : ℕ) (d : Coordinator). Fits d) (st .records) n c f (λ i e. w .fits i); beyond = w .beyond }
+  record-wide : (n : ℕ) (c : Coordinator) (pool : List (List ℕ)) (own : Own) → Fits c
+      → Wide (record { images = st .images; records = putAt (st .records) n c; pool = pool; own = own })
+  record-wide n c pool own f = record { fits = put-all (λ (i : ℕ) (d : Coordinator). Fits d) (st .records) n c f (λ i e. w .fits i); beyond = w .beyond }
 
   hosted-wide : (n : ℕ) (s : Step) → Fits (s .coordinator) → Wide (hosted st n s .station)
   unfolding hosted
-  hosted-wide n s f = either-way (λ (r : Outcome). Wide (r .station)) (contains (st .on) n) _ _
-      (either-way (λ (r : Outcome). Wide (r .station)) (eqb (s .number) 0) _ _ (record-wide n (s .coordinator) (st .pool) (st .on) f) w) w
+  hosted-wide n s f = either-way (λ (r : Outcome). Wide (r .station)) (contains (st .own .on) n) _ _
+      (either-way (λ (r : Outcome). Wide (r .station)) (eqb (s .number) 0) _ _ (record-wide n (s .coordinator) (st .pool) (st .own) f) w) w
 
   -- one image changed at a node
   image-wide : (n : ℕ) (l : List ℕ) (pool : List (List ℕ)) → n < 13
-      → Wide (record { images = putAt (st .images) n l; records = st .records; pool = pool; on = st .on })
+      → Wide (record { images = putAt (st .images) n l; records = st .records; pool = pool; own = st .own })
   image-wide n l pool h = record {
     fits = w .fits;
     beyond = put-all (λ (i : ℕ) (l : List ℕ). 13 ≤ i → l ≡ blankAs shape) (st .images) n l (λ g. absurd (let z : ⊥ = omega arith in z)) (λ i e. w .beyond i);
   }
 
-  pool-wide : (pool : List (List ℕ)) (on : ℕ) → Wide (record { images = st .images; records = st .records; pool = pool; on = on })
-  pool-wide pool on = record { fits = w .fits; beyond = w .beyond }
+  pool-wide : (pool : List (List ℕ)) (own : Own) → Wide (record { images = st .images; records = st .records; pool = pool; own = own })
+  pool-wide pool own = record { fits = w .fits; beyond = w .beyond }
 
   answered-wide : (k : ℕ) (kept : Bool) (n : ℕ) (l : List ℕ) (a : Answer) → n < 13 → Wide (answered st k kept n l a .station)
   unfolding answered
   answered-wide k kept n l silent h = image-wide n l _ h
-  answered-wide k kept n l (says m) h = either-way (λ (r : Outcome). Wide (r .station)) (kept && Rattle.station.specs.Step.full st) _ _ w (image-wide n l _ h)
+  answered-wide k kept n l (says m) h = either-way (λ (r : Outcome). Wide (r .station)) (kept && Rattle.steps.specs.Step.full st) _ _ w (image-wide n l _ h)
 
   replica-wide : (k : ℕ) (kept : Bool) (n : ℕ) (b : List ℕ) → Wide (atReplica st k kept n b .station)
   unfolding atReplica deliver
@@ -90,7 +90,7 @@ module _ (st : Station) (w : Wide st) (v : Valid st) where
   coordinator-wide : (k : ℕ) (kept : Bool) (n : ℕ) (b : List ℕ) → Bytes b → Wide (atCoordinator st k kept n b .station)
   unfolding atCoordinator
   coordinator-wide k kept n b y = either-way (λ (r : Outcome). Wide (r .station)) (eqb (receiveOf tree (st .records n) n b .number) 0) _ _
-      (record-wide n _ _ (st .on) (receive-fits tree tree-quorums (st .records n) n (v .records n) (w .fits n) b y)) w
+      (record-wide n _ _ (st .own) (receive-fits tree tree-quorums (st .records n) n (v .records n) (w .fits n) b y)) w
 
   delivery-wide : (k : ℕ) (kept : Bool) → Wide (deliveryOf st k kept .station)
   unfolding deliveryOf arriving
@@ -103,10 +103,10 @@ module _ (st : Station) (w : Wide st) (v : Valid st) where
           → Wide (cond x (cond (eqb (checkOf b) 0) (arriving st k kept b) (refusedWith (checkOf b) st))
           (refusedWith 5 st) .station)
       by true e = either-way (λ (r : Outcome). Wide (r .station)) (eqb (checkOf b) 0) _ _
-          (either-way (λ (r : Outcome). Wide (r .station)) (contains (st .on) (toOf b)) _ _
+          (either-way (λ (r : Outcome). Wide (r .station)) (contains (st .own .on) (toOf b)) _ _
           (either-way (λ (r : Outcome). Wide (r .station)) (forReplica (kindOf b)) _ _ (replica-wide k kept (toOf b) b)
           (coordinator-wide k kept (toOf b) b (v .messages b (in-place (st .pool) k [] (ltb-true k (length (st .pool)) e)))))
-          (pool-wide _ (st .on)))
+          (pool-wide _ (st .own)))
           w
       by false e = w
 
@@ -118,13 +118,13 @@ module _ (st : Station) (w : Wide st) (v : Valid st) where
       let due = not (eqb kind 0) in
       let number = sendNumber st n to t m due in
       either-way (λ (r : Outcome). Wide (r .station)) (eqb number 0) (cond due (putting (encode m) st) (taken 0 st)) (refusedWith number st)
-      (either-way (λ (r : Outcome). Wide (r .station)) due (putting (encode m) st) (taken 0 st) (pool-wide (st .pool ++ (encode m ∷ [])) (st .on)) w) w
+      (either-way (λ (r : Outcome). Wide (r .station)) due (putting (encode m) st) (taken 0 st) (pool-wide (st .pool ++ (encode m ∷ [])) (st .own)) w) w
 
   found-wide : (n t : ℕ) → Fits (foundOf tree (st .records n) n t .coordinator)
   found-wide n t = subst Fits (sym (found-leaves tree (st .records n) n t)) (w .fits n)
 
-  pub wide-next : (c : Call) → Typed c → Wide (Rattle.station.specs.Step.step st c .station)
-  unfolding Rattle.station.specs.Step.step dropOf switchOf
+  pub wide-next : (c : Call) → Typed c → Wide (Rattle.steps.specs.Step.step st c .station)
+  unfolding Rattle.steps.specs.Step.step dropOf switchOf
   wide-next (begin n a) t = hosted-wide n _ (begin-fits tree tree-quorums (st .records n) n (v .records n) (w .fits n) a (t .1 .0) (t .0) (t .1 .1))
   wide-next (openRead n t) u = hosted-wide n _ (open-fits tree tree-quorums (st .records n) n (v .records n) (w .fits n) t 0 (omega arith))
   wide-next (openWrite n t) u = hosted-wide n _ (open-fits tree tree-quorums (st .records n) n (v .records n) (w .fits n) t 1 (omega arith))
@@ -135,5 +135,5 @@ module _ (st : Station) (w : Wide st) (v : Valid st) where
   wide-next (abort n) u = hosted-wide n _ (abort-fits tree tree-quorums (st .records n) n (v .records n) (w .fits n))
   wide-next (send n to t) u = send-wide n to t
   wide-next (delivery k kept) u = delivery-wide k kept
-  wide-next (drop k) u = either-way (λ (r : Outcome). Wide (r .station)) (ltb k (length (st .pool))) _ _ (pool-wide _ (st .on)) w
+  wide-next (drop k) u = either-way (λ (r : Outcome). Wide (r .station)) (ltb k (length (st .pool))) _ _ (pool-wide _ (st .own)) w
   wide-next (switch n up) u = either-way (λ (r : Outcome). Wide (r .station)) (noNode n) _ _ w (pool-wide (st .pool) _)

@@ -10,8 +10,8 @@ use Rattle.mask.specs.Mask.{contains, only, joined, minus}
 use Rattle.wire.specs.Message.{vote, yield}
 use Rattle.wire.specs.Decode.{kindOf, fromOf, toOf}
 use Rattle.wire.specs.Items.{rivalOf, wordOf}
-use Rattle.station.specs.Step.{Call, begin, openRead, openWrite, setValue, found, reselect, requestCommit, abort, send, delivery, drop, switch}
-use Rattle.station.specs.Run.{Event}
+use Rattle.steps.specs.Step.{Call, begin, openRead, openWrite, setValue, found, reselect, requestCommit, abort, send, delivery, drop, switch}
+use Rattle.steps.specs.Run.{Event}
 use Rattle.protocol.specs.Table.{put, put2}
 use Rattle.protocol.specs.State.{Tx, Tx-discrete}
 use Rattle.history.specs.Ledger.{Ledger, txOf, current, ledger}

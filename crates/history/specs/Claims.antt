@@ -20,9 +20,9 @@ use Rattle.image.specs.Layout.{value, version}
 use Rattle.coordinator.specs.declared.Coordinator.{Coordinator}
 use Rattle.coordinator.specs.State.{idlePhase, committed, objectAt, isOpen, ready}
 use Rattle.coordinator.specs.System.{tree}
-use Rattle.station.specs.Station.{Station, poolSize, blankStation}
-use Rattle.station.specs.Step.{Call, begin, openRead, openWrite, setValue, found, reselect, requestCommit, abort, send, delivery, drop, switch, step}
-use Rattle.station.specs.Run.{after, Event, eventOf, trace}
+use Rattle.steps.specs.Station.{Station, poolSize, blankStation}
+use Rattle.steps.specs.Step.{Call, begin, openRead, openWrite, setValue, found, reselect, requestCommit, abort, send, delivery, drop, switch, step}
+use Rattle.steps.specs.Run.{after, Event, eventOf, trace}
 use Rattle.protocol.specs.Table.{In, Suffix, times}
 use Rattle.protocol.specs.Rules.{unused, read, write}
 use Rattle.protocol.specs.State.{Tx, Tx-discrete}

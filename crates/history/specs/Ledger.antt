@@ -12,9 +12,9 @@ use Rattle.wire.specs.Message.{vote, outcome, done}
 use Rattle.wire.specs.Decode.{kindOf, fromOf, ownerOf, serialOf}
 use Rattle.wire.specs.Items.{wordOf}
 use Rattle.coordinator.specs.State.{committed}
-use Rattle.station.specs.Station.{without}
-use Rattle.station.specs.Step.{Call, begin, openRead, openWrite, setValue, found, reselect, requestCommit, abort, send, delivery, drop, switch}
-use Rattle.station.specs.Run.{Event}
+use Rattle.steps.specs.Station.{without}
+use Rattle.steps.specs.Step.{Call, begin, openRead, openWrite, setValue, found, reselect, requestCommit, abort, send, delivery, drop, switch}
+use Rattle.steps.specs.Run.{Event}
 use Rattle.protocol.specs.Table.{put, put2, times, select, In}
 use Rattle.protocol.specs.Rules.{Mode, unused, read, write}
 use Rattle.protocol.specs.State.{Tx, Tx-discrete}

@@ -10,8 +10,8 @@ use Rattle.wire.specs.Decode.{ownerOf}
 use Rattle.coordinator.specs.State.{committed}
 use Rattle.replay.specs.Digest.{Digest, blankDigest}
 use Rattle.replay.specs.Sheet.{blankAfter, begunAfter, openedAfter, valuedAfter, putAfter, committedAfter}
-use Rattle.station.specs.Step.{Call, begin, openRead, openWrite, setValue, found, reselect, requestCommit, abort, send, delivery, drop, switch}
-use Rattle.station.specs.Run.{Event}
+use Rattle.steps.specs.Step.{Call, begin, openRead, openWrite, setValue, found, reselect, requestCommit, abort, send, delivery, drop, switch}
+use Rattle.steps.specs.Run.{Event}
 use Rattle.history.specs.Ledger.{Ledger, ledger}
 
 -- what is made of each thing that may be told: a begin; an object opened, to read (0) or to write (1); a new value; a message put; a commit

@@ -12,8 +12,9 @@ use Rattle.host.specs.declared.records.Value.{Value}
 use Rattle.parts.specs.Parts.{part}
 use Rattle.pool.specs.Pool.{messagePlace, count, lengthAt, messageAt, check}
 use Rattle.pool.specs.Change.{removeNumber, removeRefusals}
-use Rattle.station.specs.Step.{Call}
-use Rattle.station.specs.Buffers.{Buffers, hostTold, hostRecords}
+use Rattle.steps.specs.Step.{Call}
+use Rattle.buffers.specs.Buffers.{Buffers}
+use Rattle.station_calls.specs.Calls.{hostTold, hostRecords}
 use Rattle.host.specs.Records.{answerWith, bytesWith}
 use Rattle.host.specs.declared.stations.Waiting.{Waiting}
 use Rattle.host.specs.Distances.{distancesOf}

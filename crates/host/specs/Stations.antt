@@ -9,9 +9,10 @@ use Rattle.numbers.specs.Numbers.{wrongLength}
 use Rattle.octets.specs.Signed.{signedOf}
 use Rattle.pool.specs.Pool.{messagePlace, count, lengthAt, check}
 use Rattle.pool.specs.Change.{removeNumber}
-use Rattle.station.specs.declared.Answer.{Answer}
-use Rattle.station.specs.Step.{Call, begin}
-use Rattle.station.specs.Buffers.{Buffers, answerWith, hostTold, hostRecords}
+use Rattle.buffers.specs.declared.Answer.{Answer}
+use Rattle.steps.specs.Step.{Call, begin}
+use Rattle.buffers.specs.Buffers.{Buffers, answerWith}
+use Rattle.station_calls.specs.Calls.{hostTold, hostRecords}
 use Rattle.host.specs.declared.records.Value.{Value}
 use Rattle.host.specs.declared.stations.Waiting.{Waiting}
 use Rattle.host.specs.Distances.{distancesOf}

@@ -1,16 +1,17 @@
 // A station for C: made blank, every step, and what waits. Each function states the same equation as what it wraps.
 ghost use mathlib.Core.Path.{_≡_};
 ghost use Rattle.octets.specs.Signed.{bitsOf};
-ghost use Rattle.station.specs.Step.{openRead, openWrite, setValue, found, reselect, requestCommit, abort};
-ghost use Rattle.station.specs.Buffers.{all, blankNumber, blankAfter, ends, hostTold, hostRecords, sending, sendTold, sendPool};
-ghost use Rattle.station.specs.Buffers.{deliveryTold, deliveryImages, deliveryRecords, deliveryPool};
-ghost use Rattle.station.specs.Buffers.{answerWith, dropping, dropTold, dropPool, switching, switchTold, switchOwn};
+ghost use Rattle.steps.specs.Step.{openRead, openWrite, setValue, found, reselect, requestCommit, abort};
+ghost use Rattle.buffers.specs.Buffers.{all, ends, answerWith};
+ghost use Rattle.station_calls.specs.Calls.{blankNumber, blankAfter, hostTold, hostRecords, switching, switchTold, switchOwn};
+ghost use Rattle.station.specs.Messages.{sending, sendTold, sendPool, deliveryTold, deliveryImages, deliveryRecords, deliveryPool, dropping, dropTold};
+ghost use Rattle.station.specs.Messages.{dropPool};
 ghost use Rattle.host.specs.Stations.{toldWith, recordsWith, begins, valueOf, yes, waitingIn, waitingAt};
 use crate::DISTANCES;
 use crate::distances_of;
 use crate::records::Value;
+use buffers::Answer;
 use coordinator::BeginWith;
-use station::Answer;
 
 // Where a waiting message stands in the pool and how long it is; on a refusal both are 0.
 #[repr(C)]
@@ -35,7 +36,7 @@ pub extern "C" fn senna_station_blank(
     ensures { λ r. ⌜ now (pool .exit) ≡ blankAfter (all (now (images .entry)) (now (records .entry)) (now (pool .entry)) (now (own .entry))) on .pool ⌝ }
     ensures { λ r. ⌜ now (own .exit) ≡ blankAfter (all (now (images .entry)) (now (records .entry)) (now (pool .entry)) (now (own .entry))) on .own ⌝ }
 {
-    station::blank(images, records, pool, own, on)
+    station_calls::blank(images, records, pool, own, on)
 }
 
 // The distances have another length.
@@ -71,7 +72,7 @@ pub extern "C" fn senna_station_begin(
         distances: d,
         timestamp,
     };
-    station::begin(records, own, node, w)
+    station_calls::begin(records, own, node, w)
 }
 
 // Opens an object to read it. Ruled out: an open to write; a byte of another node's record altered.
@@ -85,7 +86,7 @@ pub extern "C" fn senna_station_open_read(
     ensures { λ r. ⌜ r ≡ hostTold (ends (now (records .entry)) (now (own .entry))) node (openRead node object) ⌝ }
     ensures { λ r. ⌜ now (records .exit) ≡ hostRecords (ends (now (records .entry)) (now (own .entry))) node (openRead node object) ⌝ }
 {
-    station::open_read(records, own, node, object)
+    station_calls::open_read(records, own, node, object)
 }
 
 // Opens an object to write it. Ruled out: an open to read; 5 for a node above 12.
@@ -99,7 +100,7 @@ pub extern "C" fn senna_station_open_write(
     ensures { λ r. ⌜ r ≡ hostTold (ends (now (records .entry)) (now (own .entry))) node (openWrite node object) ⌝ }
     ensures { λ r. ⌜ now (records .exit) ≡ hostRecords (ends (now (records .entry)) (now (own .entry))) node (openWrite node object) ⌝ }
 {
-    station::open_write(records, own, node, object)
+    station_calls::open_write(records, own, node, object)
 }
 
 // Gives a written object its new value. Ruled out: the value with its sign lost; a value set at a node that is off.
@@ -114,7 +115,7 @@ pub extern "C" fn senna_station_set_value(
     ensures { λ r. ⌜ r ≡ hostTold (ends (now (records .entry)) (now (own .entry))) node (setValue node object (bitsOf value)) ⌝ }
     ensures { λ r. ⌜ now (records .exit) ≡ hostRecords (ends (now (records .entry)) (now (own .entry))) node (setValue node object (bitsOf value)) ⌝ }
 {
-    station::set_value(records, own, node, object, octets::bits(value))
+    station_calls::set_value(records, own, node, object, octets::bits(value))
 }
 
 // Answers the value found for a ready object. Ruled out: the new value; a value with its sign lost.
@@ -123,7 +124,7 @@ pub extern "C" fn senna_station_found(records: &mut [u8], own: &[u8], node: u8, 
     ensures { λ r. ⌜ r ≡ valueOf (hostTold (ends (now (records .entry)) (now (own .entry))) node (found node object)) ⌝ }
     ensures { λ r. ⌜ now (records .exit) ≡ hostRecords (ends (now (records .entry)) (now (own .entry))) node (found node object) ⌝ }
 {
-    let x = station::found(records, own, node, object);
+    let x = station_calls::found(records, own, node, object);
     Value {
         number: x.number,
         value: octets::signed(x.answer),
@@ -146,7 +147,7 @@ pub extern "C" fn senna_station_reselect(
         return wrong_length();
     }
     let d = distances_of(distances);
-    station::reselect(records, own, node, live, d)
+    station_calls::reselect(records, own, node, live, d)
 }
 
 // Asks for votes; answers the participants. Ruled out: 8 before 11; a set without the contacted nodes.
@@ -155,7 +156,7 @@ pub extern "C" fn senna_station_request_commit(records: &mut [u8], own: &[u8], n
     ensures { λ r. ⌜ r ≡ hostTold (ends (now (records .entry)) (now (own .entry))) node (requestCommit node) ⌝ }
     ensures { λ r. ⌜ now (records .exit) ≡ hostRecords (ends (now (records .entry)) (now (own .entry))) node (requestCommit node) ⌝ }
 {
-    station::request_commit(records, own, node)
+    station_calls::request_commit(records, own, node)
 }
 
 // Gives the transaction up. Ruled out: a finishing one aborted; 0 at a node that is off.
@@ -164,7 +165,7 @@ pub extern "C" fn senna_station_abort(records: &mut [u8], own: &[u8], node: u8) 
     ensures { λ r. ⌜ r ≡ hostTold (ends (now (records .entry)) (now (own .entry))) node (abort node) ⌝ }
     ensures { λ r. ⌜ now (records .exit) ≡ hostRecords (ends (now (records .entry)) (now (own .entry))) node (abort node) ⌝ }
 {
-    station::abort(records, own, node)
+    station_calls::abort(records, own, node)
 }
 
 // Sends what is due to a node. Ruled out: a message put at the pool's front; a message where nothing is due.
@@ -219,7 +220,7 @@ pub extern "C" fn senna_station_switch(own: &mut [u8], node: u8, up: u8) -> Answ
     ensures { λ r. ⌜ r ≡ switchTold (switching (now (own .entry))) node (yes up) ⌝ }
     ensures { λ r. ⌜ now (own .exit) ≡ switchOwn (switching (now (own .entry))) node (yes up) ⌝ }
 {
-    station::switch(own, node, up != 0)
+    station_calls::switch(own, node, up != 0)
 }
 
 // How many messages wait; 0 for bytes that are no pool. Ruled out: one more than wait; the count byte of a damaged pool.

@@ -40,24 +40,21 @@ use Rattle.pool.specs.Pool.{check as checkPool}
 use Rattle.pool.specs.Change.{added, removed}
 use Rattle.pool.proofs.Numbers.{passed-number, Room, fine, add-after}
 use Rattle.pool.proofs.Laws.{length-waiting, getD-waiting, waiting-added, check-added, waiting-removed, check-removed}
-use Rattle.station.specs.Station.{Station, putAt, withImage, withRecord, withPool, withOn, sent, without}
-use Rattle.station.specs.Step.{Call, begin, openRead, openWrite, setValue, found, reselect, requestCommit, abort, send, delivery, drop, switch}
-use Rattle.station.specs.Step.{Outcome, refusedWith, taken, putting, whenOff, hosted, full, sendNumber, sendOf, takenOut, answered, atReplica, atCoordinator}
-use Rattle.station.specs.Step.{arriving, deliveryOf, dropOf, switchOf, step}
-use Rattle.station.specs.Buffers.{Buffers, imageAt, imageIn, withImageAt, recordIn, withRecordAt, recordDamaged, onOf, ownNumber, ownDamaged, wrong}
-use Rattle.station.specs.Buffers.{stationOf, answerWith, told, recordsAfter}
-use Rattle.station.specs.Buffers.{hostFirst, hostTold, hostRecords, lower, putInto, sendFirst, sendTold, poolAfter, sendPool, dropTold, dropPool, all}
-use Rattle.station.specs.Buffers.{blocked}
-use Rattle.station.specs.Buffers.{switchTold, switchOwn, messageIn, reaches, buffersNumber, deliveryFirst, deliveryTold, deliveryImages, deliveryRecords}
-use Rattle.station.specs.Buffers.{leaving}
-use Rattle.station.specs.Buffers.{deliveryPool, answeredBy, Whole}
-use Rattle.station.proofs.Hosted.{node-on, off-number}
+use Rattle.steps.specs.Station.{Station, putAt, withImage, withRecord, withPool, nowOn, sent, without}
+use Rattle.steps.specs.Step.{Call, begin, openRead, openWrite, setValue, found, reselect, requestCommit, abort, send, delivery, drop, switch, Outcome}
+use Rattle.steps.specs.Step.{refusedWith, taken, putting, whenOff, hosted, full, sendNumber, sendOf, takenOut, answered, atReplica, atCoordinator, arriving}
+use Rattle.steps.specs.Step.{deliveryOf, dropOf, switchOf, step}
+use Rattle.buffers.specs.Buffers.{Buffers, imageAt, imageIn, withImageAt, recordIn, withRecordAt, recordDamaged, onOf, ownOf, ownNumber, ownDamaged, wrong}
+use Rattle.buffers.specs.Buffers.{stationOf, answerWith, told, recordsAfter, hostFirst, all, Whole}
+use Rattle.station_calls.specs.Calls.{hostTold, hostRecords, switchTold, switchOwn}
+use Rattle.station.specs.Messages.{lower, putInto, sendFirst, sendTold, poolAfter, sendPool, dropTold, dropPool, blocked, messageIn, reaches, buffersNumber}
+use Rattle.station.specs.Messages.{deliveryFirst, deliveryTold, deliveryImages, deliveryRecords, leaving, deliveryPool, answeredBy}
+use Rattle.steps.proofs.Nodes.{node-on, off-number}
 use Rattle.station.proofs.Waiting.{there-of, check-leaving}
-use Rattle.station.proofs.Delivering.{none-said, all-said, not-said, Brought, brought, by, at-is, refused-all, blocked-all, has-room, taken-all, said}
-use Rattle.station.proofs.Delivering.{Leaves, stopped-all, heard-all}
-use Rattle.station.proofs.Delivering.{image-in}
+use Rattle.station.proofs.Delivering.{none-said, all-said, not-said, Brought, brought, by, at-is, refused-all, blocked-all, has-room, taken-all, said, Leaves}
+use Rattle.station.proofs.Delivering.{stopped-all, heard-all, image-in}
 use Rattle.station.proofs.Arriving.{Waits, waits-of, receiver-node, Left, no-message, off, at-replica, at-sound}
-use Rattle.runs.specs.Order.{toldOf, hostLeft, leftOf}
+use Rattle.runs.specs.Left.{toldOf, hostLeft, leftOf}
 use Rattle.runs.proofs.Kept.{Kept, same-kept, own-is, none-damaged, host-first, buffers-first, image-kept, record-kept, pool-kept, own-kept}
 
 -- what is known of a station that steps reached: its records are records, and its images have their length
@@ -167,9 +164,9 @@ module _ (I R P O : List ℕ) (w : Whole (all I R P O)) where
           let h = turned-known n up l in
           let z = own-is I R P O w .size in
           let g = get-put 2 O 0 (turned n up) (omega arith) (omega arith) in
-          simp (t, w .own-fine) (own-kept I R P O w (put 2 O 0 (turned n up)) (turned n up)
+          simp (t, w .own-fine) (own-kept I R P O w (put 2 O 0 (turned n up)) (nowOn (ownOf O) (turned n up))
           (mask-fine (put 2 O 0 (turned n up)) (length-put 2 O 0 (turned n up) ∙ z)
-          (subst (λ (k : ℕ). k ≤ 8191) (sym g) h)) g)
+          (subst (λ (k : ℕ). k ≤ 8191) (sym g) h)) (ap (nowOn (ownOf O)) g))
 
   -- ---- a send
   send-first : (n : ℕ) → sendFirst B n ≡ 0
@@ -239,7 +236,7 @@ module _ (I R P O : List ℕ) (w : Whole (all I R P O)) where
     made = step st (delivery k kept)
 
     -- the buffers that a delivery leaves, where they are known
-    from-left : (a : Rattle.station.specs.declared.Answer.Answer) (i r p : List ℕ) (s : Station) → Left I R P O k kept a i r p → Kept (all i r p O) s
+    from-left : (a : Rattle.buffers.specs.declared.Answer.Answer) (i r p : List ℕ) (s : Station) → Left I R P O k kept a i r p → Kept (all i r p O) s
         → Kept (all (deliveryImages B k kept) (deliveryRecords B k kept) (deliveryPool B k kept) O) s
     from-left a i r p s l t = subst (λ (b : Buffers). Kept b s) (λ j. all (l .1 .0 j) (l .1 .1 .0 j) (l .1 .1 .1 j) O) t
 
@@ -247,7 +244,7 @@ module _ (I R P O : List ℕ) (w : Whole (all I R P O)) where
     delivered = Kept (all (deliveryImages B k kept) (deliveryRecords B k kept) (deliveryPool B k kept) O) (made .station)
 
     -- a step that is refused leaves the station
-    refused-kept : (a : Rattle.station.specs.declared.Answer.Answer) (n : ℕ) → Left I R P O k kept a I R P → made ≡ refusedWith n st → delivered
+    refused-kept : (a : Rattle.buffers.specs.declared.Answer.Answer) (n : ℕ) → Left I R P O k kept a I R P → made ≡ refusedWith n st → delivered
     unfolding delivered
     refused-kept a n l e = from-left a I R P (made .station) l
         (subst (λ (x : Outcome). Kept B (x .station)) (sym e) (same-kept I R P O w))
@@ -302,7 +299,7 @@ module _ (I R P O : List ℕ) (w : Whole (all I R P O)) where
           is-by = arrives ∙ simp (u, v) (at-is I R P O n k kept small)
 
           -- what the replica leaves of the buffers, told of the whole delivery
-          as-left : (a : Rattle.station.specs.declared.Answer.Answer) (i p : List ℕ) → Leaves I R P O n k kept a i p (by I R P O n k kept d)
+          as-left : (a : Rattle.buffers.specs.declared.Answer.Answer) (i p : List ℕ) → Leaves I R P O n k kept a i p (by I R P O n k kept d)
               → Left I R P O k kept a i R p
           as-left a i p t = at-replica I R P O k kept z0 h e u v n refl a i p
               (subst (Leaves I R P O n k kept a i p) (sym (at-is I R P O n k kept small)) t)

@@ -2,16 +2,17 @@
 use mathlib.Core.Path.{_≡_, refl, sym, ap, subst, _∙_}
 use mathlib.Core.List.{List, [], _∷_}
 use Prim.Native.Nat.{ℕ}
-use Rattle.station.specs.declared.Answer.{Answer}
-use Rattle.station.specs.Station.{Station, blankStation}
-use Rattle.station.specs.Step.{Call, step}
-use Rattle.station.specs.Buffers.{Buffers, stationOf, all, answerWith, onOf, blankNumber, blankAfter}
-use Rattle.station.proofs.Blanking.{blank-is-blank}
+use Rattle.buffers.specs.declared.Answer.{Answer}
+use Rattle.steps.specs.Station.{Station, blankStation}
+use Rattle.steps.specs.Step.{Call, step}
+use Rattle.buffers.specs.Buffers.{Buffers, stationOf, all, answerWith, onOf}
+use Rattle.station_calls.specs.Calls.{blankNumber, blankAfter}
+use Rattle.station_calls.proofs.Blanking.{blank-is-blank}
 use Rattle.history.specs.Claims.{AllTyped, reached}
 use Rattle.history.proofs.Theorem.{Good}
 use Rattle.history.proofs.Claimed.{always-good, demand-3}
 use Rattle.history.proofs.Numbered.{delivery-number}
-use Rattle.runs.specs.Order.{toldOf, leftOf}
+use Rattle.runs.specs.Left.{toldOf, leftOf}
 use Rattle.runs.specs.Held.{Holds, Next, Claimed}
 use Rattle.runs.proofs.After.{Sane, goes}
 

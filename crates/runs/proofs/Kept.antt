@@ -25,12 +25,12 @@ use Rattle.record.proofs.Kept.{bytes-checked}
 use Rattle.record.proofs.OnBytes.{checked-length}
 use Rattle.pool.specs.Pool.{waiting}
 use Rattle.pool.specs.Pool.{check as checkPool}
-use Rattle.station.specs.Station.{Station, putAt, withImage, withRecord, withPool, withOn}
-use Rattle.station.specs.Buffers.{Buffers, wrong, imageAt, withImageAt, imageIn, recordAt, withRecordAt, recordIn, recordDamaged, ownNumber, ownDamaged}
-use Rattle.station.specs.Buffers.{onOf}
-use Rattle.station.specs.Buffers.{stationOf, hostFirst, all, buffersNumber, lower, lengthsNumber, Whole}
-use Rattle.station.proofs.Hosted.{long}
-use Rattle.station.proofs.Parted.{part-length, part-same, part-kept}
+use Rattle.steps.specs.Station.{Own, Station, putAt, withImage, withRecord, withPool, withOwn}
+use Rattle.buffers.specs.Buffers.{Buffers, wrong, imageAt, withImageAt, imageIn, recordAt, withRecordAt, recordIn, recordDamaged, ownNumber, ownDamaged, onOf}
+use Rattle.buffers.specs.Buffers.{ownOf, stationOf, hostFirst, all, Whole}
+use Rattle.station.specs.Messages.{buffersNumber, lower, lengthsNumber}
+use Rattle.buffers.proofs.First.{long}
+use Rattle.station_calls.proofs.Parted.{part-length, part-same, part-kept}
 use Rattle.station.proofs.Arriving.{buffers-are}
 
 -- buffers hold a station
@@ -48,11 +48,11 @@ module _ (I R P O : List ℕ) (w : Whole (all I R P O)) where
   same-kept = (w, refl)
 
   -- ---- no buffer refuses a step
-  pub record Own : Type 0 where
+  pub record OwnIs : Type 0 where
     pub size : length O ≡ 2
     pub mask : onOf O ≤ 8191
 
-  pub own-is : Own
+  pub own-is : OwnIs
   unfolding ownNumber
   own-is =
       let a = past (wrong O 2) 0 _ (w .own-fine) in
@@ -102,7 +102,7 @@ module _ (I R P O : List ℕ) (w : Whole (all I R P O)) where
         own-fine = w .own-fine;
         records-fine = w .records-fine;
       },
-      λ j. record { images = λ i. images-put i j; records = recordIn R; pool = waiting P; on = onOf O },
+      λ j. record { images = λ i. images-put i j; records = recordIn R; pool = waiting P; own = ownOf O },
     )
 
   -- ---- one record changed
@@ -140,7 +140,7 @@ module _ (I R P O : List ℕ) (w : Whole (all I R P O)) where
         own-fine = w .own-fine;
         records-fine = λ i h. fine i h (record-at i h (same-or-not i n));
       },
-      λ j. record { images = imageIn I; records = λ i. records-put i j; pool = waiting P; on = onOf O },
+      λ j. record { images = imageIn I; records = λ i. records-put i j; pool = waiting P; own = ownOf O },
     )
       where
         fine : (i : ℕ) → i < 13 → ((i ≡ n) × (recordAt (withRecordAt R n (bytesOf c)) i ≡ bytesOf c))
@@ -148,15 +148,15 @@ module _ (I R P O : List ℕ) (w : Whole (all I R P O)) where
         fine i h (inl z) = ap check (z .1) ∙ bytes-checked c m f
         fine i h (inr z) = ap check (z .1) ∙ w .records-fine i h
 
-  -- ---- another pool, another mask
+  -- ---- another pool, another part of the station's own
   pub pool-kept : (p : List ℕ) (l : List (List ℕ)) → checkPool p ≡ 0 → waiting p ≡ l → Kept (all I R p O) (withPool st l)
   pool-kept p l h e = (
     record { images-long = w .images-long; records-long = w .records-long; pool-fine = h; own-fine = w .own-fine; records-fine = w .records-fine },
-    λ j. record { images = imageIn I; records = recordIn R; pool = e j; on = onOf O },
+    λ j. record { images = imageIn I; records = recordIn R; pool = e j; own = ownOf O },
   )
 
-  pub own-kept : (o : List ℕ) (on : ℕ) → ownNumber o ≡ 0 → onOf o ≡ on → Kept (all I R P o) (withOn st on)
-  own-kept o on h e = (
+  pub own-kept : (o : List ℕ) (own : Own) → ownNumber o ≡ 0 → ownOf o ≡ own → Kept (all I R P o) (withOwn st own)
+  own-kept o own h e = (
     record { images-long = w .images-long; records-long = w .records-long; pool-fine = w .pool-fine; own-fine = h; records-fine = w .records-fine },
-    λ j. record { images = imageIn I; records = recordIn R; pool = waiting P; on = e j },
+    λ j. record { images = imageIn I; records = recordIn R; pool = waiting P; own = e j },
   )

@@ -4,12 +4,14 @@ use mathlib.Core.Bool.{Bool}
 use mathlib.Core.List.{List}
 use Prim.Native.Nat.{ℕ}
 use Rattle.coordinator.specs.declared.Step.{Step}
-use Rattle.station.specs.declared.Answer.{Answer}
-use Rattle.station.specs.Step.{Call, send, delivery, drop, switch, hosted, step}
-use Rattle.station.specs.Buffers.{Buffers, stationOf, all, ends, hostTold, hostRecords, sending, sendTold, sendPool, dropping, dropTold, dropPool}
-use Rattle.station.specs.Buffers.{switching, switchTold, switchOwn, deliveryTold, deliveryImages, deliveryRecords, deliveryPool}
-use Rattle.runs.specs.declared.Order.{Order}
-use Rattle.runs.specs.Order.{callOf, toldOf, hostLeft, leftOf}
+use Rattle.buffers.specs.declared.Answer.{Answer}
+use Rattle.steps.specs.Step.{Call, send, delivery, drop, switch, hosted, step}
+use Rattle.buffers.specs.Buffers.{Buffers, stationOf, all, ends}
+use Rattle.station_calls.specs.Calls.{hostTold, hostRecords, switching, switchTold, switchOwn}
+use Rattle.station.specs.Messages.{sending, sendTold, sendPool, dropping, dropTold, dropPool, deliveryTold, deliveryImages, deliveryRecords, deliveryPool}
+use Rattle.orders.specs.declared.Order.{Order}
+use Rattle.runs.specs.Order.{callOf}
+use Rattle.runs.specs.Left.{toldOf, hostLeft, leftOf}
 use Rattle.runs.specs.Held.{Claimed}
 use Rattle.runs.proofs.Demand.{claimed}
 use Rattle.runs.proofs.Same.{host-told, host-records, send-same, drop-same, switch-same}

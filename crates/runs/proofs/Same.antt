@@ -13,11 +13,11 @@ use Rattle.due.specs.Kind.{dueKind}
 use Rattle.due.specs.Due.{messageDue}
 use Rattle.pool.specs.Pool.{waiting}
 use Rattle.wire.specs.Encode.{encode}
-use Rattle.station.specs.Station.{Station}
-use Rattle.station.specs.Step.{Call, Outcome, refusedWith, taken, putting, hosted, sendNumber, sendOf, dropOf, switchOf, step}
-use Rattle.station.specs.Buffers.{onOf, recordIn, stationOf, told, recordsAfter, ends, hostFirst, hostTold, hostRecords, all, sending, sendFirst, sendTold}
-use Rattle.station.specs.Buffers.{poolAfter, putInto, sendPool}
-use Rattle.station.specs.Buffers.{dropping, dropTold, dropPool, switching, switchTold, switchOwn}
+use Rattle.steps.specs.Station.{Station}
+use Rattle.steps.specs.Step.{Call, Outcome, refusedWith, taken, putting, hosted, sendNumber, sendOf, dropOf, switchOf, step}
+use Rattle.buffers.specs.Buffers.{onOf, recordIn, stationOf, told, recordsAfter, ends, hostFirst, all}
+use Rattle.station_calls.specs.Calls.{hostTold, hostRecords, switching, switchTold, switchOwn}
+use Rattle.station.specs.Messages.{sending, sendFirst, sendTold, poolAfter, putInto, sendPool, dropping, dropTold, dropPool}
 
 module _ (I R P O : List ℕ) where
   -- ---- a host call

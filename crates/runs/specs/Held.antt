@@ -2,9 +2,9 @@
 use mathlib.Core.Path.{_≡_}
 use mathlib.Core.List.{List, _∷_}
 use Prim.Native.Nat.{ℕ}
-use Rattle.station.specs.declared.Answer.{Answer}
-use Rattle.station.specs.Step.{Call, step}
-use Rattle.station.specs.Buffers.{Buffers, stationOf, Whole}
+use Rattle.buffers.specs.declared.Answer.{Answer}
+use Rattle.steps.specs.Step.{Call, step}
+use Rattle.buffers.specs.Buffers.{Buffers, stationOf, Whole}
 use Rattle.history.specs.Claims.{AllTyped, reached, Demand3, DeliveryNumbers}
 
 -- the four buffers are whole, and the station that they are is the one that the steps of the list reached from a blank one with the nodes `up` on

@@ -1,3 +1,4 @@
--- A step of any kind as one order (Order), what it tells and leaves, and when buffers hold what a list of steps left (Held).
+-- An order as a step (Order), what a step of any kind tells and leaves (Left), and when buffers hold what a list of steps left (Held).
 pub mod Order
+pub mod Left
 pub mod Held

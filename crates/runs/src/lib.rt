@@ -1,39 +1,14 @@
-// A step of any kind, given as one order, at the station over its four lent buffers; and what is claimed of every list of steps, in its contract.
+// A step of any kind at the station over its four lent buffers; and what is claimed of every list of steps, in its contract.
 ghost use mathlib.Core.Path.{_≡_};
 ghost use mathlib.Core.List.{[]};
-ghost use Rattle.station.specs.Buffers.{all, blankNumber, blankAfter};
-ghost use Rattle.runs.specs.Order.{callOf, toldOf, leftOf};
+ghost use Rattle.buffers.specs.Buffers.{all};
+ghost use Rattle.station_calls.specs.Calls.{blankNumber, blankAfter};
+ghost use Rattle.runs.specs.Order.{callOf};
+ghost use Rattle.runs.specs.Left.{toldOf, leftOf};
 ghost use Rattle.runs.specs.Held.{Holds, Claimed};
-use coordinator::BeginWith;
-use station::Answer;
-
-// The kinds of steps.
-pub enum Kind {
-    Begin,
-    OpenRead,
-    OpenWrite,
-    SetValue,
-    Found,
-    Reselect,
-    RequestCommit,
-    Abort,
-    Send,
-    Deliver,
-    Drop,
-    Switch,
-}
-
-// A step: its kind, and what that kind needs. The rest is not looked at.
-pub struct Order {
-    pub kind: Kind,
-    pub node: u8,
-    pub to: u8,
-    pub object: u8,
-    pub place: u8,
-    pub flag: bool,
-    pub value: u64,
-    pub with: BeginWith,
-}
+use buffers::Answer;
+use orders::Kind;
+use orders::Order;
 
 // Starts anew: a blank station whose nodes of a mask are on. Ruled out: a station on which a step was taken; another mask.
 pub fn start(images: &mut [u8], records: &mut [u8], pool: &mut [u8], own: &mut [u8], on: u16) -> u8
@@ -42,7 +17,7 @@ pub fn start(images: &mut [u8], records: &mut [u8], pool: &mut [u8], own: &mut [
         ≡ blankAfter (all (now (images .entry)) (now (records .entry)) (now (pool .entry)) (now (own .entry))) on ⌝ }
     ensures { λ r. ⌜ (r ≡ 0 → Holds on [] (all (now (images .exit)) (now (records .exit)) (now (pool .exit)) (now (own .exit)))) ⌝ }
 {
-    station::blank(images, records, pool, own, on)
+    station_calls::blank(images, records, pool, own, on)
 }
 
 // Takes one step, and demand 3 holds of the longer list. Ruled out: a step of another kind; a buffer altered that this kind of step leaves alone;
@@ -63,20 +38,20 @@ pub fn step(
     let kind = o.kind;
     let with = o.with;
     match kind {
-        Kind::Begin => station::begin(records, own, o.node, with),
-        Kind::OpenRead => station::open_read(records, own, o.node, o.object),
-        Kind::OpenWrite => station::open_write(records, own, o.node, o.object),
-        Kind::SetValue => station::set_value(records, own, o.node, o.object, o.value),
-        Kind::Found => station::found(records, own, o.node, o.object),
+        Kind::Begin => station_calls::begin(records, own, o.node, with),
+        Kind::OpenRead => station_calls::open_read(records, own, o.node, o.object),
+        Kind::OpenWrite => station_calls::open_write(records, own, o.node, o.object),
+        Kind::SetValue => station_calls::set_value(records, own, o.node, o.object, o.value),
+        Kind::Found => station_calls::found(records, own, o.node, o.object),
         Kind::Reselect => {
             let distances = with.distances;
-            station::reselect(records, own, o.node, with.live, distances)
+            station_calls::reselect(records, own, o.node, with.live, distances)
         }
-        Kind::RequestCommit => station::request_commit(records, own, o.node),
-        Kind::Abort => station::abort(records, own, o.node),
+        Kind::RequestCommit => station_calls::request_commit(records, own, o.node),
+        Kind::Abort => station_calls::abort(records, own, o.node),
         Kind::Send => station::send(records, pool, own, o.node, o.to, o.object),
         Kind::Deliver => station::deliver(images, records, pool, own, o.place, o.flag),
         Kind::Drop => station::drop(pool, o.place),
-        Kind::Switch => station::switch(own, o.node, o.flag),
+        Kind::Switch => station_calls::switch(own, o.node, o.flag),
     }
 }

@@ -5,7 +5,7 @@ use mathlib.Core.List.{List}
 use Prim.Native.Nat.{ℕ}
 use borrow.Author.Tests.{eq-eqb, ne-eqb}
 use Rattle.report.specs.Page.{Page, page, inks, behind}
-use Rattle.station.specs.Buffers.{Buffers}
+use Rattle.buffers.specs.Buffers.{Buffers}
 use Rattle.script.specs.declared.Parsed.{Parsed}
 use Rattle.script.specs.Parse.{parsed}
 use Rattle.scenario.specs.declared.Reader.{Reader}

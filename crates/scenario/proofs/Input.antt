@@ -11,14 +11,16 @@ use Rattle.coordinator.specs.State.{everyNode}
 use Rattle.pool.proofs.Numbers.{fine}
 use Rattle.replay.specs.Layout.{size as sheetSize}
 use Rattle.replay.specs.Sheet.{blankAfter as sheetBlank}
-use Rattle.station.specs.Station.{blankStation}
-use Rattle.station.specs.Run.{trace}
-use Rattle.station.specs.Buffers.{Buffers, all, Whole, blankNumber, blankAfter}
+use Rattle.steps.specs.Station.{blankStation}
+use Rattle.steps.specs.Run.{trace}
+use Rattle.buffers.specs.Buffers.{Buffers, all, Whole}
+use Rattle.station_calls.specs.Calls.{blankNumber, blankAfter}
 use Rattle.history.specs.Claims.{AllTyped}
 use Rattle.history.specs.Running.{sheet, keptFrom}
 use Rattle.history.proofs.Running.{always-reads}
-use Rattle.runs.specs.declared.Order.{Order}
-use Rattle.runs.specs.Order.{callOf, leftOf}
+use Rattle.orders.specs.declared.Order.{Order}
+use Rattle.runs.specs.Order.{callOf}
+use Rattle.runs.specs.Left.{leftOf}
 use Rattle.runs.specs.Held.{Holds}
 use Rattle.runs.proofs.Kept.{own-is}
 use Rattle.runs.proofs.Demand.{claimed, begun}

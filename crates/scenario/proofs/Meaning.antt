@@ -21,25 +21,27 @@ use Rattle.pool.specs.Pool.{count, check, messageAt, waiting}
 use Rattle.pool.proofs.Numbers.{fine}
 use Rattle.pool.proofs.Laws.{length-waiting, getD-waiting}
 use Rattle.replay.specs.Sheet.{begunAfter, openedAfter, valuedAfter, committedAfter}
-use Rattle.station.specs.declared.Answer.{Answer}
-use Rattle.station.specs.Station.{Station, blankStation, withRecord, withPool, withOn, without}
-use Rattle.station.specs.Step.{Call, begin, openRead, openWrite, setValue, found, reselect, requestCommit, abort, send, delivery, drop, switch}
-use Rattle.station.specs.Step.{Outcome, refusedWith, taken, whenOff, hosted, step, deliveryOf, dropOf, switchOf}
-use Rattle.station.specs.Run.{trace}
-use Rattle.station.specs.Buffers.{Buffers, all, stationOf}
+use Rattle.buffers.specs.declared.Answer.{Answer}
+use Rattle.steps.specs.Station.{Station, blankStation, withRecord, withPool, withOn, without}
+use Rattle.steps.specs.Step.{Call, begin, openRead, openWrite, setValue, found, reselect, requestCommit, abort, send, delivery, drop, switch, Outcome}
+use Rattle.steps.specs.Step.{refusedWith, taken, whenOff, hosted, step, deliveryOf, dropOf, switchOf}
+use Rattle.steps.specs.Run.{trace}
+use Rattle.buffers.specs.Buffers.{Buffers, all, stationOf}
 use Rattle.history.specs.Ledger.{Ledger, poolPut, note, noted, ledger}
 use Rattle.history.specs.Claims.{AllTyped, reached, told}
 use Rattle.history.specs.Running.{putIn, sheetKeeper, telling, keeping, keptFrom, sheet}
 use Rattle.history.proofs.Claimed.{always-good}
 use Rattle.history.proofs.Room.{length-without}
-use Rattle.runs.specs.declared.Order.{Order}
-use Rattle.runs.specs.declared.Kind.{Kind}
-use Rattle.runs.specs.declared.Kind.the-variants.{Begin, OpenRead, OpenWrite, SetValue, Found, Reselect, RequestCommit, Abort, Send, Deliver, Drop, Switch}
-use Rattle.runs.specs.Order.{callBy, callOf, toldOf, leftOf}
+use Rattle.orders.specs.declared.Order.{Order}
+use Rattle.orders.specs.declared.Kind.{Kind}
+use Rattle.orders.specs.declared.Kind.the-variants.{Begin, OpenRead, OpenWrite, SetValue, Found, Reselect, RequestCommit, Abort, Send, Deliver, Drop, Switch}
+use Rattle.runs.specs.Order.{callBy, callOf}
+use Rattle.runs.specs.Left.{toldOf, leftOf}
 use Rattle.runs.specs.Held.{Holds, Next}
 use Rattle.runs.proofs.Demand.{claimed}
-use Rattle.scenario.specs.Steps.{there, seen, nobody, ownerSeen, sheetPut, sheetTold, takenOut, putPlace, putBy, sheetBy, putOf, stepSheet}
-use Rattle.scenario.proofs.Seen.{unseen, is-seen}
+use Rattle.results.specs.Told.{there, seen, nobody, ownerSeen, sheetPut, sheetTold, takenOut, putPlace, putBy, sheetBy}
+use Rattle.scenario.specs.Steps.{putOf, stepSheet}
+use Rattle.results.proofs.Seen.{unseen, is-seen}
 
 -- ---- where the message that was put is found
 there-of : (P : List ℕ) (k : ℕ) → check P ≡ 0 → k < count P → there P k ≡ true
@@ -86,7 +88,7 @@ placed P rest (some m) n gone e w h = ap (seen P) place ∙ is-seen P (length re
 -- ---- what a step puts: a host call, a drop and a switch nothing
 hosted-none : (st : Station) (n : ℕ) (s : Step) → hosted st n s .put ≡ none
 unfolding hosted
-hosted-none st n s = go (contains (st .on) n) (eqb (s .number) 0)
+hosted-none st n s = go (contains (st .own .on) n) (eqb (s .number) 0)
   where
     go : (a b : Bool)
         → cond a (cond b (taken (s .answer) (withRecord st n (s .coordinator))) (refusedWith (s .number) st)) (refusedWith (whenOff (s .number)) st) .put
@@ -107,7 +109,7 @@ switch-none : (st : Station) (n : ℕ) (on : Bool) → switchOf st n on .put ≡
 unfolding switchOf
 switch-none st n on = go (noNode n)
   where
-    go : (a : Bool) → cond a (refusedWith 4 st) (taken 0 (withOn st (cond on (joined (st .on) (only n)) (minus (st .on) (only n))))) .put ≡ none
+    go : (a : Bool) → cond a (refusedWith 4 st) (taken 0 (withOn st (cond on (joined (st .own .on) (only n)) (minus (st .own .on) (only n))))) .put ≡ none
     go true = refl
     go false = refl
 

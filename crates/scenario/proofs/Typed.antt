@@ -12,11 +12,11 @@ use lib.ListN.{length, getD, set, replicate, length-set}
 use lib.Seq.{getD-set-same, getD-set-other, set-out}
 use borrow.Author.Tests.{ltb-false, eqb-false}
 use Rattle.octets.proofs.Laws.{lt-or-le}
-use Rattle.station.specs.Step.{Call}
+use Rattle.steps.specs.Step.{Call}
 use Rattle.history.specs.Claims.{Typed, Distances}
-use Rattle.runs.specs.declared.Kind.{Kind}
-use Rattle.runs.specs.declared.Kind.the-variants.{Begin, OpenRead, OpenWrite, SetValue, Found, Reselect, RequestCommit, Abort, Send, Deliver, Drop, Switch}
-use Rattle.runs.specs.declared.Order.{Order}
+use Rattle.orders.specs.declared.Kind.{Kind}
+use Rattle.orders.specs.declared.Kind.the-variants.{Begin, OpenRead, OpenWrite, SetValue, Found, Reselect, RequestCommit, Abort, Send, Deliver, Drop, Switch}
+use Rattle.orders.specs.declared.Order.{Order}
 use Rattle.runs.specs.Order.{callBy, callOf}
 use Rattle.script.specs.declared.Said.{Said}
 use Rattle.script.specs.Words.{reselectWord}

@@ -6,10 +6,10 @@ use mathlib.Core.Path.{_≡_}
 use lib.Dec.{eqb, ltb}
 use lib.ListN.{length}
 use Rattle.coordinator.specs.State.{everyNode}
-use Rattle.station.specs.Step.{Call}
-use Rattle.station.specs.Station.{blankStation}
-use Rattle.station.specs.Run.{trace}
-use Rattle.station.specs.Buffers.{Buffers}
+use Rattle.steps.specs.Step.{Call}
+use Rattle.steps.specs.Station.{blankStation}
+use Rattle.steps.specs.Run.{trace}
+use Rattle.buffers.specs.Buffers.{Buffers}
 use Rattle.replay.specs.Layout.{size as sheetSize}
 use Rattle.replay.specs.Sheet.{blankAfter as sheetBlank}
 use Rattle.history.specs.Claims.{AllTyped}

@@ -7,16 +7,18 @@ use lib.ListN.{length, take}
 use Rattle.numbers.specs.Numbers.{stranger}
 use Rattle.coordinator.specs.State.{everyNode}
 use Rattle.replay.specs.Sheet.{blankAfter as sheetBlank}
-use Rattle.station.specs.Buffers.{Buffers, blankNumber, blankAfter}
-use Rattle.runs.specs.declared.Order.{Order}
-use Rattle.runs.specs.Order.{callOf, leftOf}
+use Rattle.buffers.specs.Buffers.{Buffers}
+use Rattle.station_calls.specs.Calls.{blankNumber, blankAfter}
+use Rattle.orders.specs.declared.Order.{Order}
+use Rattle.runs.specs.Order.{callOf}
+use Rattle.runs.specs.Left.{leftOf}
 use Rattle.report.specs.Texts.{Text, spaceText, numberTexts}
 use Rattle.closing.specs.Texts.{closingTexts}
 use Rattle.script.specs.declared.Parsed.{Parsed}
 use Rattle.script.specs.Parse.{parsed}
 use Rattle.scenario.specs.declared.Reader.{Reader}
 use Rattle.scenario.specs.Reading.{noted, next}
-use Rattle.scenario.specs.Results.{newline, refusalTexts}
+use Rattle.results.specs.Results.{newline, refusalTexts}
 use Rattle.scenario.specs.Steps.{stepTexts, stepSheet}
 
 -- `line `

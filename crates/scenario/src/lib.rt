@@ -2,8 +2,7 @@
 // into the pool, and the end of each scenario are printed.
 mod lines;
 mod reading;
-mod results;
-mod steps;
+mod step;
 
 pub use lines::finish;
 pub use lines::take;

@@ -1,7 +1,7 @@
 // A byte of the input, and its end: a line that is complete is taken, and what comes of it is printed.
 ghost use mathlib.Core.Path.{_≡_};
 ghost use Rattle.report.specs.Page.{page, inks};
-ghost use Rattle.station.specs.Buffers.{all};
+ghost use Rattle.buffers.specs.Buffers.{all};
 ghost use Rattle.scenario.specs.Lines.{frontTexts, echoTexts, complaintTexts, endedTexts, startedTexts, anewTexts, anewReader, anewBuffers};
 ghost use Rattle.scenario.specs.Lines.{anewSheet, lineReader, lineBuffers, lineSheet, lineTexts, readerAfter, buffersAfter, sheetAfter};
 ghost use Rattle.scenario.specs.Lines.{textsAfter, lastTexts};
@@ -9,9 +9,9 @@ use crate::Reader;
 use crate::Taken;
 use crate::reading::next;
 use crate::reading::noted;
-use crate::results::refusal;
-use crate::steps::perform;
+use crate::step::perform;
 use coordinator::EVERY_NODE;
+use results::refusal;
 
 const NEWLINE: u8 = 10;
 

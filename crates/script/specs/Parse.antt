@@ -4,9 +4,9 @@ use mathlib.Core.Bool.{Bool, cond, not, _&&_, _||_}
 use lib.Dec.{ltb, leb, eqb}
 use lib.ListN.{getD}
 use Rattle.coordinator.specs.declared.BeginWith.{BeginWith}
-use Rattle.runs.specs.declared.Order.{Order}
-use Rattle.runs.specs.declared.Kind.{Kind}
-use Rattle.runs.specs.declared.Kind.the-variants.{Begin, OpenRead, OpenWrite, SetValue, Found, Reselect, RequestCommit, Abort, Send, Deliver, Drop, Switch}
+use Rattle.orders.specs.declared.Order.{Order}
+use Rattle.orders.specs.declared.Kind.{Kind}
+use Rattle.orders.specs.declared.Kind.the-variants.{Begin, OpenRead, OpenWrite, SetValue, Found, Reselect, RequestCommit, Abort, Send, Deliver, Drop, Switch}
 use Rattle.script.specs.declared.Said.{Said}
 use Rattle.script.specs.declared.Parsed.{Parsed}
 use Rattle.script.specs.Words.{blankWord, beginWord, reselectWord, readWord, writeWord, setWord, foundWord, askWord, abortWord}

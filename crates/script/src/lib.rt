@@ -5,7 +5,7 @@ mod naming;
 pub use line::fresh;
 pub use line::step;
 pub use naming::parse;
-use runs::Order;
+use orders::Order;
 
 // What the bytes of a line say so far.
 pub struct Said {

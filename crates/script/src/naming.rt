@@ -10,8 +10,8 @@ use crate::line::space;
 use coordinator::BeginWith;
 use numbers::both;
 use numbers::either;
-use runs::Kind;
-use runs::Order;
+use orders::Kind;
+use orders::Order;
 
 const BLANK: u64 = 422725119595;
 

@@ -18,15 +18,14 @@ use Rattle.replica.proofs.Delivered.{past, or-neither}
 use Rattle.arrivals.specs.Receive.{forReplica}
 use Rattle.pool.specs.Pool.{count, waiting, messageAt, check}
 use Rattle.pool.proofs.Laws.{length-waiting, getD-waiting}
-use Rattle.station.specs.declared.Answer.{Answer}
-use Rattle.station.specs.Station.{Station, putAt}
-use Rattle.station.specs.Step.{delivery, Outcome, refusedWith, atReplica, atCoordinator, arriving, deliveryOf, step}
-use Rattle.station.specs.Buffers.{Buffers, wrong, lower, lengthsNumber, ownNumber, onOf, recordDamaged}
-use Rattle.station.specs.Buffers.{recordFirst, stationOf, answerWith, told, recordsAfter}
-use Rattle.station.specs.Buffers.{all, buffersNumber, messageIn, reaches}
-use Rattle.station.specs.Buffers.{withImageAt, deliveryFirst, deliveryTold, imagesAfter, deliveryImages, deliveryRecords, leaving, exchanged}
-use Rattle.station.specs.Buffers.{putInto, deliveryPool}
-use Rattle.station.proofs.Hosted.{long, lower-none}
+use Rattle.buffers.specs.declared.Answer.{Answer}
+use Rattle.steps.specs.Station.{Station, putAt}
+use Rattle.steps.specs.Step.{delivery, Outcome, refusedWith, atReplica, atCoordinator, arriving, deliveryOf, step}
+use Rattle.buffers.specs.Buffers.{Buffers, wrong, ownNumber, onOf, recordDamaged, recordFirst, stationOf, answerWith, told, recordsAfter, all, withImageAt}
+use Rattle.station.specs.Messages.{lower, lengthsNumber, buffersNumber, messageIn, reaches, deliveryFirst, deliveryTold, imagesAfter, deliveryImages}
+use Rattle.station.specs.Messages.{deliveryRecords, leaving, exchanged, putInto, deliveryPool}
+use Rattle.buffers.proofs.First.{long}
+use Rattle.station.proofs.Lower.{lower-none}
 use Rattle.station.proofs.Delivering.{image-in, image-same, Leaves, images-first}
 
 -- ---- what the numbers of the buffers and of the message tell

@@ -31,13 +31,13 @@ use Rattle.record.specs.Record.{check as checkRecord}
 use Rattle.record.specs.Call.{called, toldBy, calledOf, kept, recordAfter}
 use Rattle.record.specs.Call.{receivedOf as calledBy}
 use Rattle.record.proofs.OnBytes.{long-answer}
-use Rattle.station.specs.Station.{Station, putAt}
-use Rattle.station.specs.Step.{Outcome, refusedWith, answered, atReplica, atCoordinator}
-use Rattle.station.specs.Buffers.{recordAt, recordFirst, handedOver}
-use Rattle.station.specs.Buffers.{imageAt, withImageAt, imageIn, withRecordAt, recordIn, stationOf, answerWith, told, recordsAfter, all, imagesAfter}
-use Rattle.station.specs.Buffers.{leaving, exchanged, putInto, blocked}
+use Rattle.steps.specs.Station.{Station, putAt}
+use Rattle.steps.specs.Step.{Outcome, refusedWith, answered, atReplica, atCoordinator}
+use Rattle.buffers.specs.Buffers.{recordAt, recordFirst, imageAt, withImageAt, imageIn, withRecordAt, recordIn, stationOf, answerWith, told, recordsAfter}
+use Rattle.buffers.specs.Buffers.{all}
+use Rattle.station.specs.Messages.{handedOver, imagesAfter, leaving, exchanged, putInto, blocked}
 use Rattle.station.proofs.Waiting.{there-of, check-leaving}
-use Rattle.station.proofs.Records.{splice-same, record-same, damaged-two, damaged-is, same-called, same-after}
+use Rattle.buffers.proofs.Records.{splice-same, record-same, damaged-two, damaged-is, same-called, same-after}
 
 -- ---- tests joined
 pub none-said : (b : Bool) → (b && false) ≡ true → ⊥
@@ -176,7 +176,7 @@ module _ (I R P O : List ℕ) (n k : ℕ) (kept : Bool) where
             (simp (q, e, u, s), (simp (q, e, u, s, same), simp (q, e, u, s, t) (add-after (leaving P k kept) (encode m) r)))
 
   -- ---- what each end of a delivery at a replica leaves
-  abbrev pub Leaves : Rattle.station.specs.declared.Answer.Answer → List ℕ → List ℕ → Outcome → Type 0
+  abbrev pub Leaves : Rattle.buffers.specs.declared.Answer.Answer → List ℕ → List ℕ → Outcome → Type 0
   Leaves a i p o = (a ≡ told 0 o) × ((i ≡ imagesAfter 0 o n I) × (p ≡ exchanged 0 o k kept P))
 
   abbrev d : Delivered

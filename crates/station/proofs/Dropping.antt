@@ -10,8 +10,9 @@ use borrow.Author.Tests.{eq-eqb, eqb-true, leb-true, leb-false, lt-ltb, le-ltb}
 use Rattle.pool.specs.Pool.{count, waiting, check}
 use Rattle.pool.specs.Change.{removed, removeRefusals, removeNumber, removeAfter}
 use Rattle.pool.proofs.Laws.{length-waiting}
-use Rattle.station.specs.Step.{step, dropOf}
-use Rattle.station.specs.Buffers.{stationOf, answerWith, told, dropping, dropTold, dropPool}
+use Rattle.steps.specs.Step.{step, dropOf}
+use Rattle.buffers.specs.Buffers.{stationOf, answerWith, told}
+use Rattle.station.specs.Messages.{dropping, dropTold, dropPool}
 
 module _ (P : List ℕ) (k : ℕ) where
   both : (answerWith (removeNumber P k) 0 ≡ dropTold (dropping P) k) × (removeAfter P k ≡ dropPool (dropping P) k)

@@ -1,11 +1,7 @@
--- The steps over the buffers: thirteen parts of one width (Parted), a call on a node's record (Records), and what host calls (Hosted), sends (Sending),
--- drops (Dropping) and deliveries (Waiting, Delivering, Arriving) tell and leave.
-pub mod Parted
-pub mod Records
-pub mod Hosted
+-- What sends (Sending), drops (Dropping) and deliveries (Waiting, Delivering, Arriving) tell and leave; of two numbers neither refuses (Lower).
+pub mod Lower
 pub mod Sending
 pub mod Dropping
 pub mod Waiting
 pub mod Delivering
 pub mod Arriving
-pub mod Blanking

@@ -29,14 +29,12 @@ use Rattle.pool.specs.Pool.{count, waiting}
 use Rattle.pool.specs.Change.{added, addNumber, addAfter}
 use Rattle.pool.proofs.Numbers.{Room, fine, room-number, add-after}
 use Rattle.pool.proofs.Laws.{length-waiting}
-use Rattle.station.specs.Station.{Station}
-use Rattle.station.specs.Step.{Outcome, whenOff, sendNumber, sendOf, step}
-use Rattle.station.specs.Buffers.{onOf, recordAt, recordIn, recordDamaged, wrong, ownDamaged}
-use Rattle.station.specs.Buffers.{stationOf, answerWith, told, hostFirst, lower, poolAfter, putInto, sending, sendFirst}
-use Rattle.station.specs.Buffers.{sendTold, sendPool}
-use Rattle.station.specs.OnBytes.{endsFirst, owedAt, owedInto}
-use Rattle.station.proofs.Records.{damaged-two, damaged-is}
-use Rattle.station.proofs.Hosted.{off-number}
+use Rattle.steps.specs.Station.{Station}
+use Rattle.steps.specs.Step.{Outcome, whenOff, sendNumber, sendOf, step}
+use Rattle.buffers.specs.Buffers.{onOf, recordAt, recordIn, recordDamaged, wrong, ownDamaged, stationOf, answerWith, told, hostFirst, endsFirst}
+use Rattle.station.specs.Messages.{lower, poolAfter, putInto, sending, sendFirst, sendTold, sendPool, owedAt, owedInto}
+use Rattle.buffers.proofs.Records.{damaged-two, damaged-is}
+use Rattle.steps.proofs.Nodes.{off-number}
 
 above : (k : ℕ) → (k ≡ 0 → ⊥) → 0 < k
 above zero h = absurd (h refl)

@@ -1,35 +1,17 @@
--- A waiting message as the pool lends it, and what a delivery leaves of the pool.
+-- What a delivery leaves of the pool.
 use mathlib.Core.Path.{_≡_, refl, sym, ap, _∙_}
-use mathlib.Core.Bool.{Bool, true, false, cond, not}
+use mathlib.Core.Bool.{Bool, true, false, not}
 use mathlib.Core.List.{List}
-use Prim.Native.Nat.{ℕ, _+_, _-_, _<_, _≤_}
-use native.Mathlib.Omega.{arith}
+use Prim.Native.Nat.{ℕ, _<_}
 use lib.Dec.{ltb, leb}
-use lib.ListN.{length, take, drop}
 use borrow.Author.Tests.{lt-ltb, le-ltb, leb-true, leb-false}
-use Rattle.parts.specs.Parts.{part}
-use Rattle.pool.specs.Pool.{messagePlace, count, lengthAt, messageAt, check}
+use Rattle.pool.specs.Pool.{count, check}
 use Rattle.pool.specs.Change.{removed, removeAfter}
 use Rattle.pool.proofs.Numbers.{There, fine, remove-after}
-use Rattle.pool.proofs.Laws.{length-fits, count-removed, check-removed}
-use Rattle.station.specs.Buffers.{leaving}
+use Rattle.pool.proofs.Laws.{check-removed}
+use Rattle.station.specs.Messages.{leaving}
 
--- the part of the pool that starts at a message's place and is as long as the message
-pub message-lent : (P : List ℕ) (k start n : ℕ) → start ≡ messagePlace k → n ≡ lengthAt P k → take (start + n - start) (drop start P) ≡ messageAt P k
-unfolding messageAt part
-message-lent P k start n e f = let g : start + n - start ≡ n = omega arith in rw (g, e, f)
-
-pub record Inside (P : List ℕ) (start n : ℕ) : Type 0 where
-  pub long : length P ≡ 16513
-  pub ends : start + n ≤ 16513
-
-pub inside : (P : List ℕ) (k start n : ℕ) → check P ≡ 0 → k < count P → start ≡ messagePlace k → n ≡ lengthAt P k → Inside P start n
-inside P k start n e h a b =
-    let f = fine P e in
-    let r = f .room in
-    let g = length-fits P k in
-    record { long = f .long; ends = omega arith }
-
+-- a message that waits, and the pool without it
 pub there-of : (P : List ℕ) (k : ℕ) → check P ≡ 0 → k < count P → There P k
 there-of P k e h = record { pool = fine P e; message = h }
 

@@ -1,14 +1,13 @@
 // What the pool takes part in: a send of what is due, and a drop.
 ghost use mathlib.Core.Path.{_≡_};
 ghost use lib.ListN.{length};
-ghost use Rattle.station.specs.OnBytes.{owedAt, owedInto};
-ghost use Rattle.station.specs.Buffers.{lower, sending, sendTold, sendPool, dropping, dropTold, dropPool};
-use crate::Answer;
-use crate::calls::ends_number;
-use crate::common::on;
-use crate::common::refused;
-use crate::common::when_off;
-use crate::common::wide;
+ghost use Rattle.station.specs.Messages.{owedAt, owedInto, lower, sending, sendTold, sendPool, dropping, dropTold, dropPool};
+use crate::wide;
+use buffers::Answer;
+use buffers::ends_number;
+use buffers::on;
+use buffers::refused;
+use buffers::when_off;
 use wire::Written;
 
 // Of two numbers the lower that is not 0.

@@ -2,7 +2,8 @@
 use mathlib.Core.Path.{_≡_, sym, subst, _∙_}
 use mathlib.Core.List.{[]}
 use denote.Ref.{now}
-use Rattle.station.specs.Buffers.{Buffers, all, blankAfter}
+use Rattle.buffers.specs.Buffers.{Buffers, all}
+use Rattle.station_calls.specs.Calls.{blankAfter}
 use Rattle.runs.specs.Held.{Holds}
 use Rattle.runs.proofs.Demand.{begun}
 use borrow.Author.Needs.{needs}

@@ -3,10 +3,11 @@ use mathlib.Core.Path.{_≡_, refl, ap}
 use denote.Ref.{now}
 use Rattle.coordinator.specs.System.{tree}
 use Rattle.coordinator.specs.Calls.{beginOf, openOf, setOf, foundOf, reselectOf, requestCommitOf, abortOf}
-use Rattle.station.specs.Step.{begin, openRead, openWrite, setValue, found, reselect, requestCommit, abort, step}
-use Rattle.station.specs.Buffers.{recordIn}
-use Rattle.runs.specs.declared.Kind.{Kind}
-use Rattle.runs.specs.Order.{callBy, toldOf, leftOf}
+use Rattle.steps.specs.Step.{begin, openRead, openWrite, setValue, found, reselect, requestCommit, abort, step}
+use Rattle.buffers.specs.Buffers.{recordIn}
+use Rattle.orders.specs.declared.Kind.{Kind}
+use Rattle.runs.specs.Order.{callBy}
+use Rattle.runs.specs.Left.{toldOf, leftOf}
 use Rattle.runs.proofs.Orders.{hosted-tells, send-tells, delivery-tells, drop-tells, switch-tells}
 use borrow.Author.Needs.{needs}
 use Rattle.runs.proofs.step.Statement.{statement}

@@ -7,7 +7,7 @@ use denote.Ref.{now}
 use lib.ListN.{take, drop}
 use Rattle.parts.specs.Parts.{part}
 use Rattle.image.specs.Layout.{version, value}
-use Rattle.station.specs.Buffers.{imageAt}
+use Rattle.buffers.specs.Buffers.{imageAt}
 use Rattle.closing.specs.declared.Best.{Best}
 use Rattle.closing.specs.Copies.{copyAt}
 use borrow.Author.Needs.{needs}

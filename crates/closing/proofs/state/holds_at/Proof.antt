@@ -5,7 +5,7 @@ use native.Mathlib.Omega.{arith}
 use denote.Ref.{now}
 use lib.ListN.{take, drop}
 use Rattle.parts.specs.Parts.{part}
-use Rattle.station.specs.Buffers.{imageAt}
+use Rattle.buffers.specs.Buffers.{imageAt}
 use Rattle.closing.specs.State.{holds, holdsAt}
 use borrow.Author.Needs.{needs}
 use Rattle.closing.proofs.state.holds_at.Statement.{statement}

@@ -6,7 +6,7 @@ use denote.Ref.{now}
 use lib.ListN.{take, drop}
 use Rattle.parts.specs.Parts.{part}
 use Rattle.record.specs.Record.{recordOf}
-use Rattle.station.specs.Buffers.{recordAt}
+use Rattle.buffers.specs.Buffers.{recordAt}
 use borrow.Author.Needs.{needs}
 use Rattle.closing.proofs.state.record_at.Statement.{statement}
 use Rattle.closing.proofs.state.record_at.Tie as tie

@@ -2,8 +2,11 @@
 use mathlib.Core.Path.{sym, ap, _∙_}
 use mathlib.Core.Bool.{Bool, _&&_}
 use denote.Ref.{now}
+use lib.Dec.{eqb}
+use lib.ListN.{length}
 use borrow.Author.Tests.{eqb-true}
-use Rattle.history.proofs.Tests.{and-true}
+use Rattle.replica.proofs.Spoken.{left-true, right-true}
+use Rattle.buffers.specs.Buffers.{imagesSize, recordsSize}
 use Rattle.closing.specs.State.{allSettled, settled}
 use borrow.Author.Needs.{needs}
 use Rattle.closing.proofs.state.settled.Statement.{statement}
@@ -14,8 +17,11 @@ both-requires c κs = search needs
 
 all-settled-requires : tie.Need-all-settled-requires
 all-settled-requires c κs =
-    let z = and-true _ _ (sym (c .before .both .ensures) ∙ c .if1 .taken) in
-    (eqb-true _ _ (z .0), eqb-true _ _ (z .1))
+    let x = c .before .before .before .before .args in
+    let i = eqb (length (now (x .images))) imagesSize in
+    let r = eqb (length (now (x .records))) recordsSize in
+    let e = sym (c .before .both .ensures) ∙ c .if1 .taken in
+    (eqb-true _ _ (left-true i r e), eqb-true _ _ (right-true i r e))
 
 returns : tie.Need-returns
 unfolding settled

@@ -3,7 +3,7 @@ use mathlib.Core.Path.{_≡_, ap, _∙_}
 use mir.Syntax.{w64}
 use mir.Val.{toZ, ofZ}
 use Rattle.octets.specs.Signed.{signedOf}
-use Rattle.station.specs.declared.Answer.{Answer}
+use Rattle.buffers.specs.declared.Answer.{Answer}
 use Rattle.host.proofs.Told.{made-value}
 use borrow.Author.Needs.{needs}
 use Rattle.host.proofs.stations.senna_station_found.Statement.{statement}

@@ -4,8 +4,8 @@ use mathlib.Core.List.{List}
 use Prim.Native.Nat.{ℕ}
 use denote.Ref.{now}
 use borrow.Author.Tests.{ne-eqb}
-use Rattle.station.specs.Step.{Call, reselect}
-use Rattle.station.specs.Buffers.{ends}
+use Rattle.steps.specs.Step.{Call, reselect}
+use Rattle.buffers.specs.Buffers.{ends}
 use Rattle.host.proofs.Told.{taken-told, taken-records}
 use Rattle.host.specs.Stations.{toldWith, recordsWith}
 use borrow.Author.Needs.{needs}

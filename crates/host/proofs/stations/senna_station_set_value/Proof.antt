@@ -6,8 +6,9 @@ use mir.Val.{toZ, ofZ}
 use Prim.Native.Nat.{ℕ}
 use denote.Ref.{now}
 use Rattle.octets.specs.Signed.{bitsOf}
-use Rattle.station.specs.Step.{Call, setValue}
-use Rattle.station.specs.Buffers.{ends, hostTold, hostRecords}
+use Rattle.steps.specs.Step.{Call, setValue}
+use Rattle.buffers.specs.Buffers.{ends}
+use Rattle.station_calls.specs.Calls.{hostTold, hostRecords}
 use borrow.Author.Needs.{needs}
 use Rattle.host.proofs.stations.senna_station_set_value.Statement.{statement}
 use Rattle.host.proofs.stations.senna_station_set_value.Tie as tie

@@ -3,7 +3,7 @@ use mathlib.Core.Path.{refl, ap, _∙_}
 use denote.Ref.{now}
 use borrow.Author.Tests.{lt-ltb, le-ltb}
 use Rattle.report.specs.Page.{page, inks, behind, page-length}
-use Rattle.scenario.specs.Results.{refusalTexts}
+use Rattle.results.specs.Results.{refusalTexts}
 use Rattle.scenario.specs.Lines.{echoTexts, endedTexts, startedTexts, anewTexts, anewReader, anewBuffers, anewSheet}
 use borrow.Author.Needs.{needs}
 use Rattle.scenario.proofs.lines.anew.Statement.{statement}

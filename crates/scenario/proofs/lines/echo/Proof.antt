@@ -3,9 +3,9 @@ use mathlib.Core.List.{[], _∷_, _++_}
 use denote.Ref.{now}
 use Rattle.report.specs.Page.{page, behind}
 use Rattle.report.specs.Texts.{spaceText, numberTexts}
-use Rattle.scenario.specs.Results.{newline}
+use Rattle.results.specs.Results.{newline}
 use Rattle.scenario.specs.Lines.{frontTexts, echoTexts}
-use Rattle.scenario.proofs.Chain.{last, before}
+use Rattle.results.proofs.Chain.{last, before}
 use borrow.Author.Needs.{needs}
 use Rattle.scenario.proofs.lines.echo.Statement.{statement}
 use Rattle.scenario.proofs.lines.echo.Tie as tie

@@ -4,8 +4,9 @@ use mathlib.Core.Bool.{true}
 use mathlib.Core.List.{_++_}
 use denote.Ref.{now}
 use Rattle.report.specs.Page.{page, inks, behind}
-use Rattle.station.specs.Buffers.{all}
-use Rattle.runs.specs.Order.{callOf, leftOf}
+use Rattle.buffers.specs.Buffers.{all}
+use Rattle.runs.specs.Order.{callOf}
+use Rattle.runs.specs.Left.{leftOf}
 use Rattle.script.specs.declared.Parsed.{Parsed}
 use Rattle.scenario.specs.Reading.{next}
 use Rattle.scenario.specs.Steps.{stepTexts, stepSheet}

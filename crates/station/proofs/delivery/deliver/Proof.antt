@@ -7,8 +7,10 @@ use borrow.Author.Tests.{not-true, not-false}
 use Rattle.mask.specs.Mask.{contains}
 use Rattle.wire.specs.Decode.{toOf}
 use Rattle.pool.specs.Pool.{messageAt}
-use Rattle.station.specs.Buffers.{Buffers, onOf, recordDamaged, answerWith, all, buffersNumber}
-use Rattle.station.proofs.Arriving.{buffers-are, Sized, sized, Waits, waits-of, receiver-node, bad-buffers, no-message, off, at-replica, at-coordinator}
+use Rattle.buffers.specs.Buffers.{Buffers, onOf, recordDamaged, answerWith, all}
+use Rattle.station.specs.Messages.{buffersNumber}
+use Rattle.station.proofs.Arriving.{buffers-are, Sized, sized, Waits, waits-of, receiver-node, bad-buffers, no-message, off, at-replica}
+use Rattle.station.proofs.Arriving.{at-coordinator}
 use borrow.Author.Needs.{needs}
 use Rattle.station.proofs.delivery.deliver.Statement.{statement}
 use Rattle.station.proofs.delivery.deliver.Tie as tie

@@ -8,7 +8,8 @@ use lib.Dec.{ltb}
 use Rattle.wire.specs.Decode.{longest}
 use Rattle.replica.specs.Receive.{deliver, spoken}
 use Rattle.pool.specs.Pool.{count, messageAt}
-use Rattle.station.specs.Buffers.{imageAt, blocked}
+use Rattle.buffers.specs.Buffers.{imageAt}
+use Rattle.station.specs.Messages.{blocked}
 use Rattle.station.proofs.Waiting.{full-as}
 use borrow.Author.Needs.{needs}
 use Rattle.station.proofs.delivery.is_blocked.Statement.{statement}

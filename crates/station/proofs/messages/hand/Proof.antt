@@ -4,7 +4,7 @@ use Prim.Native.Nat.{ℕ, _+_, _≤_}
 use native.Mathlib.Omega.{arith}
 use mathlib.Core.List.{List}
 use denote.Ref.{now}
-use Rattle.station.proofs.Waiting.{message-lent, Inside, inside}
+use Rattle.buffers.proofs.Waiting.{message-lent, Inside, inside}
 use mathlib.Core.Path.{ap₂}
 use Prim.Native.Nat.{_*_, _-_}
 use lib.ListN.{length, take, drop}
@@ -12,7 +12,7 @@ use Rattle.parts.specs.Parts.{part, splice}
 use Rattle.parts.proofs.Laws.{lent}
 use Rattle.pool.specs.Pool.{messageAt}
 use Rattle.replica.specs.Receive.{deliver, receivedOf, bufferOf}
-use Rattle.station.specs.Buffers.{imageAt, withImageAt}
+use Rattle.buffers.specs.Buffers.{imageAt, withImageAt}
 use borrow.Author.Needs.{needs}
 use Rattle.station.proofs.messages.hand.Statement.{statement}
 use Rattle.station.proofs.messages.hand.Tie as tie

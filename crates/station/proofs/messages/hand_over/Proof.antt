@@ -13,8 +13,8 @@ use Rattle.coordinator.specs.System.{tree}
 use Rattle.arrivals.specs.Receive.{receiveOf}
 use Rattle.record.specs.Call.{recordAfter}
 use Rattle.record.specs.Call.{receivedOf as calledBy}
-use Rattle.station.specs.Buffers.{recordAt, withRecordAt}
-use Rattle.station.proofs.Waiting.{message-lent, Inside, inside}
+use Rattle.buffers.specs.Buffers.{recordAt, withRecordAt}
+use Rattle.buffers.proofs.Waiting.{message-lent, Inside, inside}
 use borrow.Author.Needs.{needs}
 use Rattle.station.proofs.messages.hand_over.Statement.{statement}
 use Rattle.station.proofs.messages.hand_over.Tie as tie

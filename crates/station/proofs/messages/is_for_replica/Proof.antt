@@ -4,7 +4,7 @@ use Prim.Native.Nat.{ℕ, _+_, _≤_}
 use native.Mathlib.Omega.{arith}
 use mathlib.Core.List.{List}
 use denote.Ref.{now}
-use Rattle.station.proofs.Waiting.{message-lent, Inside, inside}
+use Rattle.buffers.proofs.Waiting.{message-lent, Inside, inside}
 use mathlib.Core.Bool.{Bool, _||_}
 use lib.Dec.{eqb}
 use Rattle.wire.specs.Decode.{kindOf}

@@ -8,7 +8,7 @@ use Rattle.station.proofs.Waiting.{taken-out}
 use borrow.Author.Tests.{not-true, not-false}
 use mathlib.Core.Bool.{Bool, true, false, cond}
 use Rattle.pool.specs.Change.{removed}
-use Rattle.station.specs.Buffers.{leaving}
+use Rattle.station.specs.Messages.{leaving}
 use borrow.Author.Needs.{needs}
 use Rattle.station.proofs.messages.take_out.Statement.{statement}
 use Rattle.station.proofs.messages.take_out.Tie as tie

@@ -4,13 +4,13 @@ use Prim.Native.Nat.{ℕ, _+_, _≤_}
 use native.Mathlib.Omega.{arith}
 use mathlib.Core.List.{List}
 use denote.Ref.{now}
-use Rattle.station.proofs.Waiting.{message-lent, Inside, inside}
+use Rattle.buffers.proofs.Waiting.{message-lent, Inside, inside}
 use Prim.Native.Nat.{_*_, _-_}
 use lib.ListN.{take, drop}
 use Rattle.parts.specs.Parts.{part}
 use Rattle.wire.specs.Decode.{longest}
 use Rattle.replica.specs.Receive.{deliver, spoken}
-use Rattle.station.specs.Buffers.{imageAt}
+use Rattle.buffers.specs.Buffers.{imageAt}
 use borrow.Author.Needs.{needs}
 use Rattle.station.proofs.messages.will_answer.Statement.{statement}
 use Rattle.station.proofs.messages.will_answer.Tie as tie

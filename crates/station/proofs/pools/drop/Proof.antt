@@ -2,7 +2,7 @@
 use mathlib.Core.Path.{ap, _∙_}
 use Prim.Native.Nat.{ℕ}
 use denote.Ref.{now}
-use Rattle.station.specs.Buffers.{answerWith}
+use Rattle.buffers.specs.Buffers.{answerWith}
 use Rattle.station.proofs.Dropping.{drop-told, drop-left}
 use borrow.Author.Needs.{needs}
 use Rattle.station.proofs.pools.drop.Statement.{statement}

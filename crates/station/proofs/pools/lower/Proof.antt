@@ -1,7 +1,7 @@
 -- `station::pools::lower`: by its tests.
 use mathlib.Core.Path.{_≡_}
 use borrow.Author.Tests.{eq-eqb, ne-eqb, lt-ltb, le-ltb}
-use Rattle.station.specs.Buffers.{lower}
+use Rattle.station.specs.Messages.{lower}
 use Rattle.station.proofs.pools.lower.Statement.{statement}
 use Rattle.station.proofs.pools.lower.Tie as tie
 

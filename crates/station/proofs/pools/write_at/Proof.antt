@@ -11,8 +11,8 @@ use Rattle.coordinator.specs.System.{tree}
 use Rattle.due.specs.Due.{dueWritten, dueBuffer}
 use Rattle.record.specs.Call.{recordDue, recordDueBuffer}
 use Rattle.parts.specs.Parts.{part}
-use Rattle.station.specs.Buffers.{recordAt, recordIn, recordDamaged}
-use Rattle.station.specs.OnBytes.{owedAt, owedInto}
+use Rattle.buffers.specs.Buffers.{recordAt, recordIn, recordDamaged}
+use Rattle.station.specs.Messages.{owedAt, owedInto}
 use Rattle.station.proofs.Sending.{due-here, put-here}
 use borrow.Author.Needs.{needs}
 use Rattle.station.proofs.pools.write_at.Statement.{statement}

@@ -1,0 +1,2 @@
+-- The station over four lent buffers (Buffers).
+pub mod Buffers

@@ -1,0 +1,2 @@
+-- What the end of a scenario says (Meaning).
+pub mod Meaning

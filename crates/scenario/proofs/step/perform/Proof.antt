@@ -1,0 +1,90 @@
+-- `scenario::step::perform`: its parts in their order.
+use mathlib.Core.Path.{ap, _∙_}
+use denote.Ref.{now}
+use Rattle.report.specs.Page.{page}
+use Rattle.buffers.specs.Buffers.{Buffers, all}
+use Rattle.scenario.proofs.Taking.{step-sheet, step-texts}
+use borrow.Author.Needs.{needs}
+use Rattle.scenario.proofs.step.perform.Statement.{statement}
+use Rattle.scenario.proofs.step.perform.Tie as tie
+
+count-requires : tie.Need-count-requires
+count-requires c κs = search needs
+
+owner-of-requires : tie.Need-owner-of-requires
+owner-of-requires c κs = search needs
+
+named-requires : tie.Need-named-requires
+named-requires c κs = search needs
+
+step-requires : tie.Need-step-requires
+step-requires c κs = search needs
+
+result-requires : tie.Need-result-requires
+result-requires c κs = search needs
+
+conclude-requires : tie.Need-conclude-requires
+conclude-requires c κs = search needs
+
+same-length : tie.Need-same-length
+same-length c = search needs
+
+same-length-2 : tie.Need-same-length-2
+same-length-2 c = search needs
+
+same-length-3 : tie.Need-same-length-3
+same-length-3 c = search needs
+
+same-length-4 : tie.Need-same-length-4
+same-length-4 c = search needs
+
+same-length-5 : tie.Need-same-length-5
+same-length-5 c = search needs
+
+same-length-6 : tie.Need-same-length-6
+same-length-6 c = search needs
+
+returns : tie.Need-returns
+returns c =
+    let c6 = c .before .before .before .before .before .before in
+    let c12 = c6 .before .before .before .before .before .before in
+    let c18 = c12 .before .before .before .before .before .before in
+    let c24 = c18 .before .before .before .before .before .before in
+    let c30 = c24 .before .before .before .before .before .before in
+    let c36 = c30 .before .before .before .before .before .before in
+    let x = c36 .before .before .before .before .args in
+    let b = all (now (x .images)) (now (x .records)) (now (x .pool)) (now (x .own)) in
+    let s = c18 .before .before .step in
+    let d = c .before .before .before .before .conclude in
+    let f = ap (λ (y : Buffers). y .pool) (s .ensures .1 .0) in
+    let g = c30 .before .before .count .ensures in
+    let n = c24 .before .before .before .named in
+    let r = c6 .before .before .before .before .result in (
+      s .ensures .1 .0,
+      (
+        d .ensures .0
+            ∙ step-sheet b (x .o) (s .result) (c30 .before .before .count .result) (c30 .owner-of .result) _ (s .ensures .0) f g (c30 .owner-of .ensures)
+            (now (x .sheet)),
+        step-texts b (x .o) (s .result) (c30 .before .before .count .result) (c30 .owner-of .result) _ (s .ensures .0) f g
+            (page (now (x .out)) (x .at)) (page (n .last .0) (n .result)) (page (r .last .0) (r .result)) (page (d .last .1 .1 .0) (d .result))
+            (n .ensures) (r .ensures) (d .ensures .1),
+      ),
+    )
+
+pub perform-spec : {M : Type 1} → statement M
+perform-spec =
+    tie.close
+    (tie.spec
+    count-requires
+    owner-of-requires
+    named-requires
+    step-requires
+    result-requires
+    conclude-requires
+    same-length
+    same-length-2
+    same-length-3
+    same-length-4
+    same-length-5
+    same-length-6
+    returns)

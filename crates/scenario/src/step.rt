@@ -1,0 +1,40 @@
+// A step taken at the station: the message that it names, what it answered and the message that it put are printed, and replay is told of it.
+ghost use mathlib.Core.Path.{_≡_};
+ghost use Rattle.report.specs.Page.{page, inks};
+ghost use Rattle.buffers.specs.Buffers.{all};
+ghost use Rattle.runs.specs.Order.{callOf};
+ghost use Rattle.runs.specs.Left.{leftOf};
+ghost use Rattle.scenario.specs.Steps.{stepTexts, stepSheet};
+use orders::Order;
+use results::conclude;
+use results::count;
+use results::named;
+use results::owner_of;
+use results::result;
+
+// One step: the message that it names, what it answered, and the message that it put.
+pub(crate) fn perform(
+    images: &mut [u8],
+    records: &mut [u8],
+    pool: &mut [u8],
+    own: &mut [u8],
+    sheet: &mut [u64],
+    out: &mut [u8],
+    at: usize,
+    o: Order,
+) -> usize
+    ensures buffers { λ r. ⌜ all (now (images .exit)) (now (records .exit)) (now (pool .exit)) (now (own .exit))
+        ≡ leftOf (all (now (images .entry)) (now (records .entry)) (now (pool .entry)) (now (own .entry))) (callOf o) ⌝ }
+    ensures sheet { λ r. ⌜ now (sheet .exit)
+        ≡ stepSheet (all (now (images .entry)) (now (records .entry)) (now (pool .entry)) (now (own .entry))) o (now (sheet .entry)) ⌝ }
+    ensures output { λ r. ⌜ page (now (out .exit)) r
+        ≡ inks (page (now (out .entry)) at) (stepTexts (all (now (images .entry)) (now (records .entry)) (now (pool .entry)) (now (own .entry))) o) ⌝ }
+{
+    let before = count(pool);
+    let owner = owner_of(pool, o.place);
+    let kind = o.kind;
+    let x = named(out, at, pool, kind, o.place);
+    let a = runs::step(images, records, pool, own, o);
+    let y = result(out, x, kind, a);
+    conclude(pool, sheet, out, y, o, a, before, owner)
+}

@@ -1,0 +1,134 @@
+-- `station_calls::calls::request_commit`: on the bytes of the record of a node that is on, else the number of the buffers or of a node that is off.
+use mathlib.Core.Path.{sym, ap, _∙_}
+use native.Mathlib.Omega.{arith}
+use denote.Ref.{now}
+use Rattle.coordinator.specs.declared.Coordinator.{Coordinator}
+use Rattle.coordinator.specs.declared.Step.{Step}
+use Rattle.coordinator.specs.System.{tree}
+use Rattle.coordinator.specs.Calls.{requestCommitOf}
+use Rattle.steps.specs.Step.{requestCommit, step}
+use Rattle.buffers.specs.Buffers.{stationOf, ends, recordIn}
+use Rattle.station_calls.proofs.Hosted.{sound, records-first, on-is, on-lent, off-all}
+use Rattle.buffers.proofs.First.{told-first}
+use borrow.Author.Needs.{needs}
+use Rattle.station_calls.proofs.calls.request_commit.Statement.{statement}
+use Rattle.station_calls.proofs.calls.request_commit.Tie as tie
+
+is-on-requires : tie.Need-is-on-requires
+is-on-requires c κs = search needs
+
+wide-requires : tie.Need-wide-requires
+wide-requires c κs = search needs
+
+mul-start : tie.Need-mul-start
+mul-start c = search needs
+
+add-end : tie.Need-add-end
+add-end c = search needs
+
+sub-request-commit : tie.Need-sub-request-commit
+sub-request-commit c = search needs
+
+part-request-commit-start : tie.Need-part-request-commit-start
+part-request-commit-start c = search needs
+
+part-request-commit-end : tie.Need-part-request-commit-end
+part-request-commit-end c =
+    let x = c .before .before .before .before .before .args in
+    let t = on-is (now (x .records)) (now (x .own)) (x .node) (sym (c .before .before .is-on .ensures) ∙ c .before .if1 .taken) in
+    let l = t .records-long in
+    let n = t .node in
+    let w = c .wide .ensures in
+    omega arith
+
+request-commit-requires : tie.Need-request-commit-requires
+request-commit-requires c κs = search needs
+
+answered-requires : tie.Need-answered-requires
+answered-requires c κs = search needs
+
+same-length : tie.Need-same-length
+same-length c = search needs
+
+returns : tie.Need-returns
+unfolding step
+returns c =
+    let c6 = c .before .before .before .before .before .before in
+    let x = c6 .before .before .before .before .args in
+    let t = on-is (now (x .records)) (now (x .own)) (x .node) (sym (c6 .before .is-on .ensures) ∙ c6 .if1 .taken) in
+    let w = c .before .before .before .request-commit .ensures in
+    let f : Coordinator → Step = λ k. requestCommitOf tree k (x .node) in
+    let i = c .before .before .before .before .before .wide .ensures in
+    on-lent (now (x .records)) (now (x .own)) (x .node) f t _ i _ (w .0) _ (w .1) _ (c .answered .ensures)
+
+host-number-requires : tie.Need-host-number-requires
+host-number-requires c κs = search needs
+
+refused-requires : tie.Need-refused-requires
+refused-requires c κs = search needs
+
+same-length-2 : tie.Need-same-length-2
+same-length-2 c = search needs
+
+returns-2 : tie.Need-returns-2
+returns-2 c =
+    let x = c .before .before .before .before .before .before .before .before .args in
+    let o = step (stationOf (ends (now (x .records)) (now (x .own)))) (requestCommit (x .node)) in
+    let e = c .before .before .host-number .ensures in
+    let h = c .before .if2 .taken in
+    (c .refused .ensures ∙ told-first _ _ o e h, records-first _ _ o (x .node) (now (x .records)) e h)
+
+record-of-requires : tie.Need-record-of-requires
+record-of-requires c κs =
+    let x = c .before .before .before .before .before .before .before .before .args in
+    sound (now (x .records)) (now (x .own)) (x .node) (sym (c .before .before .host-number .ensures) ∙ c .before .if2 .left) .records-long
+
+request-commit-requires-2 : tie.Need-request-commit-requires-2
+request-commit-requires-2 c κs = search needs
+
+when-off-requires : tie.Need-when-off-requires
+when-off-requires c κs = search needs
+
+refused-requires-2 : tie.Need-refused-requires-2
+refused-requires-2 c κs = search needs
+
+same-length-3 : tie.Need-same-length-3
+same-length-3 c = search needs
+
+returns-3 : tie.Need-returns-3
+unfolding step
+returns-3 c =
+    let c6 = c .before .before .before .before .before .before in
+    let x = c6 .before .before .before .before .before .before .args in
+    let e = sym (c6 .host-number .ensures) ∙ c .before .before .before .before .before .if2 .left in
+    let z = sym (c6 .before .before .before .is-on .ensures) ∙ c6 .before .before .if1 .left in
+    let f : Coordinator → Step = λ k. requestCommitOf tree k (x .node) in
+    let s = c .before .before .request-commit2 .ensures ∙ ap f (c .before .before .before .record-of .ensures) in
+    off-all (now (x .records)) (now (x .own)) (x .node) e z _ (f (recordIn (now (x .records)) (x .node))) s _ (c .before .when-off .ensures) _
+    (c .refused2 .ensures)
+
+pub request-commit-spec : {M : Type 1} → statement M
+request-commit-spec =
+    tie.close
+    (tie.spec
+    is-on-requires
+    wide-requires
+    mul-start
+    add-end
+    sub-request-commit
+    part-request-commit-start
+    part-request-commit-end
+    request-commit-requires
+    answered-requires
+    same-length
+    returns
+    host-number-requires
+    refused-requires
+    same-length-2
+    returns-2
+    record-of-requires
+    request-commit-requires-2
+    when-off-requires
+    refused-requires-2
+    same-length-3
+    returns-3)

@@ -1,0 +1,2 @@
+-- Nodes that are on and off (Nodes).
+pub mod Nodes
