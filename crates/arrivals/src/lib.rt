@@ -1,4 +1,6 @@
-// What a delivered message does: the kind decides, and a message that does not fit changes nothing.
+// What a delivered message does: the kind decides, and a message that does not fit changes nothing. `booking` runs this step by value on a record that is
+// lent. A delivery from C works on the record's bytes instead, in `record_arrive`, which takes the message's number, an object with its copy and the raised
+// rivals from here.
 ghost use mathlib.Core.Path.{_≡_};
 ghost use Rattle.numbers.specs.Refusal.{firstOf};
 ghost use Rattle.wire.specs.Decode.{rivalCount};
@@ -11,9 +13,7 @@ use coordinator::COMMITTED;
 use coordinator::Coordinator;
 use coordinator::FINISHED;
 use coordinator::FINISHING;
-use coordinator::NODES;
 use coordinator::NOTHING;
-use coordinator::OBJECTS;
 use coordinator::OPEN;
 use coordinator::Object;
 use coordinator::READY;
@@ -27,6 +27,9 @@ use coordinator::place;
 use coordinator::refused;
 use coordinator::with_aborted;
 use coordinator::with_object;
+use numbers::MOST_OPEN;
+use numbers::NODES;
+use numbers::NODES_END;
 use numbers::both;
 use numbers::either;
 use numbers::pick;
@@ -58,9 +61,10 @@ fn is_answer(c: Coordinator, phase: u8, nodes: u16, m: &[u8]) -> bool
 pub fn copied(x: Object, from: u8, e: Entry) -> Object
     ensures { λ r. ⌜ r ≡ withCopy x from e ⌝ }
 {
+    let newer = x.version < e.version;
     let mut y = x;
     y.came = mask::join(x.came, mask::single(from));
-    if either(x.came == 0, x.version < e.version) {
+    if either(x.came == 0, newer) {
         y.version = e.version;
         y.value = e.value;
     }
@@ -74,7 +78,7 @@ fn copy_fits(c: Coordinator, m: &[u8]) -> bool
     let e = wire::nth_entry(m, 0);
     let x = at_place(c, e.object);
     let wanted = both(e.mode == x.mode, !is_ready(x));
-    let here = both(place(c, e.object) < OBJECTS, wanted);
+    let here = both(place(c, e.object) < MOST_OPEN, wanted);
     both(is_answer(c, OPEN, c.contacted, m), here)
 }
 
@@ -216,7 +220,7 @@ pub fn receive_number(me: u8, m: &[u8]) -> u8
     let turn = refuse(numbers::OUT_OF_TURN, other, 0);
     let stranger = refuse(
         numbers::STRANGER,
-        either(!(me < 13), !(wire::to(m) == me)),
+        either(!(me < NODES_END), !(wire::to(m) == me)),
         turn,
     );
     let checked = wire::check(m);

@@ -10,6 +10,7 @@ use denote.Plain.{uint-vals, uint-tells}
 use denote.Builtin.{u16}
 use denote.Array.{Array, arrayVal, array-tells}
 use denote.Struct.Laws as LL
+use Rattle.numbers.specs.Sizes.{nodes}
 use Rattle.coordinator.specs.declared.BeginWith.{BeginWith}
 use Rattle.coordinator.specs.declared.Coordinator.{Coordinator}
 use Rattle.coordinator.specs.declared.Step.{Step}
@@ -35,7 +36,7 @@ abbrev pub given : BeginWith → Val
 given = LL.val B.the-type B′.the-laws
 
 abbrev pub Distances : RattleType
-Distances = Array u16 13
+Distances = Array u16 nodes
 
 abbrev pub distancesVal : List ℕ → Val
 distancesVal ds = arrayVal (map (vint w16) ds)
@@ -44,7 +45,7 @@ abbrev pub distances-vals : List ℕ → List Val
 distances-vals ds = distancesVal ds ∷ []
 
 pub distances-tells : Tells Distances (Is Distances) distances-vals
-distances-tells = array-tells u16 (uint-vals w16) (uint-tells w16) 13
+distances-tells = array-tells u16 (uint-vals w16) (uint-tells w16) nodes
 
 -- the answer of a call as the machine has it
 abbrev pub answered : Step → Val

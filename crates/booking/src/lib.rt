@@ -1,13 +1,13 @@
 // A node's own transaction (document 01: the booking record), changed in place: the host's calls and a delivery on a record that is lent. Each is
 // the coordinator's step by value, with the record before it taken out and the record after it put back. Where the number is not 0 the record is
-// as before.
+// as before. Document 01 asks for the step in this form; a call from C works on the record's bytes instead, in `record_calls` and `record_arrive`.
 ghost use Rattle.coordinator.specs.System.{tree};
 ghost use Rattle.coordinator.specs.Calls.{beginOf, openOf, setOf, reselectOf, requestCommitOf, abortOf};
 ghost use Rattle.arrivals.specs.Receive.{receiveOf};
 ghost use Rattle.booking.specs.Called.{Does};
 use coordinator::BeginWith;
 use coordinator::Coordinator;
-use coordinator::NODES;
+use numbers::NODES;
 
 // What a call answers: its number, and its answer (0 where there is none).
 pub struct Called {

@@ -9,7 +9,7 @@ use lib.ListN.{length}
 use borrow.Author.Tests.{ne-eqb, eqb-true, not-false}
 use Rattle.replica.proofs.Delivered.{or-neither}
 use Rattle.steps.specs.Step.{Outcome}
-use Rattle.buffers.specs.Buffers.{recordDamaged, ownDamaged, wrong, answerWith, told, ends, hostFirst, endsFirst}
+use Rattle.buffers.specs.Buffers.{recordDamaged, ownDamaged, wrong, answerWith, told, ends, hostFirst, endsFirst, recordsSize, ownSize}
 
 -- ---- what the buffers' number tells
 pub told-first : (n m : ℕ) (o : Outcome) → n ≡ m → (n ≡ 0 → ⊥) → answerWith n 0 ≡ told m o
@@ -32,14 +32,14 @@ module _ (R O : List ℕ) (n : ℕ) where
 
   pub ends-stop : (k : ℕ) → k ≡ endsFirst (length R) O → (k ≡ 0 → ⊥) → k ≡ hostFirst (ends R O) n
   unfolding hostFirst endsFirst
-  ends-stop k e h = e ∙ by-tests (wrong R 3913 || wrong O 2) (ownDamaged O) (recordDamaged R n) .0 (λ z. h (e ∙ z))
+  ends-stop k e h = e ∙ by-tests (wrong R recordsSize || wrong O ownSize) (ownDamaged O) (recordDamaged R n) .0 (λ z. h (e ∙ z))
 
   pub ends-next : endsFirst (length R) O ≡ 0 → hostFirst (ends R O) n ≡ cond (recordDamaged R n) 2 0
   unfolding hostFirst endsFirst
-  ends-next e = by-tests (wrong R 3913 || wrong O 2) (ownDamaged O) (recordDamaged R n) .1 e .1
+  ends-next e = by-tests (wrong R recordsSize || wrong O ownSize) (ownDamaged O) (recordDamaged R n) .1 e .1
 
-  pub ends-long : endsFirst (length R) O ≡ 0 → length R ≡ 3913
+  pub ends-long : endsFirst (length R) O ≡ 0 → length R ≡ recordsSize
   unfolding endsFirst
   ends-long e =
-      let a = by-tests (wrong R 3913 || wrong O 2) (ownDamaged O) (recordDamaged R n) .1 e .0 in
-      long R 3913 (or-neither (wrong R 3913) (wrong O 2) a .0)
+      let a = by-tests (wrong R recordsSize || wrong O ownSize) (ownDamaged O) (recordDamaged R n) .1 e .0 in
+      long R recordsSize (or-neither (wrong R recordsSize) (wrong O ownSize) a .0)

@@ -7,6 +7,8 @@ use native.Mathlib.Omega.{arith}
 use lib.Dec.{eqb}
 use lib.ListN.{length, take, drop, take-append-drop}
 use borrow.Author.Tests.{eq-eqb, lt-ltb}
+use Rattle.record.specs.Layout.{recordSize}
+use Rattle.numbers.specs.Sizes.{nodes, mostOpen}
 use Rattle.parts.specs.Parts.{part, splice}
 use Rattle.parts.proofs.Laws.{length-part}
 use Rattle.replica.proofs.Spoken.{false-true}
@@ -16,7 +18,7 @@ use Rattle.coordinator.specs.System.{tree}
 use Rattle.clauses.specs.Clauses.{meets}
 use Rattle.record.specs.Record.{givenOk, recordOf, check}
 use Rattle.record.specs.Call.{toldBy, calledOf, kept, recordAfter}
-use Rattle.buffers.specs.Buffers.{recordAt, withRecordAt, recordIn, recordDamaged}
+use Rattle.buffers.specs.Buffers.{recordAt, withRecordAt, recordIn, recordDamaged, recordsSize}
 
 -- what was there written back leaves all as it was
 pub splice-same : (n a : ℕ) (l : List ℕ) → splice n a (part n a l) l ≡ l
@@ -25,11 +27,11 @@ splice-same n a l = ap (_++_ (take a l)) (take-append-drop n (drop a l)) ∙ tak
 
 pub record-same : (R : List ℕ) (n : ℕ) → withRecordAt R n (recordAt R n) ≡ R
 unfolding withRecordAt recordAt
-record-same R n = splice-same 301 (301 * n) R
+record-same R n = splice-same recordSize (recordSize * n) R
 
-length-record : (R : List ℕ) (n : ℕ) → n < 13 → length R ≡ 3913 → length (recordAt R n) ≡ 301
+length-record : (R : List ℕ) (n : ℕ) → n < nodes → length R ≡ recordsSize → length (recordAt R n) ≡ recordSize
 unfolding recordAt
-length-record R n h e = length-part 301 (301 * n) R (omega arith)
+length-record R n h e = length-part recordSize (recordSize * n) R (omega arith)
 
 two : (a b : Bool) → a ≡ true → (_≡_ {A = ℕ} (cond a (cond b 0 2) 1) 0 → ⊥) → _≡_ {A = ℕ} (cond a (cond b 0 2) 1) 2
 two true true e h = absurd (h refl)
@@ -37,21 +39,21 @@ two true false e h = refl
 two false b e h = absurd (false-true e)
 
 -- a node's bytes that are no record are damaged
-pub damaged-two : (R : List ℕ) (n : ℕ) → n < 13 → length R ≡ 3913 → (check (recordAt R n) ≡ 0 → ⊥) → check (recordAt R n) ≡ 2
+pub damaged-two : (R : List ℕ) (n : ℕ) → n < nodes → length R ≡ recordsSize → (check (recordAt R n) ≡ 0 → ⊥) → check (recordAt R n) ≡ 2
 unfolding check
 damaged-two R n h e =
     let l = recordAt R n in
-    two (eqb (length l) 301) (givenOk 8 l && meets tree (recordOf l)) (eq-eqb (length l) 301 (length-record R n h e))
+    two (eqb (length l) recordSize) (givenOk mostOpen l && meets tree (recordOf l)) (eq-eqb (length l) recordSize (length-record R n h e))
 
-pub damaged-is : (R : List ℕ) (n : ℕ) → n < 13 → (b : Bool) → eqb (check (recordAt R n)) 0 ≡ b → recordDamaged R n ≡ not b
+pub damaged-is : (R : List ℕ) (n : ℕ) → n < nodes → (b : Bool) → eqb (check (recordAt R n)) 0 ≡ b → recordDamaged R n ≡ not b
 unfolding recordDamaged
-damaged-is R n h b e = simp (lt-ltb n 13 h, e)
+damaged-is R n h b e = simp (lt-ltb n nodes h, e)
 
 -- where they are one, the call on the bytes is the call by value at the node
-module _ (R : List ℕ) (n : ℕ) (f : Coordinator → Step) (h : n < 13) (e : eqb (check (recordAt R n)) 0 ≡ true) where
+module _ (R : List ℕ) (n : ℕ) (f : Coordinator → Step) (h : n < nodes) (e : eqb (check (recordAt R n)) 0 ≡ true) where
   record-in : recordIn R n ≡ recordOf (recordAt R n)
   unfolding recordIn
-  record-in = simp (lt-ltb n 13 h)
+  record-in = simp (lt-ltb n nodes h)
 
   pub same-called : calledOf f (recordAt R n) ≡ toldBy (f (recordIn R n))
   unfolding calledOf

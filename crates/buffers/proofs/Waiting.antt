@@ -5,7 +5,7 @@ use Prim.Native.Nat.{ℕ, _+_, _-_, _<_, _≤_}
 use native.Mathlib.Omega.{arith}
 use lib.ListN.{length, take, drop}
 use Rattle.parts.specs.Parts.{part}
-use Rattle.pool.specs.Pool.{messagePlace, count, lengthAt, messageAt, check}
+use Rattle.pool.specs.Pool.{messagePlace, count, lengthAt, messageAt, check, poolSize}
 use Rattle.pool.proofs.Numbers.{fine}
 use Rattle.pool.proofs.Laws.{length-fits}
 
@@ -15,8 +15,8 @@ unfolding messageAt part
 message-lent P k start n e f = let g : start + n - start ≡ n = omega arith in rw (g, e, f)
 
 pub record Inside (P : List ℕ) (start n : ℕ) : Type 0 where
-  pub long : length P ≡ 16513
-  pub ends : start + n ≤ 16513
+  pub long : length P ≡ poolSize
+  pub ends : start + n ≤ poolSize
 
 pub inside : (P : List ℕ) (k start n : ℕ) → check P ≡ 0 → k < count P → start ≡ messagePlace k → n ≡ lengthAt P k → Inside P start n
 inside P k start n e h a b =

@@ -6,6 +6,7 @@ use mathlib.Core.List.{List, [], _∷_}
 use Prim.Native.Nat.{ℕ, _*_, _<_}
 use lib.Dec.{eqb, ltb}
 use lib.ListN.{length}
+use Rattle.numbers.specs.Sizes.{nodes, everyNode}
 use Rattle.numbers.specs.Numbers.{wrongLength, damaged}
 use Rattle.numbers.specs.Refusal.{refuse, firstOf}
 use Rattle.octets.specs.Octets.{get}
@@ -13,7 +14,7 @@ use Rattle.parts.specs.Parts.{part, splice}
 use Rattle.image.specs.Layout.{shape, imageSize}
 use Rattle.image.specs.Blank.{blankAs}
 use Rattle.coordinator.specs.declared.Coordinator.{Coordinator}
-use Rattle.coordinator.specs.State.{thirteen, everyNode, blankRecord}
+use Rattle.coordinator.specs.State.{blankRecord}
 use Rattle.record.specs.Layout.{recordSize}
 use Rattle.record.specs.Record.{recordOf, bytesOf, check}
 use Rattle.pool.specs.Pool.{waiting, check as checkPool}
@@ -32,10 +33,10 @@ all images records pool own = record { images = images; records = records; pool 
 
 -- ---- sizes in bytes
 abbrev pub imagesSize : ℕ
-imagesSize = imageSize shape * thirteen
+imagesSize = imageSize shape * nodes
 
 abbrev pub recordsSize : ℕ
-recordsSize = recordSize * thirteen
+recordsSize = recordSize * nodes
 
 abbrev pub ownSize : ℕ
 ownSize = 2
@@ -55,10 +56,10 @@ withRecordAt l n m = splice recordSize (recordSize * n) m l
 
 -- ---- the station that buffers are; what is no node is blank
 unfoldable pub imageIn : List ℕ → ℕ → List ℕ
-imageIn l n = cond (ltb n thirteen) (imageAt l n) (blankAs shape)
+imageIn l n = cond (ltb n nodes) (imageAt l n) (blankAs shape)
 
 unfoldable pub recordIn : List ℕ → ℕ → Coordinator
-recordIn l n = cond (ltb n thirteen) (recordOf (recordAt l n)) blankRecord
+recordIn l n = cond (ltb n nodes) (recordOf (recordAt l n)) blankRecord
 
 -- the mask of the nodes that are on
 abbrev pub onOf : List ℕ → ℕ
@@ -80,7 +81,7 @@ abbrev pub ownDamaged : List ℕ → Bool
 ownDamaged l = ltb everyNode (onOf l)
 
 unfoldable pub recordDamaged : List ℕ → ℕ → Bool
-recordDamaged l n = ltb n thirteen && not (eqb (check (recordAt l n)) 0)
+recordDamaged l n = ltb n nodes && not (eqb (check (recordAt l n)) 0)
 
 -- and its number
 abbrev pub recordFirst : List ℕ → ℕ → ℕ
@@ -124,7 +125,7 @@ pub record Whole (b : Buffers) : Type 0 where
   pub records-long : length (b .records) ≡ recordsSize
   pub pool-fine : checkPool (b .pool) ≡ 0
   pub own-fine : ownNumber (b .own) ≡ 0
-  pub records-fine : (n : ℕ) → n < thirteen → check (recordAt (b .records) n) ≡ 0
+  pub records-fine : (n : ℕ) → n < nodes → check (recordAt (b .records) n) ≡ 0
 
 -- "A station is blank when its 13 images are, no message waits, and every booking end is idle with last serial and stamp 0"; any nodes may be on
 abbrev pub Blank : Buffers → Type 0

@@ -3,7 +3,7 @@
 ghost use mathlib.Core.Path.{_≡_};
 ghost use Rattle.steps.specs.Step.{whenOff};
 ghost use Rattle.buffers.specs.Buffers.{onOf, ownNumber, endsFirst, answerWith};
-use coordinator::EVERY_NODE;
+use numbers::EVERY_NODE;
 use numbers::either;
 use numbers::refuse;
 
@@ -15,9 +15,9 @@ pub struct Answer {
 }
 
 // The sizes of the buffers in bytes: thirteen images, thirteen records, the mask of the nodes that are on.
-pub const IMAGES: usize = image::SIZE * coordinator::NODES;
+pub const IMAGES: usize = image::SIZE * numbers::NODES;
 
-pub const RECORDS: usize = record::SIZE * coordinator::NODES;
+pub const RECORDS: usize = record::SIZE * numbers::NODES;
 
 pub const OWN: usize = 2;
 

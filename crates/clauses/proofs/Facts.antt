@@ -7,12 +7,13 @@ use native.Mathlib.Omega.{arith}
 use lib.Dec.{T, eqb, ltb, leb, eqb→eq, ltb→lt, lt→ltb, leb→le, le→leb, nltb→le, T-not, not-T}
 use borrow.Author.Tests.{ltb-false}
 use lib.ListN.{length, replicate, List·getD-eq-default}
+use Rattle.numbers.specs.Sizes.{nodes, everyNode, objects as objectsEnd, mostOpen}
 use Rattle.mask.specs.Mask.{within}
 use Rattle.mask.proofs.Tests.{and-both, and-left, and-right, T-true}
 use Rattle.coordinator.specs.declared.Object.{Object}
 use Rattle.coordinator.specs.declared.Coordinator.{Coordinator}
 use Rattle.coordinator.specs.System.{System}
-use Rattle.coordinator.specs.State.{eight, thirteen, everyNode, objectsEnd, idlePhase, openPhase, votingPhase, finishingPhase, committed, aborted}
+use Rattle.coordinator.specs.State.{idlePhase, openPhase, votingPhase, finishingPhase, committed, aborted}
 use Rattle.coordinator.specs.State.{noObject, across, placeIn, allSettled, anyUsedUp, awaited}
 use Rattle.clauses.specs.Clauses.{implies, zeros, objectMeets, objectBlank, placeMeets, andMeets, objectsMeet, sizesMeet, numbersMeet}
 use Rattle.clauses.specs.Clauses.{noNodes, nodesMeet, partyFull, partyMeets, agreed, votesMeet, donesMeet, meets}
@@ -22,9 +23,9 @@ use Rattle.clauses.proofs.Places.{at, across-at, across-all, Once, plac
 
 -- ---- the facts
 pub record Sizes (distances : List ℕ) (objects : List Object) (rivals : List ℕ) : Type 0 where
-  pub distances-13 : length distances ≡ thirteen
-  pub objects-8 : length objects ≡ eight
-  pub rivals-13 : length rivals ≡ thirteen
+  pub distances-13 : length distances ≡ nodes
+  pub objects-8 : length objects ≡ mostOpen
+  pub rivals-13 : length rivals ≡ nodes
 
 pub record Numbers (serial timestamp outcome phase : ℕ) : Type 0 where
   pub phase-known : phase ≤ finishingPhase
@@ -42,7 +43,7 @@ pub record Opened (contacted : ℕ) (x : Object) : Type 0 where
   pub not-given : x .given ≡ false → x .new ≡ 0
 
 pub record Objects (contacted count : ℕ) (objects : List Object) : Type 0 where
-  pub eight-at-most : count ≤ eight
+  pub eight-at-most : count ≤ mostOpen
   pub opened : (i : ℕ) → i < count → Opened contacted (at objects i)
   pub once : Once objects count
   pub past : (i : ℕ) → count ≤ i → at objects i ≡ noObject
@@ -50,7 +51,7 @@ pub record Objects (contacted count : ℕ) (objects : List Object) : Type 0 wher
 pub record NoNodes (live : ℕ) (distances : List ℕ) (quorum count : ℕ) : Type 0 where
   pub no-live : live ≡ 0
   pub no-quorum : quorum ≡ 0
-  pub no-distance : distances ≡ replicate thirteen 0
+  pub no-distance : distances ≡ replicate nodes 0
   pub no-object : count ≡ 0
 
 pub record Nodes (s : System) (phase live : ℕ) (distances : List ℕ) (quorum contacted count : ℕ) : Type 0 where
@@ -72,7 +73,7 @@ pub record Full (s : System) (contacted count : ℕ) (objects : List Object) (pa
 
 pub record Party (s : System) (phase contacted count : ℕ) (objects : List Object) (participants : ℕ) (rivals : List ℕ) : Type 0 where
   pub participants-known : participants ≤ everyNode
-  pub no-rivals : participants ≡ 0 → rivals ≡ replicate thirteen 0
+  pub no-rivals : participants ≡ 0 → rivals ≡ replicate nodes 0
   pub full : (participants ≡ 0 → ⊥) → Full s contacted count objects participants
   pub not-asked : phase ≤ openPhase → participants ≡ 0
   pub asked-for : phase ≡ votingPhase → participants ≡ 0 → ⊥
@@ -122,15 +123,15 @@ module _ (c : Coordinator) where
   sizes-out : T (sizesMeet c) → Sizes (c .distances) (c .objects) (c .rivals)
   unfolding sizesMeet
   sizes-out t =
-      let a = two-in (eqb (length (c .distances)) 13) _ t in
-      let b = two-in (eqb (length (c .objects)) 8) (eqb (length (c .rivals)) 13) (a .1) in
-      record { distances-13 = eqb→eq _ 13 (a .0); objects-8 = eqb→eq _ 8 (b .0); rivals-13 = eqb→eq _ 13 (b .1) }
+      let a = two-in (eqb (length (c .distances)) nodes) _ t in
+      let b = two-in (eqb (length (c .objects)) mostOpen) (eqb (length (c .rivals)) nodes) (a .1) in
+      record { distances-13 = eqb→eq _ nodes (a .0); objects-8 = eqb→eq _ mostOpen (b .0); rivals-13 = eqb→eq _ nodes (b .1) }
 
   sizes-in : Sizes (c .distances) (c .objects) (c .rivals) → T (sizesMeet c)
   unfolding sizesMeet
   sizes-in f =
-      and-both (eqb (length (c .distances)) 13) _ (eq-T _ 13 (f .distances-13))
-      (and-both (eqb (length (c .objects)) 8) _ (eq-T _ 8 (f .objects-8)) (eq-T _ 13 (f .rivals-13)))
+      and-both (eqb (length (c .distances)) nodes) _ (eq-T _ nodes (f .distances-13))
+      (and-both (eqb (length (c .objects)) mostOpen) _ (eq-T _ mostOpen (f .objects-8)) (eq-T _ nodes (f .rivals-13)))
 
   -- ---- numbers
   abbrev fresh : Bool
@@ -219,7 +220,7 @@ pub blank-in : (x : Object) → x ≡ noObject → T (objectBlank x)
 unfolding objectBlank
 blank-in x e = subst (λ (y : Object). T (objectBlank y)) (sym e) tt
 
-module _ (c : Coordinator) (eights : length (c .objects) ≡ eight) where
+module _ (c : Coordinator) (eights : length (c .objects) ≡ mostOpen) where
   abbrev X : ℕ → Object
   X i = at (c .objects) i
 
@@ -229,8 +230,8 @@ module _ (c : Coordinator) (eights : length (c .objects) ≡ eight) where
   objects-out : T (objectsMeet c) → Objects (c .contacted) (c .count) (c .objects)
   unfolding objectsMeet
   objects-out t =
-      let a = two-in (leb (c .count) eight) (across (andMeets c) true 0 (c .objects)) t in
-      let n : c .count ≤ 8 = leb→le (c .count) eight (a .0) in
+      let a = two-in (leb (c .count) mostOpen) (across (andMeets c) true 0 (c .objects)) t in
+      let n : c .count ≤ mostOpen = leb→le (c .count) mostOpen (a .0) in
       let each : (i : ℕ) → i < length (c .objects) → T (placeMeets c i (X i)) = across-at (placeMeets c) (c .objects) (a .1) in
       let here : (i : ℕ) → i < c .count → T (objectMeets (c .contacted) (X i) && placeOk i) =
       λ i h. cond-first (ltb i (c .count)) _ (objectBlank (X i)) (each i (omega arith)) (lt→ltb i (c .count) h) in
@@ -239,16 +240,16 @@ module _ (c : Coordinator) (eights : length (c .objects) ≡ eight) where
         opened = λ i h. opened-out (c .contacted) (X i) (and-left (objectMeets (c .contacted) (X i)) (placeOk i) (here i h));
         once = at-place (c .objects) (c .count) eights n
             (λ i h. eqb→eq (placeIn (c .objects) (c .count) (X i .object)) i (and-right (objectMeets (c .contacted) (X i)) (placeOk i) (here i h)));
-        past = λ i h. by-test (X i ≡ noObject) (ltb i 8)
-            (λ e. let k : i < 8 = ltb→lt i 8 (true-T (ltb i 8) e) in
+        past = λ i h. by-test (X i ≡ noObject) (ltb i mostOpen)
+            (λ e. let k : i < mostOpen = ltb→lt i mostOpen (true-T (ltb i mostOpen) e) in
             blank-out (X i) (cond-second (ltb i (c .count)) _ (objectBlank (X i)) (each i (omega arith)) (λ u. let v = ltb→lt i (c .count) u in omega arith)))
-            (λ e. let k : 8 ≤ i = ltb-false i 8 e in List·getD-eq-default (c .objects) noObject (omega arith));
+            (λ e. let k : mostOpen ≤ i = ltb-false i mostOpen e in List·getD-eq-default (c .objects) noObject (omega arith));
       }
 
   objects-in : Objects (c .contacted) (c .count) (c .objects) → T (objectsMeet c)
   unfolding objectsMeet
   objects-in f =
-      and-both (leb (c .count) eight) (across (andMeets c) true 0 (c .objects)) (le→leb (c .count) eight (f .eight-at-most))
+      and-both (leb (c .count) mostOpen) (across (andMeets c) true 0 (c .objects)) (le→leb (c .count) mostOpen (f .eight-at-most))
       (across-all (placeMeets c) (c .objects) (λ i h. cond-in (ltb i (c .count)) (objectMeets (c .contacted) (X i) && placeOk i) (objectBlank (X i))
       (λ s. let k = ltb→lt i (c .count) s in
       and-both (objectMeets (c .contacted) (X i)) (placeOk i) (opened-in (c .contacted) (X i) (f .opened i k))
@@ -300,7 +301,7 @@ module _ (s : System) (c : Coordinator) (sized : Sizes (c .distances) (c .object
       (λ p. let g = f .at-idle (eqb→eq (c .phase) idlePhase p) in
       and-both (eqb (c .live) 0) _ (eq-T (c .live) 0 (g .no-live))
       (and-both (eqb (c .quorum) 0) _ (eq-T (c .quorum) 0 (g .no-quorum))
-      (and-both (zeros (c .distances)) _ (subst (λ (l : List ℕ). T (zeros l)) (sym (g .no-distance)) (are-zeros thirteen))
+      (and-both (zeros (c .distances)) _ (subst (λ (l : List ℕ). T (zeros l)) (sym (g .no-distance)) (are-zeros nodes))
       (eq-T (c .count) 0 (g .no-object)))))
       (λ n. f .present (λ p. n (eq-T (c .phase) idlePhase p))))
       (cond-in (eqb (c .count) 0) (eqb (c .contacted) 0) (within (c .quorum) (c .contacted))
@@ -358,7 +359,7 @@ module _ (s : System) (c : Coordinator) (sized : Sizes (c .distances) (c .object
       and-both (leb (c .participants) everyNode) _ (le→leb (c .participants) everyNode (f .participants-known))
       (and-both (cond nobodyIn (zeros (c .rivals)) (partyFull s c)) _
       (cond-in nobodyIn (zeros (c .rivals)) (partyFull s c)
-      (λ e. subst (λ (l : List ℕ). T (zeros l)) (sym (f .no-rivals (eqb→eq (c .participants) 0 e))) (are-zeros thirteen))
+      (λ e. subst (λ (l : List ℕ). T (zeros l)) (sym (f .no-rivals (eqb→eq (c .participants) 0 e))) (are-zeros nodes))
       (λ n. full-in (f .full (λ e. n (eq-T (c .participants) 0 e)))))
       (and-both (implies (leb (c .phase) openPhase) nobodyIn) _
       (implies-in (leb (c .phase) openPhase) nobodyIn (λ h. eq-T (c .participants) 0 (f .not-asked (leb→le (c .phase) openPhase h))))
@@ -459,7 +460,7 @@ module _ (s : System) (c : Coordinator) where
       (and-both (partyMeets s c) _ (party-in s c z (m .party)) (and-both (votesMeet c) _ (votes-in c (m .votes)) (dones-in c (m .dones))))))))
 
   -- a record whose lists are arrays has the sizes
-  pub sized-meets : length (c .distances) ≡ thirteen → length (c .objects) ≡ eight → length (c .rivals) ≡ thirteen
+  pub sized-meets : length (c .distances) ≡ nodes → length (c .objects) ≡ mostOpen → length (c .rivals) ≡ nodes
       → meets s c ≡ (numbersMeet c && (objectsMeet c && (nodesMeet s c && (partyMeets s c && (votesMeet c && donesMeet c)))))
   unfolding meets
   sized-meets a b d = simp (T-true (sizesMeet c) (sizes-in c (record { distances-13 = a; objects-8 = b; rivals-13 = d })))

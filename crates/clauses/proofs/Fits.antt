@@ -1,37 +1,28 @@
 -- The widths: every field of a record fits the bytes that it has. The clauses bound phase, masks and objects; the rest is kept call by call.
 use mathlib.Core.Path.{_≡_, refl, sym, subst}
 use mathlib.Core.List.{List, [], _∷_}
-use Prim.Native.Nat.{ℕ, zero, suc, _+_, _*_, _^_, _<_, _≤_}
+use Prim.Native.Nat.{ℕ, zero, suc, _^_, _<_, _≤_}
 use native.Mathlib.Omega.{arith}
 use lib.Dec.{eqb, ltb, lit<}
 use lib.ListN.{length, getD, set, replicate}
 use borrow.Author.Tests.{eqb-true, eqb-false, ltb-true, ltb-false, not-false}
+use Rattle.numbers.specs.Sizes.{nodes, everyNode, mostOpen, highest}
 use Rattle.mask.specs.Mask.{joined}
 use Rattle.quorum.specs.Nearest.{maskOf}
-use Rattle.octets.proofs.Laws.{Bytes, get-small}
-use Rattle.wire.specs.declared.Entry.{Entry}
-use Rattle.wire.specs.declared.Rival.{Rival}
-use Rattle.wire.specs.Decode.{fromOf, entryCount, entriesPlace, entryAt, rivalCount, rivalsPlace, rivalAt}
-use Rattle.wire.specs.Encode.{entrySize, rivalSize}
-use Rattle.wire.specs.Items.{noEntry, noRival, entryOf, rivalOf}
 use Rattle.coordinator.specs.declared.Object.{Object}
 use Rattle.coordinator.specs.declared.Coordinator.{Coordinator}
 use Rattle.coordinator.specs.declared.BeginWith.{BeginWith}
-use Rattle.coordinator.specs.declared.Step.{Step}
 use Rattle.coordinator.specs.System.{System}
-use Rattle.coordinator.specs.State.{eight, thirteen, highest, everyNode, finishingPhase, aborted, noObject, idleAfter, blankRecord, objectAt, placeOf, awaited}
+use Rattle.coordinator.specs.State.{finishingPhase, aborted, noObject, idleAfter, blankRecord, objectAt, placeOf, awaited}
 use Rattle.coordinator.specs.Calls.{fresh, renewed, beginRefusals, begun, beginOf, openRefusals, opened, openOf, setRefusals, withNew, setOf}
 use Rattle.coordinator.specs.Calls.{reselectRefusals, reselected, reselectOf, requestCommitRefusals, requested, requestCommitOf, abortOf}
-use Rattle.arrivals.specs.Receive.{better, withCopy, raise, raiseFrom, receiveOf}
-use Rattle.clauses.proofs.Parts.{on-cond, by-test}
+use Rattle.clauses.proofs.Parts.{by-test}
 use Rattle.clauses.proofs.Sets.{within-known}
 use Rattle.clauses.proofs.Places.{at, at-blank}
 use Rattle.clauses.proofs.Facts.{Meets}
 use Rattle.clauses.proofs.Quorums.{Quorums}
-use Rattle.clauses.proofs.Cases.{step-keeps}
-use Rattle.clauses.proofs.Deliveries.{copiedObject, afterCopy, named, Endings, abort-cases, receive-cases}
+use Rattle.clauses.proofs.Cases.{step-keeps, Endings, abort-cases}
 use Rattle.clauses.proofs.Keep.{blank-meets, awaited-known, begin-keeps, open-keeps, set-keeps, reselect-keeps, request-keeps, abort-keeps}
-use Rattle.clauses.proofs.Deliver.{receive-keeps}
 
 -- ---- the facts
 abbrev pub AllBelow : ℕ → List ℕ → Type 0
@@ -70,9 +61,9 @@ pub record Fits (c : Coordinator) : Type 0 where
   pub participants-16 : c .participants < 2 ^ 16
   pub yes-16 : c .yes < 2 ^ 16
   pub done-16 : c .done < 2 ^ 16
-  pub distances-13 : length (c .distances) ≡ thirteen
-  pub objects-8 : length (c .objects) ≡ eight
-  pub rivals-13 : length (c .rivals) ≡ thirteen
+  pub distances-13 : length (c .distances) ≡ nodes
+  pub objects-8 : length (c .objects) ≡ mostOpen
+  pub rivals-13 : length (c .rivals) ≡ nodes
 
 -- ---- the clauses bound the rest
 module _ (s : System) (c : Coordinator) (m : Meets s c) where
@@ -131,7 +122,7 @@ module _ (s : System) (c : Coordinator) (m : Meets s c) where
 
 -- ---- lists
 -- what holds of a new element and of the old ones holds of each afterwards
-after-set : {A : Type 0} (P : A → Type 0) (d : A) (l : List A) (p i : ℕ) (x : A) → P x → ((j : ℕ) → P (getD l j d)) → P (getD (set l p x) i d)
+pub after-set : {A : Type 0} (P : A → Type 0) (d : A) (l : List A) (p i : ℕ) (x : A) → P x → ((j : ℕ) → P (getD l j d)) → P (getD (set l p x) i d)
 after-set P d [] p i x a f = f i
 after-set P d (y ∷ l) zero zero x a f = a
 after-set P d (y ∷ l) zero (suc i) x a f = f (suc i)
@@ -146,8 +137,8 @@ all-zero b (suc n) (suc i) h = all-zero b n i h
 none-valued : Valued noObject
 none-valued = record { version-32 = lit< tt; value-64 = lit< tt; new-64 = lit< tt }
 
-blank-valued : (i : ℕ) → Valued (at (replicate eight noObject) i)
-blank-valued i = subst Valued (sym (at-blank eight i)) none-valued
+blank-valued : (i : ℕ) → Valued (at (replicate mostOpen noObject) i)
+blank-valued i = subst Valued (sym (at-blank mostOpen i)) none-valued
 
 -- ---- an idle record, and the blank one
 idle-widths : (serial timestamp outcome : ℕ) → serial < 2 ^ 32 → timestamp < 2 ^ 32 → Widths (idleAfter serial timestamp outcome)
@@ -156,9 +147,9 @@ idle-widths serial timestamp outcome a b =
     record {
       serial-32 = a;
       timestamp-32 = b;
-      distances-16 = λ i. all-zero (2 ^ 16) thirteen i (lit< tt);
+      distances-16 = λ i. all-zero (2 ^ 16) nodes i (lit< tt);
       objects-fit = blank-valued;
-      rivals-32 = λ i. all-zero (2 ^ 32) thirteen i (lit< tt);
+      rivals-32 = λ i. all-zero (2 ^ 32) nodes i (lit< tt);
     }
 
 pub blank-fits : (s : System) → Fits blankRecord
@@ -166,7 +157,7 @@ blank-fits s = widths-fit s blankRecord (blank-meets s) (idle-widths 0 0 0 (lit<
 
 -- ---- the calls keep what no clause bounds
 module _ (s : System) (c : Coordinator) (me : ℕ) (w : Widths c) where
-  over-widths : (outcome : ℕ) → Widths (idleAfter (c .serial) (c .timestamp) outcome)
+  pub over-widths : (outcome : ℕ) → Widths (idleAfter (c .serial) (c .timestamp) outcome)
   over-widths outcome = idle-widths (c .serial) (c .timestamp) outcome (w .serial-32) (w .timestamp-32)
 
   begin-widths : (b : BeginWith) → b .timestamp < 2 ^ 32 → AllBelow (2 ^ 16) (b .distances) → Widths (beginOf s c me b .coordinator)
@@ -180,7 +171,7 @@ module _ (s : System) (c : Coordinator) (me : ℕ) (w : Widths c) where
         timestamp-32 = t;
         distances-16 = d;
         objects-fit = blank-valued;
-        rivals-32 = λ i. all-zero (2 ^ 32) thirteen i (lit< tt);
+        rivals-32 = λ i. all-zero (2 ^ 32) nodes i (lit< tt);
       })
 
   open-widths : (object mode : ℕ) → Widths (openOf c me object mode .coordinator)
@@ -223,7 +214,7 @@ module _ (s : System) (c : Coordinator) (me : ℕ) (w : Widths c) where
         rivals-32 = w .rivals-32;
       })
 
-  same-widths : (d : Coordinator) → d .serial ≡ c .serial → d .timestamp ≡ c .timestamp → d .distances ≡ c .distances → d .objects ≡ c .objects
+  pub same-widths : (d : Coordinator) → d .serial ≡ c .serial → d .timestamp ≡ c .timestamp → d .distances ≡ c .distances → d .objects ≡ c .objects
       → AllBelow (2 ^ 32) (d .rivals) → Widths d
   same-widths d a b e f r =
       record {
@@ -242,82 +233,18 @@ module _ (s : System) (c : Coordinator) (me : ℕ) (w : Widths c) where
       step-keeps Widths (requestCommitRefusals s c me chosen) all c (requested c all) tt w
       (λ k. same-widths (requested c all) refl refl refl refl (w .rivals-32))
 
-  endings-widths : Endings Widths c
+  pub endings-widths : Endings Widths c
   endings-widths = record { gone = λ a e. over-widths aborted; aborting = λ a e. same-widths _ refl refl refl refl (w .rivals-32) }
 
   abort-widths : Widths (abortOf c me .coordinator)
   abort-widths = abort-cases Widths c me w endings-widths
-
-  -- ---- a delivery: what a message's bytes say fits
-  module _ (m : List ℕ) (b : Bytes m) where
-    entry-small : (i : ℕ) → (entryOf m i .version < 2 ^ 32) × (entryOf m i .value < 2 ^ 64)
-    unfolding entryAt
-    entry-small i =
-        let j = entriesPlace + entrySize * i in
-        on-cond (λ (e : Entry). (e .version < 2 ^ 32) × (e .value < 2 ^ 64)) (ltb i (entryCount m)) (entryAt m j) noEntry
-        (λ k. (get-small 4 m (j + 2) b, get-small 8 m (j + 6) b)) (λ k. (lit< tt, lit< tt))
-
-    rival-small : (i : ℕ) → rivalOf m i .serial < 2 ^ 32
-    unfolding rivalAt
-    rival-small i =
-        let j = rivalsPlace m + rivalSize * i in
-        on-cond (λ (r : Rival). r .serial < 2 ^ 32) (ltb i (rivalCount m)) (rivalAt m j) noRival (λ k. get-small 4 m (j + 1) b) (λ k. lit< tt)
-
-    raised-small : (n i : ℕ) (rivals : List ℕ) → AllBelow (2 ^ 32) rivals → AllBelow (2 ^ 32) (raiseFrom m n i rivals)
-    unfolding raiseFrom
-    raised-small zero i rivals f = f
-    raised-small (suc n) i rivals f =
-        let r = rivalOf m i in
-        raised-small n (i + 1) (raise rivals r)
-        (λ j. after-set (λ (x : ℕ). x < 2 ^ 32) 0 rivals (r .owner) j _
-        (on-cond (λ (x : ℕ). x < 2 ^ 32) (ltb (getD rivals (r .owner) 0) (r .serial)) (r .serial) (getD rivals (r .owner) 0) (λ k. rival-small i)
-        (λ k. f (r .owner))) f)
-
-    copied-valued : (x : Object) → Valued x → Valued (withCopy x (fromOf m) (entryOf m 0))
-    unfolding withCopy
-    copied-valued x v =
-        let e = entry-small 0 in
-        let t = better x (entryOf m 0) in
-        record {
-          version-32 = on-cond (λ (n : ℕ). n < 2 ^ 32) t (entryOf m 0 .version) (x .version) (λ k. e .0) (λ k. v .version-32);
-          value-64 = on-cond (λ (n : ℕ). n < 2 ^ 64) t (entryOf m 0 .value) (x .value) (λ k. e .1) (λ k. v .value-64);
-          new-64 = v .new-64;
-        }
-
-    copy-widths : Widths (afterCopy c m)
-    copy-widths =
-        let p = placeOf c (entryOf m 0 .object) in
-        let x = objectAt c (entryOf m 0 .object) in
-        record {
-          serial-32 = w .serial-32;
-          timestamp-32 = w .timestamp-32;
-          distances-16 = w .distances-16;
-          objects-fit = λ i. after-set Valued noObject (c .objects) p i (copiedObject c m) (copied-valued x (w .objects-fit p)) (w .objects-fit);
-          rivals-32 = w .rivals-32;
-        }
-
-    named-small : AllBelow (2 ^ 32) (named c m)
-    named-small = raised-small (rivalCount m) 0 (c .rivals) (w .rivals-32)
-
-    receive-widths : Widths (receiveOf s c me m .coordinator)
-    receive-widths =
-        receive-cases (λ (x : Step). Widths (x .coordinator)) s c me m
-        (record {
-          as-before = λ n. w;
-          copied = λ f. copy-widths;
-          endings = λ r. endings-widths;
-          last-yes = λ f t. same-widths _ refl refl refl refl named-small;
-          one-yes = λ f t. same-widths _ refl refl refl refl named-small;
-          last-done = λ f t. over-widths (c .outcome);
-          one-done = λ f t. same-widths _ refl refl refl refl (w .rivals-32);
-        })
 
 -- ---- and so all widths
 module _ (s : System) (q : Quorums s) (c : Coordinator) (me : ℕ) (m : Meets s c) (f : Fits c) where
   abbrev W : Widths c
   W = f .widths
 
-  pub begin-fits : (b : BeginWith) → length (b .distances) ≡ thirteen → b .timestamp < 2 ^ 32 → AllBelow (2 ^ 16) (b .distances)
+  pub begin-fits : (b : BeginWith) → length (b .distances) ≡ nodes → b .timestamp < 2 ^ 32 → AllBelow (2 ^ 16) (b .distances)
       → Fits (beginOf s c me b .coordinator)
   begin-fits b n t d = widths-fit s _ (begin-keeps s q c me m b n) (begin-widths s c me W b t d)
 
@@ -327,7 +254,7 @@ module _ (s : System) (q : Quorums s) (c : Coordinator) (me : ℕ) (m : Meets s 
   pub set-fits : (object value : ℕ) → value < 2 ^ 64 → Fits (setOf c me object value .coordinator)
   set-fits object value h = widths-fit s _ (set-keeps s q c me m object value) (set-widths s c me W object value h)
 
-  pub reselect-fits : (live : ℕ) (distances : List ℕ) → length distances ≡ thirteen → AllBelow (2 ^ 16) distances
+  pub reselect-fits : (live : ℕ) (distances : List ℕ) → length distances ≡ nodes → AllBelow (2 ^ 16) distances
       → Fits (reselectOf s c me live distances .coordinator)
   reselect-fits live distances n d = widths-fit s _ (reselect-keeps s q c me m live distances n) (reselect-widths s c me W live distances d)
 
@@ -336,6 +263,3 @@ module _ (s : System) (q : Quorums s) (c : Coordinator) (me : ℕ) (m : Meets s 
 
   pub abort-fits : Fits (abortOf c me .coordinator)
   abort-fits = widths-fit s _ (abort-keeps s c m me) (abort-widths s c me W)
-
-  pub receive-fits : (b : List ℕ) → Bytes b → Fits (receiveOf s c me b .coordinator)
-  receive-fits b h = widths-fit s _ (receive-keeps s c me b m) (receive-widths s c me W b h)

@@ -8,6 +8,7 @@ use native.Mathlib.Omega.{arith}
 use lib.Dec.{T, eqb, ltb}
 use lib.ListN.{length, set, replicate, length-set}
 use borrow.Author.Tests.{eqb-true, eqb-false, ltb-true, ltb-false, leb-false, not-false}
+use Rattle.numbers.specs.Sizes.{nodes, everyNode, objects as objectsEnd, mostOpen}
 use Rattle.mask.specs.Mask.{joined, within}
 use Rattle.mask.proofs.Laws.{within-self, within-trans}
 use Rattle.quorum.specs.Nearest.{maskOf}
@@ -15,36 +16,35 @@ use Rattle.coordinator.specs.declared.Object.{Object}
 use Rattle.coordinator.specs.declared.Coordinator.{Coordinator}
 use Rattle.coordinator.specs.declared.BeginWith.{BeginWith}
 use Rattle.coordinator.specs.System.{System}
-use Rattle.coordinator.specs.State.{eight, thirteen, everyNode, objectsEnd, idlePhase, openPhase, votingPhase, finishingPhase, aborted}
+use Rattle.coordinator.specs.State.{idlePhase, openPhase, votingPhase, finishingPhase, aborted}
 use Rattle.coordinator.specs.State.{noObject, idleAfter, blankRecord, placeOf, objectAt, isOpen, allSettled, anyUsedUp, awaited}
 use Rattle.coordinator.specs.Calls.{withObjects, withPhase}
 use Rattle.coordinator.specs.Calls.{noNode, tooWide, fresh, renewed, beginRefusals, begun, beginOf, openRefusals, opened, openOf}
 use Rattle.coordinator.specs.Calls.{setRefusals, withNew, setOf, reselectRefusals, reselected, reselectOf}
 use Rattle.coordinator.specs.Calls.{requestCommitRefusals, requested, requestCommitOf, abortOf}
 use Rattle.clauses.proofs.Parts.{on-cond, neither-left, neither-right}
-use Rattle.clauses.proofs.Cases.{step-keeps}
-use Rattle.clauses.proofs.Deliveries.{OpenOrVoting, Endings, abort-cases}
+use Rattle.clauses.proofs.Cases.{step-keeps, OpenOrVoting, Endings, abort-cases}
 use Rattle.clauses.proofs.Sets.{none-within, within-none, within-left, within-right, joined-known}
 use Rattle.clauses.proofs.Places.{at, place-open, place-shut, at-set, at-blank}
 use Rattle.clauses.proofs.Facts.{Sizes, Numbers, Opened, Objects, Nodes, Party, Votes, Dones, Agreed, waited, Meets}
 use Rattle.clauses.proofs.Quorums.{Quorums}
 
 -- ---- an idle record, and the blank one
-blank-objects : (contacted : ℕ) → Objects contacted 0 (replicate eight noObject)
+blank-objects : (contacted : ℕ) → Objects contacted 0 (replicate mostOpen noObject)
 blank-objects contacted =
     record {
       eight-at-most = omega arith;
       opened = λ i h. absurd (omega arith);
       once = λ i j h k e. absurd (omega arith);
-      past = λ i h. at-blank eight i;
+      past = λ i h. at-blank mostOpen i;
     }
 
-blank-sizes : (distances : List ℕ) → length distances ≡ thirteen → Sizes distances (replicate eight noObject) (replicate thirteen 0)
+blank-sizes : (distances : List ℕ) → length distances ≡ nodes → Sizes distances (replicate mostOpen noObject) (replicate nodes 0)
 blank-sizes distances e = record { distances-13 = e; objects-8 = refl; rivals-13 = refl }
 
 -- nobody was asked for a vote
 no-party : (s : System) (phase contacted count : ℕ) (objects : List Object) → (phase ≡ votingPhase → ⊥)
-    → Party s phase contacted count objects 0 (replicate thirteen 0)
+    → Party s phase contacted count objects 0 (replicate nodes 0)
 no-party s phase contacted count objects n =
     record {
       participants-known = omega arith;
@@ -72,7 +72,7 @@ module _ (s : System) where
   unfolding idleAfter
   idle-meets serial timestamp outcome n =
       record {
-        sizes = blank-sizes (replicate thirteen 0) refl;
+        sizes = blank-sizes (replicate nodes 0) refl;
         numbers = n;
         objects = blank-objects 0;
         nodes = record {
@@ -84,7 +84,7 @@ module _ (s : System) where
           nobody = λ e. refl;
           asked = λ f. absurd (f refl);
         };
-        party = no-party s idlePhase 0 0 (replicate eight noObject) (λ e. omega arith);
+        party = no-party s idlePhase 0 0 (replicate mostOpen noObject) (λ e. omega arith);
         votes = no-votes idlePhase outcome (omega arith);
         dones = no-dones idlePhase 0 0 (λ e. omega arith);
       }
@@ -114,7 +114,7 @@ more-contacted a b count l t f =
     }
 
 -- one object changed, the same by its number
-module _ (contacted count : ℕ) (l : List Object) (p : ℕ) (x : Object) (f : Objects contacted count l) (eights : length l ≡ eight) (h : p < count)
+module _ (contacted count : ℕ) (l : List Object) (p : ℕ) (x : Object) (f : Objects contacted count l) (eights : length l ≡ mostOpen) (h : p < count)
     (same : x .object ≡ at l p .object) where
   pub inside : p < length l
   inside = let k = f .eight-at-most in omega arith
@@ -133,7 +133,7 @@ module _ (contacted count : ℕ) (l : List Object) (p : ℕ) (x : Object) (f : O
       }
 
 -- one object more
-added-objects : (contacted count : ℕ) (l : List Object) (x : Object) → Objects contacted count l → length l ≡ eight → count < eight
+added-objects : (contacted count : ℕ) (l : List Object) (x : Object) → Objects contacted count l → length l ≡ mostOpen → count < mostOpen
     → ((j : ℕ) → j < count → at l j .object ≡ x .object → ⊥) → Opened contacted x → Objects contacted (count + 1) (set l count x)
 added-objects contacted count l x f eights h new o =
     record {
@@ -199,7 +199,7 @@ module _ (s : System) (c : Coordinator) (m : Meets s c) (e : c .phase ≡ openPh
       }
 
   -- objects and contacted nodes may change
-  pub objects-keep : (contacted count : ℕ) (objects : List Object) → length objects ≡ eight → Objects contacted count objects
+  pub objects-keep : (contacted count : ℕ) (objects : List Object) → length objects ≡ mostOpen → Objects contacted count objects
       → contacted ≤ everyNode → (count ≡ 0 → contacted ≡ 0) → ((count ≡ 0 → ⊥) → T (within (c .quorum) contacted))
       → Meets s (withObjects c contacted count objects)
   objects-keep contacted count objects n f known none some =
@@ -226,7 +226,7 @@ module _ (s : System) (c : Coordinator) (m : Meets s c) (e : c .phase ≡ openPh
 -- ---- the calls
 module _ (s : System) (q : Quorums s) (c : Coordinator) (me : ℕ) (m : Meets s c) where
   -- begin: the call itself checks the live mask and that the timestamp is above the last
-  begun-meets : (w : BeginWith) (quorum : ℕ) → length (w .distances) ≡ thirteen → w .live ≤ everyNode → c .timestamp < w .timestamp
+  begun-meets : (w : BeginWith) (quorum : ℕ) → length (w .distances) ≡ nodes → w .live ≤ everyNode → c .timestamp < w .timestamp
       → T (s .isRead quorum) → quorum ≤ everyNode → Meets s (begun c w quorum)
   unfolding begun
   begun-meets w quorum n live later read known =
@@ -248,12 +248,12 @@ module _ (s : System) (q : Quorums s) (c : Coordinator) (me : ℕ) (m : Meets s 
           nobody = λ e. refl;
           asked = λ f. absurd (f refl);
         };
-        party = no-party s openPhase 0 0 (replicate eight noObject) (λ e. omega arith);
+        party = no-party s openPhase 0 0 (replicate mostOpen noObject) (λ e. omega arith);
         votes = no-votes openPhase (c .outcome) (omega arith);
         dones = no-dones openPhase 0 0 (λ e. omega arith);
       }
 
-  pub begin-keeps : (w : BeginWith) → length (w .distances) ≡ thirteen → Meets s (beginOf s c me w .coordinator)
+  pub begin-keeps : (w : BeginWith) → length (w .distances) ≡ nodes → Meets s (beginOf s c me w .coordinator)
   unfolding beginOf beginRefusals
   begin-keeps w n =
       let chosen = s .nearestRead (w .live) (w .distances) in
@@ -274,7 +274,7 @@ module _ (s : System) (q : Quorums s) (c : Coordinator) (me : ℕ) (m : Meets s 
         not-given = λ e. refl;
       }
 
-  opened-meets : (object mode : ℕ) → c .phase ≡ openPhase → object < objectsEnd → mode < 2 → eight ≤ placeOf c object → c .count < eight
+  opened-meets : (object mode : ℕ) → c .phase ≡ openPhase → object < objectsEnd → mode < 2 → mostOpen ≤ placeOf c object → c .count < mostOpen
       → Meets s (opened c object mode)
   unfolding opened
   opened-meets object mode e h k shut room =
@@ -295,11 +295,11 @@ module _ (s : System) (q : Quorums s) (c : Coordinator) (me : ℕ) (m : Meets s 
       (λ k. let no = k .1 .1 .0 in
       opened-meets object mode (eqb-true (c .phase) openPhase (not-false (eqb (c .phase) openPhase) (k .1 .0)))
       (ltb-true object objectsEnd (not-false (ltb object objectsEnd) (neither-left (not (ltb object objectsEnd)) (isOpen c object) no))) h
-      (ltb-false (placeOf c object) eight (neither-right (not (ltb object objectsEnd)) (isOpen c object) no))
-      (ltb-true (c .count) eight (not-false (ltb (c .count) eight) (k .1 .1 .1 .0))))
+      (ltb-false (placeOf c object) mostOpen (neither-right (not (ltb object objectsEnd)) (isOpen c object) no))
+      (ltb-true (c .count) mostOpen (not-false (ltb (c .count) mostOpen) (k .1 .1 .1 .0))))
 
   -- set a value
-  set-meets : (object value : ℕ) → c .phase ≡ openPhase → placeOf c object < eight → (objectAt c object .mode ≡ 0 → ⊥) → Meets s (withNew c object value)
+  set-meets : (object value : ℕ) → c .phase ≡ openPhase → placeOf c object < mostOpen → (objectAt c object .mode ≡ 0 → ⊥) → Meets s (withNew c object value)
   unfolding withNew
   set-meets object value e h written =
       let x = objectAt c object in
@@ -321,11 +321,11 @@ module _ (s : System) (q : Quorums s) (c : Coordinator) (me : ℕ) (m : Meets s 
       step-keeps (Meets s) (setRefusals c me object) 0 c (withNew c object value) tt m
       (λ k. let no = k .1 .1 .0 in
       set-meets object value (eqb-true (c .phase) openPhase (not-false (eqb (c .phase) openPhase) (k .1 .0)))
-      (ltb-true (placeOf c object) eight (not-false (isOpen c object) (neither-left (not (isOpen c object)) (eqb (objectAt c object .mode) 0) no)))
+      (ltb-true (placeOf c object) mostOpen (not-false (isOpen c object) (neither-left (not (isOpen c object)) (eqb (objectAt c object .mode) 0) no)))
       (eqb-false (objectAt c object .mode) 0 (neither-right (not (isOpen c object)) (eqb (objectAt c object .mode) 0) no)))
 
   -- reselect: the new quorum joins the contacted nodes where an object is open
-  reselected-meets : (live : ℕ) (distances : List ℕ) (quorum : ℕ) → length distances ≡ thirteen → c .phase ≡ openPhase → live ≤ everyNode
+  reselected-meets : (live : ℕ) (distances : List ℕ) (quorum : ℕ) → length distances ≡ nodes → c .phase ≡ openPhase → live ≤ everyNode
       → T (s .isRead quorum) → quorum ≤ everyNode → Meets s (reselected c live distances quorum)
   unfolding reselected
   reselected-meets live distances quorum n e small read known =
@@ -348,7 +348,7 @@ module _ (s : System) (q : Quorums s) (c : Coordinator) (me : ℕ) (m : Meets s 
         asked = λ z. on-cond (λ (x : ℕ). T (within quorum x)) b old all (λ d. absurd (z (eqb-true (c .count) 0 d))) (λ d. within-right old quorum);
       })
 
-  pub reselect-keeps : (live : ℕ) (distances : List ℕ) → length distances ≡ thirteen → Meets s (reselectOf s c me live distances .coordinator)
+  pub reselect-keeps : (live : ℕ) (distances : List ℕ) → length distances ≡ nodes → Meets s (reselectOf s c me live distances .coordinator)
   unfolding reselectOf reselectRefusals
   reselect-keeps live distances n =
       let chosen = s .nearestRead live distances in
@@ -364,7 +364,7 @@ module _ (s : System) (c : Coordinator) (m : Meets s c) (busy : c .phase ≡ idl
   serial-used e = busy (m .numbers .unused e .1 .0)
 
   pub phase-meets : (phase outcome participants said done : ℕ) (rivals : List ℕ) → (phase ≡ idlePhase → ⊥) → phase ≤ finishingPhase → outcome ≤ aborted
-      → length rivals ≡ thirteen → Party s phase (c .contacted) (c .count) (c .objects) participants rivals
+      → length rivals ≡ nodes → Party s phase (c .contacted) (c .count) (c .objects) participants rivals
       → Votes phase outcome participants said → Dones phase (c .contacted) participants done
       → Meets s (withPhase c phase outcome participants said done rivals)
   phase-meets phase outcome participants said done rivals n known ended long party votes dones =
@@ -398,7 +398,7 @@ module _ (s : System) (c : Coordinator) (m : Meets s c) (busy : c .phase ≡ idl
       (record { phase-known = omega arith; outcome-known = known; unused = λ e. absurd (serial-used e); used = m .numbers .used })
 
   -- the participants as they were, in the last phase
-  pub last-party : (rivals : List ℕ) → (c .participants ≡ 0 → rivals ≡ replicate thirteen 0)
+  pub last-party : (rivals : List ℕ) → (c .participants ≡ 0 → rivals ≡ replicate nodes 0)
       → Party s finishingPhase (c .contacted) (c .count) (c .objects) (c .participants) rivals
   last-party rivals none =
       record {

@@ -1,5 +1,5 @@
--- What the clauses and the cases of the calls imply of every record: who the participants are, when a transaction commits, when it is over, and that
--- serials rise by one at an accepted begin and change at no other call.
+-- What the clauses and the cases of the host's calls imply of every record: who the participants are, when a transaction is over, and that serials
+-- rise by one at an accepted begin and change at no other call.
 use mathlib.Core.Path.{_≡_, refl, sym, _∙_, subst}
 use mathlib.Core.Bool.{true, false, not, _&&_, _||_}
 use mathlib.Core.List.{List}
@@ -9,7 +9,8 @@ use native.Mathlib.Omega.{arith}
 use lib.Dec.{T, eqb, ltb, eqb→eq, lt→ltb, T-not, not-T}
 use lib.ListN.{length, replicate}
 use lib.Seq.{ext-getD}
-use borrow.Author.Tests.{eqb-true, eqb-false, eq-eqb, ne-eqb, lt-ltb}
+use borrow.Author.Tests.{eqb-true, eqb-false}
+use Rattle.numbers.specs.Sizes.{mostOpen, highest}
 use Rattle.mask.specs.Mask.{contains, joined, within}
 use Rattle.mask.proofs.Tests.{and-both, and-left, and-right, or-cases, T-true}
 use Rattle.quorum.specs.declared.Kind.the-variants.{Write}
@@ -17,25 +18,19 @@ use Rattle.quorum.specs.Tree.{root}
 use Rattle.quorum.specs.Quorum.{isQuorum}
 use Rattle.quorum.specs.Nearest.{maskOf}
 use Rattle.quorum.proofs.Theorems.{root-in-write}
-use Rattle.wire.specs.Decode.{fromOf, toOf, serialOf, stampOf}
-use Rattle.wire.specs.Items.{wordOf}
 use Rattle.coordinator.specs.declared.Object.{Object}
 use Rattle.coordinator.specs.declared.Coordinator.{Coordinator}
 use Rattle.coordinator.specs.declared.BeginWith.{BeginWith}
-use Rattle.coordinator.specs.declared.Step.{Step}
 use Rattle.coordinator.specs.System.{System, tree}
-use Rattle.coordinator.specs.State.{eight, thirteen, idlePhase, votingPhase, committed, aborted, becameReady, nothing, noObject}
-use Rattle.coordinator.specs.State.{highest, idleAfter, ready, settled, allSettled, anyUsedUp, awaited}
-use Rattle.coordinator.specs.Calls.{beginRefusals, begun, beginOf, openRefusals, opened, openOf, setRefusals, withNew, setOf}
-use Rattle.coordinator.specs.Calls.{reselectRefusals, reselected, reselectOf, requestCommitRefusals, requested, requestCommitOf, abortOf}
-use Rattle.arrivals.specs.Receive.{withYes, voteTaken, delivered, receiveRefusals, receiveOf}
+use Rattle.coordinator.specs.State.{idlePhase, aborted, noObject, idleAfter, ready, settled, allSettled, anyUsedUp, awaited}
+use Rattle.coordinator.specs.Calls.{beginRefusals, begun, beginOf, openRefusals, opened, openOf, setRefusals, withNew, setOf, reselectRefusals}
+use Rattle.coordinator.specs.Calls.{reselected, reselectOf, requestCommitRefusals, requested, requestCommitOf, abortOf}
 use Rattle.clauses.proofs.Parts.{eq-T, true-T, false-T, on-cond}
 use Rattle.clauses.proofs.Sets.{within-none}
 use Rattle.clauses.proofs.Places.{at, at-blank, across-at, across-none}
 use Rattle.clauses.proofs.Facts.{Meets}
 use Rattle.clauses.proofs.Quorums.{Quorums}
-use Rattle.clauses.proofs.Cases.{step-keeps}
-use Rattle.clauses.proofs.Deliveries.{DoneFitting, YesFitting, Aborts, copiedObject, saidYes, saidDone, Endings, abort-cases, receive-cases}
+use Rattle.clauses.proofs.Cases.{step-keeps, Endings, abort-cases}
 
 -- ---- the participants: a write quorum, node 0 in it, and every contacted node
 pub record Participants (c : Coordinator) : Type 0 where
@@ -48,69 +43,12 @@ participants-contain c m n =
     let f = m .party .full n in
     record { write-quorum = f .write-quorum; has-root = root-in-write (c .participants) (f .write-quorum); has-contacted = f .everyone }
 
--- ---- a commit needs a yes from every participant, the message's sender the last of them
-pub record Commits (c : Coordinator) (me : ℕ) (m : List ℕ) : Type 0 where
-  pub a-yes : YesFitting c me m
-  pub everyone : T (within (c .participants) (saidYes c m))
-
-pub commit-needs-every-yes : (s : System) (c : Coordinator) (me : ℕ) (m : List ℕ) → receiveOf s c me m .answer ≡ committed → Commits c me m
-commit-needs-every-yes s c me m =
-    receive-cases (λ (x : Step). x .answer ≡ committed → Commits c me m) s c me m
-    (record {
-      as-before = λ n e. absurd (omega arith);
-      copied = λ f. on-cond (λ (a : ℕ). a ≡ committed → Commits c me m) (ready s (copiedObject c m)) becameReady nothing (λ k e. absurd (omega arith))
-          (λ k e. absurd (omega arith));
-      endings = λ r. record { gone = λ a b e. absurd (omega arith); aborting = λ a b e. absurd (omega arith) };
-      last-yes = λ f t e. record { a-yes = f; everyone = t };
-      one-yes = λ f t e. absurd (omega arith);
-      last-done = λ f t e. absurd (omega arith);
-      one-done = λ f t e. absurd (omega arith);
-    })
-
--- and that is enough
-pub every-yes-commits : (s : System) (c : Coordinator) (me : ℕ) (m : List ℕ) → Commits c me m → receiveOf s c me m .answer ≡ committed
-unfolding receiveOf receiveRefusals delivered voteTaken withYes
-every-yes-commits s c me m h =
-    let f = h .a-yes .answer in
-    simp (
-      f .taken .checked,
-      lt-ltb me thirteen (f .taken .a-node),
-      eq-eqb (toOf m) me (f .taken .to-me),
-      f .its-kind,
-      eq-eqb (c .phase) votingPhase (f .in-phase),
-      eq-eqb (serialOf m) (c .serial) (f .its-serial),
-      eq-eqb (stampOf m) (c .timestamp) (f .its-stamp),
-      T-true (contains (c .participants) (fromOf m)) (f .from-node),
-      ne-eqb (wordOf m) 0 (h .a-yes .says-yes),
-      T-true (within (c .participants) (saidYes c m)) (h .everyone),
-    )
-
--- a delivery aborts only by a participant's no, or a yield that names the transaction
-pub abort-needs-cause : (s : System) (c : Coordinator) (me : ℕ) (m : List ℕ) → receiveOf s c me m .answer ≡ aborted → Aborts c me m
-abort-needs-cause s c me m =
-    receive-cases (λ (x : Step). x .answer ≡ aborted → Aborts c me m) s c me m
-    (record {
-      as-before = λ n e. absurd (omega arith);
-      copied = λ f. on-cond (λ (a : ℕ). a ≡ aborted → Aborts c me m) (ready s (copiedObject c m)) becameReady nothing (λ k e. absurd (omega arith))
-          (λ k e. absurd (omega arith));
-      endings = λ r. record { gone = λ a b e. r; aborting = λ a b e. r };
-      last-yes = λ f t e. absurd (omega arith);
-      one-yes = λ f t e. absurd (omega arith);
-      last-done = λ f t e. absurd (omega arith);
-      one-done = λ f t e. absurd (omega arith);
-    })
-
 -- ---- a transaction is over only when every awaited node has said done, or nobody was contacted
 -- nobody awaited: nobody contacted, and no vote asked for
 pub nobody-awaited : (c : Coordinator) → awaited c ≡ 0 → (c .contacted ≡ 0) × (c .participants ≡ 0)
 nobody-awaited c =
     on-cond (λ (w : ℕ). w ≡ 0 → (c .contacted ≡ 0) × (c .participants ≡ 0)) (eqb (c .participants) 0) (c .contacted) (c .participants)
     (λ k e. (e, eqb-true (c .participants) 0 k)) (λ k e. absurd (eqb-false (c .participants) 0 k e))
-
--- the done that was awaited last
-pub record LastDone (c : Coordinator) (me : ℕ) (m : List ℕ) : Type 0 where
-  pub a-done : DoneFitting c me m
-  pub everyone : T (within (awaited c) (saidDone c m))
 
 module _ (s : System) (c : Coordinator) (me : ℕ) (busy : c .phase ≡ idlePhase → ⊥) where
   -- no other call of the host ends it
@@ -149,19 +87,6 @@ module _ (s : System) (c : Coordinator) (me : ℕ) (busy : c .phase ≡ idlePhas
       abort-cases (λ (d : Coordinator). d .phase ≡ idlePhase → awaited c ≡ 0) c me (λ e. absurd (busy e))
       (record { gone = λ a b e. b; aborting = λ a b e. absurd (omega arith) })
 
-  pub receive-over : (m : List ℕ) → receiveOf s c me m .coordinator .phase ≡ idlePhase → LastDone c me m ⊎ (awaited c ≡ 0)
-  receive-over m =
-      receive-cases (λ (x : Step). x .coordinator .phase ≡ idlePhase → LastDone c me m ⊎ (awaited c ≡ 0)) s c me m
-      (record {
-        as-before = λ n e. absurd (busy e);
-        copied = λ f e. absurd (busy e);
-        endings = λ r. record { gone = λ a b e. inr b; aborting = λ a b e. absurd (omega arith) };
-        last-yes = λ f t e. absurd (omega arith);
-        one-yes = λ f t e. absurd (omega arith);
-        last-done = λ f t e. inl (record { a-done = f; everyone = t });
-        one-done = λ f t e. absurd (busy e);
-      })
-
 -- ---- serials rise by one at an accepted begin (`serial-rises` of the coordinator) and change at no other call
 module _ (s : System) (c : Coordinator) (me : ℕ) where
   abbrev Same : Coordinator → Type 0
@@ -188,28 +113,15 @@ module _ (s : System) (c : Coordinator) (me : ℕ) where
       let all = joined (maskOf chosen) (c .contacted) in
       step-keeps Same (requestCommitRefusals s c me chosen) all c (requested c all) tt refl (λ k. refl)
 
-  idle-serial : (outcome : ℕ) → Same (idleAfter (c .serial) (c .timestamp) outcome)
+  pub idle-serial : (outcome : ℕ) → Same (idleAfter (c .serial) (c .timestamp) outcome)
   unfolding idleAfter
   idle-serial outcome = refl
 
-  endings-serial : Endings Same c
+  pub endings-serial : Endings Same c
   endings-serial = record { gone = λ a b. idle-serial aborted; aborting = λ a b. refl }
 
   pub abort-serial : Same (abortOf c me .coordinator)
   abort-serial = abort-cases Same c me refl endings-serial
-
-  pub receive-serial : (m : List ℕ) → Same (receiveOf s c me m .coordinator)
-  receive-serial m =
-      receive-cases (λ (x : Step). Same (x .coordinator)) s c me m
-      (record {
-        as-before = λ n. refl;
-        copied = λ f. refl;
-        endings = λ r. endings-serial;
-        last-yes = λ f t. refl;
-        one-yes = λ f t. refl;
-        last-done = λ f t. idle-serial (c .outcome);
-        one-done = λ f t. refl;
-      })
 
 -- ---- at idle only the lasting part may differ from a blank record
 made : (c d : Coordinator) → c .serial ≡ d .serial → c .timestamp ≡ d .timestamp → c .outcome ≡ d .outcome → c .phase ≡ d .phase → c .live ≡ d .live
@@ -239,9 +151,9 @@ idle-blank s c m e =
     let none : c .participants ≡ 0 = m .party .not-asked (omega arith) in
     let voted : c .yes ≡ 0 = within-none (c .yes) (subst (λ (w : ℕ). T (within (c .yes) w)) none (m .votes .of-participants)) in
     let done : c .done ≡ 0 = m .dones .no-done (λ f. omega arith) in
-    let objects : c .objects ≡ replicate eight noObject =
-    ext-getD noObject (c .objects) (replicate eight noObject) (m .sizes .objects-8)
-    (λ i h. m .objects .past i (let k = n .no-object in omega arith) ∙ sym (at-blank eight i)) in
+    let objects : c .objects ≡ replicate mostOpen noObject =
+    ext-getD noObject (c .objects) (replicate mostOpen noObject) (m .sizes .objects-8)
+    (λ i h. m .objects .past i (let k = n .no-object in omega arith) ∙ sym (at-blank mostOpen i)) in
     made c (idleAfter (c .serial) (c .timestamp) (c .outcome)) refl refl refl e (n .no-live) (n .no-distance) (n .no-quorum)
     (m .nodes .nobody (n .no-object)) (n .no-object) objects none voted done (m .party .no-rivals none)
 

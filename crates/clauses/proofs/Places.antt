@@ -9,9 +9,10 @@ use lib.Dec.{T, eqb, ltb, eqb→eq, ltb→lt, lt→ltb}
 use lib.ListN.{length, getD, set, replicate}
 use lib.Seq.{getD-set-same, getD-set-other}
 use borrow.Author.Tests.{eqb-true, eqb-false, ltb-true, ltb-false}
+use Rattle.numbers.specs.Sizes.{mostOpen}
 use Rattle.mask.proofs.Tests.{and-both, and-left, and-right}
 use Rattle.coordinator.specs.declared.Object.{Object}
-use Rattle.coordinator.specs.State.{eight, noObject, across, hereElse, placeIn}
+use Rattle.coordinator.specs.State.{noObject, across, hereElse, placeIn}
 use Rattle.clauses.proofs.Parts.{eq-T, by-test, true-T, neither-left, neither-right}
 
 -- what stands at a place
@@ -76,7 +77,7 @@ none-across f l h = none-at-all f 0 l (λ i k. subst (λ (n : ℕ). f n (at l i)
 abbrev Placed : List Object → ℕ → ℕ → ℕ → ℕ → Type 0
 Placed l n t k p =
     ((j : ℕ) × (p ≡ k + j) × (k + j < n) × (j < length l) × (at l j .object ≡ t))
-    ⊎ ((p ≡ eight) × ((j : ℕ) → k + j < n → j < length l → at l j .object ≡ t → ⊥))
+    ⊎ ((p ≡ mostOpen) × ((j : ℕ) → k + j < n → j < length l → at l j .object ≡ t → ⊥))
 
 later : (x : Object) (l : List Object) (n t k p : ℕ) → (k < n → x .object ≡ t → ⊥) → Placed l n t (k + 1) p → Placed (x ∷ l) n t k p
 later x l n t k p h = ⊎-elim (λ a. inl (suc (a .0), omega (arith, a .1), omega (arith, a .2), omega (arith, a .3), a .4)) (λ a. inr (a .0, none (a .1)))
@@ -85,7 +86,7 @@ later x l n t k p h = ⊎-elim (λ a. inl (suc (a .0), omega (arith, a .1), omeg
     none f zero a b e = h (omega arith) e
     none f (suc j) a b e = f j (omega arith) (omega arith) e
 
-placed : (l : List Object) (n t k : ℕ) → Placed l n t k (across (hereElse t n) eight k l)
+placed : (l : List Object) (n t k : ℕ) → Placed l n t k (across (hereElse t n) mostOpen k l)
 placed [] n t k = inr (refl, λ j a b e. omega arith)
 placed (x ∷ l) n t k = by (placed l n t (k + 1)) (ltb k n && eqb (x .object) t) refl
   where
@@ -99,16 +100,16 @@ placed (x ∷ l) n t k = by (placed l n t (k + 1)) (ltb k n && eqb (x .object) t
 
 module _ (l : List Object) (n t : ℕ) where
   -- an object that is open: its place is below the count, and it stands there
-  pub place-open : placeIn l n t < eight → (placeIn l n t < n) × ((placeIn l n t < length l) × (at l (placeIn l n t) .object ≡ t))
+  pub place-open : placeIn l n t < mostOpen → (placeIn l n t < n) × ((placeIn l n t < length l) × (at l (placeIn l n t) .object ≡ t))
   unfolding placeIn
   place-open h =
       ⊎-elim
-      (λ a. let e : a .0 ≡ across (hereElse t n) eight 0 l = omega (arith, a .1) in
+      (λ a. let e : a .0 ≡ across (hereElse t n) mostOpen 0 l = omega (arith, a .1) in
       (omega (arith, a .2), (omega (arith, a .3), subst (λ (p : ℕ). at l p .object ≡ t) e (a .4))))
       (λ a. absurd (let z : ⊥ = omega (arith, a .0) in z)) (placed l n t 0)
 
   -- one that is not: it stands nowhere
-  pub place-shut : eight ≤ placeIn l n t → length l ≤ eight → (j : ℕ) → j < n → j < length l → at l j .object ≡ t → ⊥
+  pub place-shut : mostOpen ≤ placeIn l n t → length l ≤ mostOpen → (j : ℕ) → j < n → j < length l → at l j .object ≡ t → ⊥
   unfolding placeIn
   place-shut h k j a b e =
       ⊎-elim (λ c. let z : ⊥ = omega (arith, c .1, c .3) in z) (λ c. c .1 j (omega arith) b e) (placed l n t 0)
@@ -117,14 +118,14 @@ module _ (l : List Object) (n t : ℕ) where
 abbrev pub Once : List Object → ℕ → Type 0
 Once l n = (i j : ℕ) → i < n → j < n → at l i .object ≡ at l j .object → i ≡ j
 
-module _ (l : List Object) (n : ℕ) (eights : length l ≡ eight) (small : n ≤ eight) where
+module _ (l : List Object) (n : ℕ) (eights : length l ≡ mostOpen) (small : n ≤ mostOpen) where
   -- then each stands where it is found
   pub place-at : Once l n → (i : ℕ) → i < n → placeIn l n (at l i .object) ≡ i
   place-at once i h =
       let t = at l i .object in
-      by-test (placeIn l n t ≡ i) (ltb (placeIn l n t) eight)
-      (λ e. let p = place-open l n t (ltb-true (placeIn l n t) eight e) in once (placeIn l n t) i (p .0) h (p .1 .1))
-      (λ e. absurd (place-shut l n t (ltb-false (placeIn l n t) eight e) (omega arith) i h (omega arith) refl))
+      by-test (placeIn l n t ≡ i) (ltb (placeIn l n t) mostOpen)
+      (λ e. let p = place-open l n t (ltb-true (placeIn l n t) mostOpen e) in once (placeIn l n t) i (p .0) h (p .1 .1))
+      (λ e. absurd (place-shut l n t (ltb-false (placeIn l n t) mostOpen e) (omega arith) i h (omega arith) refl))
 
   pub at-place : ((i : ℕ) → i < n → placeIn l n (at l i .object) ≡ i) → Once l n
   at-place f i j h k e = sym (f i h) ∙ ap (placeIn l n) e ∙ f j k

@@ -4,6 +4,7 @@ use mathlib.Core.Bool.{Bool, true, false}
 use mathlib.Core.List.{List}
 use Prim.Native.Nat.{ℕ, _≤_}
 use lib.Dec.{T}
+use Rattle.numbers.specs.Sizes.{everyNode}
 use Rattle.mask.specs.Mask.{within}
 use Rattle.mask.proofs.Laws.{within-self}
 use Rattle.mask.proofs.Tests.{or-left, or-right}
@@ -17,7 +18,6 @@ use Rattle.quorum.specs.Nearest.{maskOf}
 use Rattle.quorum.proofs.Contain.{anyWithin}
 use Rattle.quorum.proofs.Theorems.{In, here, there, Chosen, chosen, larger-counts, quorum-contains-smallest}
 use Rattle.coordinator.specs.System.{System, tree, nearestIn}
-use Rattle.coordinator.specs.State.{everyNode}
 use Rattle.coordinator.specs.Calls.{isNone}
 use Rattle.clauses.proofs.Parts.{false-T}
 use Rattle.clauses.proofs.Sets.{within-known}

@@ -6,10 +6,10 @@ use lib.Bits.{bitAnd, bitOr, and-le-r, and-zero-r, and-zero-l, or-lt}
 use lib.Dec.{T, eqb, eqb→eq, ltb}
 use lib.Pow.{pow-mono, pow-pos}
 use borrow.Author.Tests.{ltb-true, ltb-false}
+use Rattle.numbers.specs.Sizes.{nodes, everyNode}
 use Rattle.mask.specs.Mask.{contains, only, joined, within}
 use Rattle.mask.proofs.Laws.{bit-high, only-small, contains-joined, contains-within, within-joined, within-power}
 use Rattle.mask.proofs.Tests.{and-both, or-left, or-right}
-use Rattle.coordinator.specs.State.{everyNode, thirteen}
 use Rattle.clauses.proofs.Parts.{eq-T, by-test}
 
 -- ---- the empty set
@@ -30,18 +30,18 @@ pub joined-within : (a b m : ℕ) → T (within a m) → T (within b m) → T (w
 joined-within a b m s t = subst T (sym (within-joined a b m)) (and-both (within a m) (within b m) s t)
 
 pub joined-known : (a b : ℕ) → a ≤ everyNode → b ≤ everyNode → joined a b ≤ everyNode
-joined-known a b h k = let z : bitOr a b < 2 ^ 13 = or-lt 13 a b (omega arith) (omega arith) in omega arith
+joined-known a b h k = let z : bitOr a b < 2 ^ nodes = or-lt nodes a b (omega arith) (omega arith) in omega arith
 
 -- a subset of known nodes is one of known nodes
 pub within-known : (a b : ℕ) → T (within a b) → b ≤ everyNode → a ≤ everyNode
 within-known a b t h = let e : bitAnd a b ≡ a = eqb→eq (bitAnd a b) a t in omega (arith, and-le-r a b)
 
 -- ---- one node
-pub node-known : (m i : ℕ) → m ≤ everyNode → T (contains m i) → i < thirteen
+pub node-known : (m i : ℕ) → m ≤ everyNode → T (contains m i) → i < nodes
 node-known m i h t =
-    by-test (i < thirteen) (ltb i thirteen) (ltb-true i thirteen)
-    (λ e. let k : 13 ≤ i = ltb-false i 13 e in
-    let z : m < 2 ^ i = omega (arith, pow-mono {i = 13} {j = i} k) in
+    by-test (i < nodes) (ltb i nodes) (ltb-true i nodes)
+    (λ e. let k : nodes ≤ i = ltb-false i nodes e in
+    let z : m < 2 ^ i = omega (arith, pow-mono {i = nodes} {j = i} k) in
     absurd (subst (λ (x : ℕ). T (eqb x 1)) (bit-high m i z) t))
 
 module _ (m i : ℕ) (h : m ≤ everyNode) (t : T (contains m i)) where

@@ -5,11 +5,12 @@ use mathlib.Core.List.{List, [], _∷_}
 use Prim.Native.Nat.{ℕ}
 use lib.Dec.{eqb, ltb, leb}
 use lib.ListN.{length}
+use Rattle.numbers.specs.Sizes.{nodes, everyNode, objects, mostOpen}
 use Rattle.mask.specs.Mask.{within}
 use Rattle.coordinator.specs.declared.Object.{Object}
 use Rattle.coordinator.specs.declared.Coordinator.{Coordinator}
 use Rattle.coordinator.specs.System.{System}
-use Rattle.coordinator.specs.State.{eight, thirteen, everyNode, objectsEnd, idlePhase, openPhase, votingPhase, finishingPhase, committed, aborted}
+use Rattle.coordinator.specs.State.{idlePhase, openPhase, votingPhase, finishingPhase, committed, aborted}
 use Rattle.coordinator.specs.State.{across, placeIn, allSettled, anyUsedUp, awaited}
 
 -- b wherever a holds
@@ -26,7 +27,7 @@ zeros (x ∷ xs) = eqb x 0 && zeros xs
 -- none was given
 unfoldable pub objectMeets : ℕ → Object → Bool
 objectMeets contacted x =
-    ltb (x .object) objectsEnd
+    ltb (x .object) objects
     && (ltb (x .mode) 2
     && (within (x .came) contacted
     && (implies (eqb (x .came) 0) (eqb (x .version) 0 && eqb (x .value) 0) && cond (x .given) (eqb (x .mode) 1) (eqb (x .new) 0))))
@@ -43,11 +44,11 @@ abbrev pub andMeets : Coordinator → ℕ → Object → Bool → Bool
 andMeets c i x rest = placeMeets c i x && rest
 
 unfoldable pub objectsMeet : Coordinator → Bool
-objectsMeet c = leb (c .count) eight && across (andMeets c) true 0 (c .objects)
+objectsMeet c = leb (c .count) mostOpen && across (andMeets c) true 0 (c .objects)
 
 -- ---- the sizes
 unfoldable pub sizesMeet : Coordinator → Bool
-sizesMeet c = eqb (length (c .distances)) thirteen && (eqb (length (c .objects)) eight && eqb (length (c .rivals)) thirteen)
+sizesMeet c = eqb (length (c .distances)) nodes && (eqb (length (c .objects)) mostOpen && eqb (length (c .rivals)) nodes)
 
 -- ---- numbers: the phase, the outcome; serial and timestamp are both 0, then with no outcome and idle, or neither is
 unfoldable pub numbersMeet : Coordinator → Bool

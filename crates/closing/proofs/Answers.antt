@@ -6,6 +6,7 @@ use Prim.Native.Nat.{ℕ, _<_}
 use lib.Dec.{T, eqb, eqb→eq, T-not, not-T}
 use lib.ListN.{length}
 use borrow.Author.Tests.{lt-ltb, eq-eqb}
+use Rattle.numbers.specs.Sizes.{nodes}
 use Rattle.mask.specs.Mask.{contains}
 use Rattle.mask.proofs.Tests.{and-both, and-left, and-right, or-cases, or-left, or-right, T-true}
 use Rattle.image.specs.Layout.{state, serial}
@@ -20,13 +21,13 @@ use Rattle.closing.specs.State.{idleAt, allIdle, atRest, holds, holdsAt,
 use Rattle.closing.specs.Meaning.{Holding, Released}
 
 -- a node's parts are what the station has
-pub record-in : (l : List ℕ) (n : ℕ) → n < 13 → recordIn l n ≡ recordOf (recordAt l n)
+pub record-in : (l : List ℕ) (n : ℕ) → n < nodes → recordIn l n ≡ recordOf (recordAt l n)
 unfolding recordIn
-record-in l n h = simp (lt-ltb n 13 h)
+record-in l n h = simp (lt-ltb n nodes h)
 
-pub image-in : (l : List ℕ) (n : ℕ) → n < 13 → imageIn l n ≡ imageAt l n
+pub image-in : (l : List ℕ) (n : ℕ) → n < nodes → imageIn l n ≡ imageAt l n
 unfolding imageIn
-image-in l n h = simp (lt-ltb n 13 h)
+image-in l n h = simp (lt-ltb n nodes h)
 
 module _ (b : Buffers) where
   abbrev st : Station
@@ -39,23 +40,23 @@ module _ (b : Buffers) where
   pub rest-says : atRest (b .records) ≡ true → Quiescent st
   unfolding atRest allIdle idleAt
   rest-says e n h =
-      let t = each-at (idleAt (b .records)) 13 (and-right (eqb (length (b .records)) recordsSize) _ (true-T _ e)) n h in
+      let t = each-at (idleAt (b .records)) nodes (and-right (eqb (length (b .records)) recordsSize) _ (true-T _ e)) n h in
       ap (λ (c : Coordinator). c .phase) (record-in (b .records) n h) ∙ eqb→eq _ 0 t
 
   pub rest-said : length (b .records) ≡ recordsSize → Quiescent st → atRest (b .records) ≡ true
   unfolding atRest allIdle idleAt
   rest-said e q = T-true _ (and-both (eqb (length (b .records)) recordsSize) _ (eq-T _ _ e)
-      (each-all (idleAt (b .records)) 13 (λ n h. eq-T _ 0 (sym (ap (λ (c : Coordinator). c .phase) (record-in (b .records) n h)) ∙ q n h))))
+      (each-all (idleAt (b .records)) nodes (λ n h. eq-T _ 0 (sym (ap (λ (c : Coordinator). c .phase) (record-in (b .records) n h)) ∙ q n h))))
 
   -- ---- settled
-  holds-at : (n o s : ℕ) → n < 13 → Holding (st .images n) o s → T (holdsAt (b .images) n o s)
+  holds-at : (n o s : ℕ) → n < nodes → Holding (st .images n) o s → T (holdsAt (b .images) n o s)
   unfolding holdsAt holds
   holds-at n o s h z =
       let e = image-in (b .images) n h in
       and-both (eqb (state (imageAt (b .images) n) o) held) (eqb (serial (imageAt (b .images) n) o) s)
       (eq-T _ held (sym (ap (λ (l : List ℕ). state l o) e) ∙ z .is-held)) (eq-T _ s (sym (ap (λ (l : List ℕ). serial l o) e) ∙ z .of-serial))
 
-  at-holds : (n o s : ℕ) → n < 13 → T (holdsAt (b .images) n o s) → Holding (st .images n) o s
+  at-holds : (n o s : ℕ) → n < nodes → T (holdsAt (b .images) n o s) → Holding (st .images n) o s
   unfolding holdsAt holds
   at-holds n o s h t =
       let e = image-in (b .images) n h in
@@ -67,7 +68,7 @@ module _ (b : Buffers) where
 
   -- an owner's record, as the buffer has it
   abbrev Free : Coordinator → ℕ → Type 0
-  Free c o = (n : ℕ) → n < 13 → c .phase ≡ 3 → c .outcome ≡ 1 → contains (c .participants) n ≡ true → Holding (st .images n) o (c .serial) → ⊥
+  Free c o = (n : ℕ) → n < nodes → c .phase ≡ 3 → c .outcome ≡ 1 → contains (c .participants) n ≡ true → Holding (st .images n) o (c .serial) → ⊥
 
   with-free : (c : Coordinator) (o : ℕ) → T (settledWith (b .images) c o) → Free c o
   unfolding settledWith decided released
@@ -75,7 +76,7 @@ module _ (b : Buffers) where
       or-cases ⊥ (not (decided c)) (released (b .images) (c .participants) o (c .serial))
       (λ a. T-not (decided c) a (and-both (eqb (c .phase) 3) (eqb (c .outcome) 1) (eq-T _ 3 p) (eq-T _ 1 q)))
       (λ a. T-not (contains (c .participants) n && holdsAt (b .images) n o (c .serial))
-      (each-at (releasedAt (b .images) (c .participants) o (c .serial)) 13 a n h)
+      (each-at (releasedAt (b .images) (c .participants) o (c .serial)) nodes a n h)
       (and-both (contains (c .participants) n) _ (true-T _ i) (holds-at n o (c .serial) h z)))
       t
 
@@ -85,7 +86,7 @@ module _ (b : Buffers) where
       (λ t. eqb→eq _ 1 (and-right (eqb (c .phase) 3) (eqb (c .outcome) 1) t))
     where
       by : (d : Bool) → (T d → c .phase ≡ 3) → (T d → c .outcome ≡ 1) → T (not d || released (b .images) (c .participants) o (c .serial))
-      by true p q = each-all (releasedAt (b .images) (c .participants) o (c .serial)) 13
+      by true p q = each-all (releasedAt (b .images) (c .participants) o (c .serial)) nodes
           (λ n h. not-T (contains (c .participants) n && holdsAt (b .images) n o (c .serial))
           (λ t. f n h (p tt) (q tt) (T-true _ (and-left (contains (c .participants) n) _ t))
           (at-holds n o (c .serial) h (and-right (contains (c .participants) n) _ t))))
@@ -94,7 +95,7 @@ module _ (b : Buffers) where
   pub settled-says : settled (b .images) (b .records) ≡ true → Released st
   unfolding settled allSettled settledAt
   settled-says e o n small h =
-      let t = each-at (settledAt (b .images) (b .records)) 13
+      let t = each-at (settledAt (b .images) (b .records)) nodes
       (and-right (eqb (length (b .images)) imagesSize && eqb (length (b .records)) recordsSize) _ (true-T _ e)) o small in
       subst (λ (c : Coordinator). c .phase ≡ 3 → c .outcome ≡ 1 → contains (c .participants) n ≡ true → Holding (st .images n) o (c .serial) → ⊥)
       (sym (record-in (b .records) o small)) (with-free (record-of o) o t n h)
@@ -103,5 +104,5 @@ module _ (b : Buffers) where
   unfolding settled allSettled settledAt
   settled-said p q f = T-true _
       (and-both (eqb (length (b .images)) imagesSize && eqb (length (b .records)) recordsSize) _ (and-both (eqb (length (b .images)) imagesSize) _ (eq-T _ _ p)
-      (eq-T _ _ q)) (each-all (settledAt (b .images) (b .records)) 13 (λ o small. free-with (record-of o) o (subst (λ (c : Coordinator). Free c o)
+      (eq-T _ _ q)) (each-all (settledAt (b .images) (b .records)) nodes (λ o small. free-with (record-of o) o (subst (λ (c : Coordinator). Free c o)
       (record-in (b .records) o small) (λ n h. f o n small h)))))

@@ -8,6 +8,8 @@ use lib.Bits.{or-lt}
 use lib.Dec.{eqb}
 use lib.ListN.{length, length-append}
 use lib.Pow.{pow-lt}
+use Rattle.buffers.specs.Buffers.{imagesSize}
+use Rattle.numbers.specs.Sizes.{nodes, objects}
 use Rattle.mask.specs.Mask.{only}
 use Rattle.mask.proofs.Laws.{only-small}
 use Rattle.decimal.specs.Decimal.{decimal, putAt}
@@ -24,30 +26,30 @@ use Rattle.closing.specs.Texts.{nthObjectTexts, objectsTexts, answerText
 use Rattle.closing.proofs.Newest.{Newer, second, both, first, newer}
 
 -- ---- the nodes are a mask of thirteen
-only-lt : (n : ℕ) → n < 13 → only n < 2 ^ 13
-only-lt n h = subst (λ (m : ℕ). m < 2 ^ 13) (sym (only-small n (omega arith))) (pow-lt {i = n} {j = 13} h)
+only-lt : (n : ℕ) → n < nodes → only n < 2 ^ nodes
+only-lt n h = subst (λ (m : ℕ). m < 2 ^ nodes) (sym (only-small n (omega arith))) (pow-lt {i = n} {j = nodes} h)
 
-nodes-of : (l : List ℕ) (t k : ℕ) → k ≤ 13 → newestOf l t k .nodes < 2 ^ 13
+nodes-of : (l : List ℕ) (t k : ℕ) → k ≤ nodes → newestOf l t k .nodes < 2 ^ nodes
 unfolding newestOf copyAt
 nodes-of l t zero h = omega arith
 nodes-of l t (suc k) h = by (newer (newestOf l t k) (copyAt l t k)) (nodes-of l t k (omega arith)) (only-lt k (omega arith))
   where
-    by : Newer (newestOf l t k) (copyAt l t k) → newestOf l t k .nodes < 2 ^ 13 → only k < 2 ^ 13
-        → newerOf (newestOf l t k) (copyAt l t k) .nodes < 2 ^ 13
-    by (second p e) a b = subst (λ (x : Best). x .nodes < 2 ^ 13) (sym e) b
-    by (both p e) a b = subst (λ (x : Best). x .nodes < 2 ^ 13) (sym e) (or-lt 13 (newestOf l t k .nodes) (only k) a b)
-    by (first p e) a b = subst (λ (x : Best). x .nodes < 2 ^ 13) (sym e) a
+    by : Newer (newestOf l t k) (copyAt l t k) → newestOf l t k .nodes < 2 ^ nodes → only k < 2 ^ nodes
+        → newerOf (newestOf l t k) (copyAt l t k) .nodes < 2 ^ nodes
+    by (second p e) a b = subst (λ (x : Best). x .nodes < 2 ^ nodes) (sym e) b
+    by (both p e) a b = subst (λ (x : Best). x .nodes < 2 ^ nodes) (sym e) (or-lt nodes (newestOf l t k .nodes) (only k) a b)
+    by (first p e) a b = subst (λ (x : Best). x .nodes < 2 ^ nodes) (sym e) a
 
-nodes-lt : (l : List ℕ) (t : ℕ) → newest l t .nodes < 2 ^ 13
+nodes-lt : (l : List ℕ) (t : ℕ) → newest l t .nodes < 2 ^ nodes
 unfolding newest
-nodes-lt l t = by (eqb (length l) 15691)
+nodes-lt l t = by (eqb (length l) imagesSize)
   where
-    by : (b : Bool) → cond b (newestOf l t 13) (record { version = 0; value = 0; nodes = 0 }) .nodes < 2 ^ 13
-    by true = nodes-of l t 13 (omega arith)
+    by : (b : Bool) → cond b (newestOf l t nodes) (record { version = 0; value = 0; nodes = 0 }) .nodes < 2 ^ nodes
+    by true = nodes-of l t nodes (omega arith)
     by false = omega arith
 
 -- ---- a line
-copy-long : (t : ℕ) (b : Best) → t < 64 → b .nodes < 2 ^ 13 → long (copyTexts t b) ≤ 80
+copy-long : (t : ℕ) (b : Best) → t < objects → b .nodes < 2 ^ nodes → long (copyTexts t b) ≤ 80
 unfolding copyTexts
 copy-long t b h g =
     let one = numberTexts objectText t in
@@ -65,7 +67,7 @@ copy-long t b h g =
     let brief : length (decimal (b .nodes)) ≤ 5 = decimal-short 5 (b .nodes) (omega arith) (omega arith) in
     omega arith
 
-object-long : (t : ℕ) (b : Best) (v : ℕ) → t < 64 → b .nodes < 2 ^ 13 → long (objectTexts t b v) ≤ 110
+object-long : (t : ℕ) (b : Best) (v : ℕ) → t < objects → b .nodes < 2 ^ nodes → long (objectTexts t b v) ≤ 110
 unfolding objectTexts joined
 object-long t b v h g = by (eqb (b .version) 0 && eqb v 0)
   where
@@ -93,7 +95,7 @@ closing-long images records sheet =
     let e = long-append ((endText ∷ []) ++ lines ++ third) last in
     let f = long-append ((endText ∷ []) ++ lines) third in
     let g = long-append (endText ∷ []) lines in
-    let p : long lines ≤ 110 * 64 = each-long (nthObjectTexts images sheet) 110 64 0
+    let p : long lines ≤ 110 * objects = each-long (nthObjectTexts images sheet) 110 objects 0
     (λ t h. object-long t (newest images t) (valueOf sheet t) (omega arith) (nodes-lt images t)) in
     let q = answer-long restText (atRest records) refl in
     let r = answer-long settledText (settled images records) refl in

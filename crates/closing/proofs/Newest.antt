@@ -7,6 +7,7 @@ use Prim.Native.Nat.{ℕ, zero, suc, _<_, _≤_}
 use native.Mathlib.Omega.{arith}
 use lib.Dec.{T, eqb, ltb, eqb→eq}
 use borrow.Author.Tests.{ltb-true, ltb-false, eqb-true, eqb-false}
+use Rattle.numbers.specs.Sizes.{nodes}
 use Rattle.mask.specs.Mask.{contains, only, joined}
 use Rattle.mask.proofs.Laws.{only-small, contains-power, contains-joined}
 use Rattle.mask.proofs.Tests.{or-left, or-right, or-cases}
@@ -102,14 +103,14 @@ module _ (l : List ℕ) (t : ℕ) where
 
   -- ---- its nodes are those that have it
   -- one node
-  pub is-one : (k n : ℕ) → k < 13 → contains (only k) n ≡ eqb k n
+  pub is-one : (k n : ℕ) → k < nodes → contains (only k) n ≡ eqb k n
   is-one k n h = ap (λ (m : ℕ). contains m n) (only-small k (omega arith)) ∙ contains-power k n
 
   -- the nodes before the k-th that have a version
   abbrev pub Has : ℕ → ℕ → ℕ → Type 0
   Has k v n = (n < k) × (versionAt n ≡ v)
 
-  pub nodes-have : (k n : ℕ) → k ≤ 13 → T (contains (best k .nodes) n) → Has k (best k .version) n
+  pub nodes-have : (k n : ℕ) → k ≤ nodes → T (contains (best k .nodes) n) → Has k (best k .version) n
   unfolding newestOf copyAt
   nodes-have zero n h i = absurd (subst T (contains-none n) i)
   nodes-have (suc k) n h i = by (newer (best k) (copyAt l t k)) (nodes-have k n (omega arith)) i
@@ -132,7 +133,7 @@ module _ (l : List ℕ) (t : ℕ) where
           let z = f (subst (λ (x : Best). T (contains (x .nodes) n)) e j) in
           (let y = z .0 in omega arith, z .1 ∙ sym (ap (λ (x : Best). x .version) e))
 
-  pub have-nodes : (k n : ℕ) → k ≤ 13 → Has k (best k .version) n → T (contains (best k .nodes) n)
+  pub have-nodes : (k n : ℕ) → k ≤ nodes → Has k (best k .version) n → T (contains (best k .nodes) n)
   unfolding newestOf copyAt
   have-nodes zero n h i = absurd (let y = i .0 in let z : ⊥ = omega arith in z)
   have-nodes (suc k) n h i = by (newer (best k) (copyAt l t k)) (have-nodes k n (omega arith)) (none-newer k n) (lt-or-le n k) i

@@ -4,9 +4,9 @@ use mathlib.Core.List.{List}
 use Prim.Native.Nat.{ℕ, zero, suc}
 use lib.Dec.{eqb, ltb}
 use lib.ListN.{length}
+use Rattle.numbers.specs.Sizes.{nodes}
 use Rattle.mask.specs.Mask.{only, joined}
 use Rattle.image.specs.Layout.{version, value}
-use Rattle.coordinator.specs.State.{thirteen}
 use Rattle.buffers.specs.Buffers.{imagesSize, imageAt}
 use Rattle.closing.specs.declared.Best.{Best}
 
@@ -30,4 +30,4 @@ newestOf images t (suc n) = newerOf (newestOf images t n) (copyAt images t n)
 
 -- of all of them; none for images of another length
 unfoldable pub newest : List ℕ → ℕ → Best
-newest images t = cond (eqb (length images) imagesSize) (newestOf images t thirteen) noCopy
+newest images t = cond (eqb (length images) imagesSize) (newestOf images t nodes) noCopy

@@ -3,10 +3,11 @@ use mathlib.Core.Path.{_≡_}
 use mathlib.Core.Bool.{true}
 use mathlib.Core.List.{List}
 use Prim.Native.Nat.{ℕ, _<_}
+use Rattle.numbers.specs.Sizes.{nodes}
 use Rattle.mask.specs.Mask.{contains}
 use Rattle.image.specs.Layout.{state, serial}
 use Rattle.image.specs.Valid.{held}
-use Rattle.coordinator.specs.State.{thirteen, finishingPhase, committed}
+use Rattle.coordinator.specs.State.{finishingPhase, committed}
 use Rattle.steps.specs.Station.{Station}
 
 -- an image holds the transaction of an owner with a serial
@@ -16,5 +17,5 @@ pub record Holding (l : List ℕ) (o s : ℕ) : Type 0 where
 
 -- no participant of a committed transaction holds it still
 abbrev pub Released : Station → Type 0
-Released st = (o n : ℕ) → o < thirteen → n < thirteen → st .records o .phase ≡ finishingPhase → st .records o .outcome ≡ committed
+Released st = (o n : ℕ) → o < nodes → n < nodes → st .records o .phase ≡ finishingPhase → st .records o .outcome ≡ committed
     → contains (st .records o .participants) n ≡ true → Holding (st .images n) o (st .records o .serial) → ⊥

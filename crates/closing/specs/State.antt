@@ -4,11 +4,12 @@ use mathlib.Core.List.{List}
 use Prim.Native.Nat.{ℕ}
 use lib.Dec.{eqb}
 use lib.ListN.{length}
+use Rattle.numbers.specs.Sizes.{nodes}
 use Rattle.mask.specs.Mask.{contains}
 use Rattle.image.specs.Layout.{state, serial}
 use Rattle.image.specs.Valid.{held, each}
 use Rattle.coordinator.specs.declared.Coordinator.{Coordinator}
-use Rattle.coordinator.specs.State.{thirteen, idlePhase, finishingPhase, committed}
+use Rattle.coordinator.specs.State.{idlePhase, finishingPhase, committed}
 use Rattle.record.specs.Record.{recordOf}
 use Rattle.buffers.specs.Buffers.{imagesSize, recordsSize, imageAt, recordAt}
 
@@ -17,7 +18,7 @@ unfoldable pub idleAt : List ℕ → ℕ → Bool
 idleAt records n = eqb (recordOf (recordAt records n) .phase) idlePhase
 
 unfoldable pub allIdle : List ℕ → Bool
-allIdle records = each thirteen (idleAt records)
+allIdle records = each nodes (idleAt records)
 
 unfoldable pub atRest : List ℕ → Bool
 atRest records = eqb (length records) recordsSize && allIdle records
@@ -35,7 +36,7 @@ abbrev pub releasedAt : List ℕ → ℕ → ℕ → ℕ → ℕ → Bool
 releasedAt images participants o s n = not (contains participants n && holdsAt images n o s)
 
 unfoldable pub released : List ℕ → ℕ → ℕ → ℕ → Bool
-released images participants o s = each thirteen (releasedAt images participants o s)
+released images participants o s = each nodes (releasedAt images participants o s)
 
 -- a coordinator's transaction is committed, and not finished
 unfoldable pub decided : Coordinator → Bool
@@ -49,7 +50,7 @@ unfoldable pub settledAt : List ℕ → List ℕ → ℕ → Bool
 settledAt images records o = settledWith images (recordOf (recordAt records o)) o
 
 unfoldable pub allSettled : List ℕ → List ℕ → Bool
-allSettled images records = each thirteen (settledAt images records)
+allSettled images records = each nodes (settledAt images records)
 
 unfoldable pub settled : List ℕ → List ℕ → Bool
 settled images records = (eqb (length images) imagesSize && eqb (length records) recordsSize) && allSettled images records

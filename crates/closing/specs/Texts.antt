@@ -3,6 +3,7 @@ use mathlib.Core.Bool.{Bool, cond, _&&_}
 use mathlib.Core.List.{List, [], _∷_, _++_}
 use Prim.Native.Nat.{ℕ}
 use lib.Dec.{eqb}
+use Rattle.numbers.specs.Sizes.{objects}
 use Rattle.replay.specs.Sheet.{valueOf}
 use Rattle.report.specs.Page.{Page, inks}
 use Rattle.report.specs.Each.{eachFrom}
@@ -61,7 +62,7 @@ abbrev pub nthObjectTexts : List ℕ → List ℕ → ℕ → List Text
 nthObjectTexts images sheet t = objectTexts t (newest images t) (valueOf sheet t)
 
 unfoldable pub objectsTexts : List ℕ → List ℕ → List Text
-objectsTexts images sheet = eachFrom (nthObjectTexts images sheet) 64 0
+objectsTexts images sheet = eachFrom (nthObjectTexts images sheet) objects 0
 
 -- ---- `  at rest yes`
 unfoldable pub answerTexts : Text → Bool → List Text

@@ -2,11 +2,15 @@
 ghost use mathlib.Core.Path.{_≡_};
 ghost use Prim.Native.Nat.{_<_};
 ghost use lib.ListN.{length};
+ghost use Rattle.buffers.specs.Buffers.{imagesSize};
+ghost use Rattle.numbers.specs.Sizes.{nodes};
 ghost use Rattle.report.specs.Page.{page, inks};
 ghost use Rattle.closing.specs.Copies.{noCopy, copyAt, newerOf, newestOf, newest};
 ghost use Rattle.closing.specs.Texts.{copyTexts, objectTexts, objectsTexts};
 use crate::Best;
 use crate::wide;
+use numbers::NODES_END;
+use numbers::OBJECTS_END;
 use numbers::both;
 
 // No copy.
@@ -22,7 +26,7 @@ fn none() -> Best
 
 // A node's own copy.
 fn copy_at(images: &[u8], object: u8, node: u8) -> Best
-    requires { ⌜ (length (now images) ≡ 15691) × (node < 13) ⌝ }
+    requires { ⌜ (length (now images) ≡ imagesSize) × (node < nodes) ⌝ }
     ensures { λ r. ⌜ r ≡ copyAt (now (images .entry)) object node ⌝ }
 {
     let start = image::SIZE * wide(node);
@@ -57,12 +61,12 @@ fn newer(a: Best, b: Best) -> Best
 
 // The newest copy of an object among all nodes.
 fn newest_copy(images: &[u8], object: u8) -> Best
-    requires { ⌜ length (now images) ≡ 15691 ⌝ }
-    ensures { λ r. ⌜ r ≡ newestOf (now (images .entry)) object 13 ⌝ }
+    requires { ⌜ length (now images) ≡ imagesSize ⌝ }
+    ensures { λ r. ⌜ r ≡ newestOf (now (images .entry)) object nodes ⌝ }
 {
     let mut b = none();
     let mut i: u8 = 0;
-    while i < 13 {
+    while i < NODES_END {
         let c = copy_at(images, object, i);
         b = newer(b, c);
         i = i + 1;
@@ -109,7 +113,7 @@ pub(crate) fn objects(images: &[u8], sheet: &[u64], out: &mut [u8], at: usize) -
 {
     let mut a = at;
     let mut t: u8 = 0;
-    while t < 64 {
+    while t < OBJECTS_END {
         let b = newest(images, t);
         let v = replay::value(sheet, t);
         a = object(out, a, t, b, v);

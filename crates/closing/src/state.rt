@@ -3,20 +3,22 @@ ghost use mathlib.Core.Path.{_≡_};
 ghost use mathlib.Core.Bool.{_&&_};
 ghost use Prim.Native.Nat.{_<_};
 ghost use lib.ListN.{length};
+ghost use Rattle.numbers.specs.Sizes.{nodes};
 ghost use Rattle.record.specs.Record.{recordOf};
-ghost use Rattle.buffers.specs.Buffers.{imageAt, recordAt};
+ghost use Rattle.buffers.specs.Buffers.{imageAt, recordAt, imagesSize, recordsSize};
 ghost use Rattle.closing.specs.State.{idleAt, allIdle, atRest, holds, holdsAt, released, decided, settledWith, settledAt, allSettled, settled};
 use crate::wide;
 use coordinator::COMMITTED;
 use coordinator::Coordinator;
 use coordinator::FINISHING;
 use coordinator::IDLE;
+use numbers::NODES_END;
 use numbers::both;
 use numbers::either;
 
 // A node's record.
 fn record_at(records: &[u8], node: u8) -> Coordinator
-    requires { ⌜ (length (now records) ≡ 3913) × (node < 13) ⌝ }
+    requires { ⌜ (length (now records) ≡ recordsSize) × (node < nodes) ⌝ }
     ensures { λ r. ⌜ r ≡ recordOf (recordAt (now (records .entry)) node) ⌝ }
 {
     let start = record::SIZE * wide(node);
@@ -26,7 +28,7 @@ fn record_at(records: &[u8], node: u8) -> Coordinator
 
 // Whether a node's coordinator is idle; whether every one is.
 fn is_idle(records: &[u8], node: u8) -> bool
-    requires { ⌜ (length (now records) ≡ 3913) × (node < 13) ⌝ }
+    requires { ⌜ (length (now records) ≡ recordsSize) × (node < nodes) ⌝ }
     ensures { λ r. ⌜ r ≡ idleAt (now (records .entry)) node ⌝ }
 {
     let c = record_at(records, node);
@@ -34,12 +36,12 @@ fn is_idle(records: &[u8], node: u8) -> bool
 }
 
 fn all_idle(records: &[u8]) -> bool
-    requires { ⌜ length (now records) ≡ 3913 ⌝ }
+    requires { ⌜ length (now records) ≡ recordsSize ⌝ }
     ensures { λ r. ⌜ r ≡ allIdle (now (records .entry)) ⌝ }
 {
     let mut all = true;
     let mut i: u8 = 0;
-    while i < 13 {
+    while i < NODES_END {
         all = both(all, is_idle(records, i));
         i = i + 1;
     }
@@ -68,7 +70,7 @@ fn holds(image: &[u8], owner: u8, serial: u32) -> bool
 }
 
 fn holds_at(images: &[u8], node: u8, owner: u8, serial: u32) -> bool
-    requires { ⌜ (length (now images) ≡ 15691) × (node < 13) ⌝ }
+    requires { ⌜ (length (now images) ≡ imagesSize) × (node < nodes) ⌝ }
     ensures { λ r. ⌜ r ≡ holdsAt (now (images .entry)) node owner serial ⌝ }
 {
     let start = image::SIZE * wide(node);
@@ -78,12 +80,12 @@ fn holds_at(images: &[u8], node: u8, owner: u8, serial: u32) -> bool
 
 // Whether no participant holds a transaction.
 fn released(images: &[u8], participants: u16, owner: u8, serial: u32) -> bool
-    requires { ⌜ length (now images) ≡ 15691 ⌝ }
+    requires { ⌜ length (now images) ≡ imagesSize ⌝ }
     ensures { λ r. ⌜ r ≡ released (now (images .entry)) participants owner serial ⌝ }
 {
     let mut all = true;
     let mut i: u8 = 0;
-    while i < 13 {
+    while i < NODES_END {
         let held = both(
             mask::has(participants, i),
             holds_at(images, i, owner, serial),
@@ -103,7 +105,7 @@ fn decided(c: Coordinator) -> bool
 
 // Whether an owner has no committed transaction that a participant holds; whether no owner has.
 fn settled_at(images: &[u8], records: &[u8], owner: u8) -> bool
-    requires { ⌜ (length (now images) ≡ 15691) × (length (now records) ≡ 3913) × (owner < 13) ⌝ }
+    requires { ⌜ (length (now images) ≡ imagesSize) × (length (now records) ≡ recordsSize) × (owner < nodes) ⌝ }
     ensures { λ r. ⌜ r ≡ settledAt (now (images .entry)) (now (records .entry)) owner ⌝ }
 {
     let c = record_at(records, owner);
@@ -112,12 +114,12 @@ fn settled_at(images: &[u8], records: &[u8], owner: u8) -> bool
 }
 
 fn all_settled(images: &[u8], records: &[u8]) -> bool
-    requires { ⌜ (length (now images) ≡ 15691) × (length (now records) ≡ 3913) ⌝ }
+    requires { ⌜ (length (now images) ≡ imagesSize) × (length (now records) ≡ recordsSize) ⌝ }
     ensures { λ r. ⌜ r ≡ allSettled (now (images .entry)) (now (records .entry)) ⌝ }
 {
     let mut all = true;
     let mut i: u8 = 0;
-    while i < 13 {
+    while i < NODES_END {
         all = both(all, settled_at(images, records, i));
         i = i + 1;
     }

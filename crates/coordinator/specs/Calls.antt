@@ -4,6 +4,7 @@ use mathlib.Core.List.{List, [], _∷_}
 use Prim.Native.Nat.{ℕ, _+_}
 use lib.Dec.{eqb, ltb, leb}
 use lib.ListN.{set, replicate}
+use Rattle.numbers.specs.Sizes.{nodes, everyNode, objects, mostOpen, highest}
 use Rattle.mask.specs.Mask.{joined}
 use Rattle.numbers.specs.Numbers.{stranger, outOfTurn, noSuchObject, eightOpen, noQuorum, usedUp, busy, notReady}
 use Rattle.numbers.specs.Refusal.{Refusal, refuse, firstOf}
@@ -14,13 +15,13 @@ use Rattle.coordinator.specs.declared.Coordinator.{Coordinator}
 use Rattle.coordinator.specs.declared.BeginWith.{BeginWith}
 use Rattle.coordinator.specs.declared.Step.{Step}
 use Rattle.coordinator.specs.System.{System}
-use Rattle.coordinator.specs.State.{eight, thirteen, everyNode, highest, objectsEnd, noObject, aborted}
+use Rattle.coordinator.specs.State.{noObject, aborted}
 use Rattle.coordinator.specs.State.{idlePhase, openPhase, votingPhase, finishingPhase}
 use Rattle.coordinator.specs.State.{idleAfter, placeOf, objectAt, isOpen, ready, allSettled, anyUsedUp, awaited, stepOf}
 
 -- no node has this number; the mask names one that is not there; there is no quorum
 abbrev pub noNode : ℕ → Bool
-noNode node = not (ltb node thirteen)
+noNode node = not (ltb node nodes)
 
 abbrev pub tooWide : ℕ → Bool
 tooWide live = ltb everyNode live
@@ -51,11 +52,11 @@ begun c w quorum =
       quorum = quorum;
       contacted = 0;
       count = 0;
-      objects = replicate eight noObject;
+      objects = replicate mostOpen noObject;
       participants = 0;
       yes = 0;
       done = 0;
-      rivals = replicate thirteen 0;
+      rivals = replicate nodes 0;
     }
 
 unfoldable pub beginOf : System → Coordinator → ℕ → BeginWith → Step
@@ -68,8 +69,8 @@ unfoldable pub openRefusals : Coordinator → ℕ → ℕ → List Refusal
 openRefusals c me object =
     refuse stranger (noNode me)
     ∷ refuse outOfTurn (not (eqb (c .phase) openPhase))
-    ∷ refuse noSuchObject (not (ltb object objectsEnd) || isOpen c object)
-    ∷ refuse eightOpen (not (ltb (c .count) eight))
+    ∷ refuse noSuchObject (not (ltb object objects) || isOpen c object)
+    ∷ refuse eightOpen (not (ltb (c .count) mostOpen))
     ∷ []
 
 abbrev pub fresh : ℕ → ℕ → Object

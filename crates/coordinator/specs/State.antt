@@ -4,31 +4,13 @@ use mathlib.Core.List.{List, [], _∷_}
 use Prim.Native.Nat.{ℕ, _+_}
 use lib.Dec.{eqb, ltb}
 use lib.ListN.{getD, replicate}
+use Rattle.numbers.specs.Sizes.{nodes, mostOpen, highest}
 use Rattle.coordinator.specs.declared.Object.{Object}
 use Rattle.coordinator.specs.declared.Coordinator.{Coordinator}
 use Rattle.coordinator.specs.declared.Step.{Step}
 use Rattle.coordinator.specs.System.{System}
 
--- ---- sizes and names
--- how many objects a transaction may open, and how many nodes there are
-abbrev pub eight : ℕ
-eight = 8
-
-abbrev pub thirteen : ℕ
-thirteen = 13
-
--- the set of all nodes, and the highest number of 32 bits
-abbrev pub everyNode : ℕ
-everyNode = 8191
-
-abbrev pub highest : ℕ
-highest = 4294967295
-
--- objects are below this
-abbrev pub objectsEnd : ℕ
-objectsEnd = 64
-
--- the phases
+-- ---- the phases
 abbrev pub idlePhase : ℕ
 idlePhase = 0
 
@@ -70,15 +52,15 @@ idleAfter serial timestamp outcome =
       outcome = outcome;
       phase = idlePhase;
       live = 0;
-      distances = replicate thirteen 0;
+      distances = replicate nodes 0;
       quorum = 0;
       contacted = 0;
       count = 0;
-      objects = replicate eight noObject;
+      objects = replicate mostOpen noObject;
       participants = 0;
       yes = 0;
       done = 0;
-      rivals = replicate thirteen 0;
+      rivals = replicate nodes 0;
     }
 
 abbrev pub blankRecord : Coordinator
@@ -95,7 +77,7 @@ abbrev pub hereElse : ℕ → ℕ → ℕ → Object → ℕ → ℕ
 hereElse object count i x rest = cond (ltb i count && eqb (x .object) object) i rest
 
 unfoldable pub placeIn : List Object → ℕ → ℕ → ℕ
-placeIn objects count object = across (hereElse object count) eight 0 objects
+placeIn objects count object = across (hereElse object count) mostOpen 0 objects
 
 abbrev pub placeOf : Coordinator → ℕ → ℕ
 placeOf c object = placeIn (c .objects) (c .count) object
@@ -104,7 +86,7 @@ abbrev pub objectAt : Coordinator → ℕ → Object
 objectAt c object = getD (c .objects) (placeOf c object) noObject
 
 abbrev pub isOpen : Coordinator → ℕ → Bool
-isOpen c object = ltb (placeOf c object) eight
+isOpen c object = ltb (placeOf c object) mostOpen
 
 -- an object (document 01: tally) is ready exactly when copies have come from a read quorum
 abbrev pub ready : System → Object → Bool

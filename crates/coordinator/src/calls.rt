@@ -1,26 +1,22 @@
 // The host's calls: each finds its number, and does the deed where that is 0.
 ghost use mathlib.Core.Path.{_≡_};
 ghost use Prim.Native.Nat.{_<_};
+ghost use Rattle.numbers.specs.Sizes.{mostOpen, highest};
 ghost use Rattle.numbers.specs.Refusal.{firstOf};
 ghost use Rattle.coordinator.specs.System.{tree};
 ghost use mathlib.Core.Bool.{cond};
 ghost use lib.Dec.{eqb};
 ghost use lib.ListN.{set};
 ghost use Rattle.mask.specs.Mask.{joined};
-ghost use Rattle.coordinator.specs.State.{blankRecord, highest, awaited};
+ghost use Rattle.coordinator.specs.State.{blankRecord, awaited};
 ghost use Rattle.coordinator.specs.Calls.{beginRefusals, begun, beginOf, openRefusals, opened, openOf, setRefusals, withObjects, setOf};
 ghost use Rattle.coordinator.specs.Calls.{foundRefusals, foundOf, reselectRefusals, reselected, reselectOf, requestCommitRefusals, requestCommitOf};
 ghost use Rattle.coordinator.specs.Calls.{abortRefusals, endedAborted, abortOf};
 use crate::ABORTED;
 use crate::BeginWith;
 use crate::Coordinator;
-use crate::EVERY_NODE;
 use crate::FINISHING;
-use crate::HIGHEST;
 use crate::IDLE;
-use crate::NODES;
-use crate::OBJECTS;
-use crate::OBJECTS_END;
 use crate::OPEN;
 use crate::Object;
 use crate::Step;
@@ -37,6 +33,12 @@ use crate::objects::at_place;
 use crate::objects::is_ready;
 use crate::objects::place;
 use crate::objects::put;
+use numbers::EVERY_NODE;
+use numbers::HIGHEST;
+use numbers::MOST_OPEN;
+use numbers::NODES;
+use numbers::NODES_END;
+use numbers::OBJECTS_END;
 use numbers::either;
 use numbers::refuse;
 use quorum::Choice;
@@ -60,7 +62,7 @@ fn begin_number(c: Coordinator, me: u8, w: BeginWith, chosen: Choice) -> u8
     let busy = refuse(numbers::BUSY, c.phase != IDLE, early);
     refuse(
         numbers::STRANGER,
-        either(!(me < 13), EVERY_NODE < w.live),
+        either(!(me < NODES_END), EVERY_NODE < w.live),
         busy,
     )
 }
@@ -80,7 +82,7 @@ fn with_begun(c: Coordinator, w: BeginWith, quorum: u16) -> Coordinator
         given: false,
         new: 0,
     };
-    let objects = [none; OBJECTS];
+    let objects = [none; MOST_OPEN];
     let rivals = [0u32; NODES];
     Coordinator {
         serial: c.serial + 1,
@@ -119,20 +121,20 @@ pub fn begin(c: Coordinator, me: u8, w: BeginWith) -> Step
 fn open_number(c: Coordinator, me: u8, object: u8) -> u8
     ensures { λ r. ⌜ r ≡ firstOf (openRefusals c me object) ⌝ }
 {
-    let ninth = refuse(numbers::EIGHT_OPEN, !(c.count < OBJECTS), 0);
-    let here = place(c, object) < OBJECTS;
+    let ninth = refuse(numbers::EIGHT_OPEN, !(c.count < MOST_OPEN), 0);
+    let here = place(c, object) < MOST_OPEN;
     let twice = refuse(
         numbers::NO_SUCH_OBJECT,
         either(!(object < OBJECTS_END), here),
         ninth,
     );
     let turn = refuse(numbers::OUT_OF_TURN, c.phase != OPEN, twice);
-    refuse(numbers::STRANGER, !(me < 13), turn)
+    refuse(numbers::STRANGER, !(me < NODES_END), turn)
 }
 
 // The record with one object more, and the present read quorum contacted.
 fn with_opened(c: Coordinator, object: u8, mode: u8) -> Coordinator
-    requires { ⌜ c .count < 8 ⌝ }
+    requires { ⌜ c .count < mostOpen ⌝ }
     ensures { λ r. ⌜ r ≡ opened c object mode ⌝ }
 {
     let x = Object {
@@ -183,11 +185,11 @@ pub fn open_write(c: Coordinator, me: u8, object: u8) -> Step
 fn set_number(c: Coordinator, me: u8, object: u8) -> u8
     ensures { λ r. ⌜ r ≡ firstOf (setRefusals c me object) ⌝ }
 {
-    let absent = !(place(c, object) < OBJECTS);
+    let absent = !(place(c, object) < MOST_OPEN);
     let x = at_place(c, object);
     let none = refuse(numbers::NO_SUCH_OBJECT, either(absent, x.mode == 0), 0);
     let turn = refuse(numbers::OUT_OF_TURN, c.phase != OPEN, none);
-    refuse(numbers::STRANGER, !(me < 13), turn)
+    refuse(numbers::STRANGER, !(me < NODES_END), turn)
 }
 
 // The record with another object at a place; past the eighth there is none. Ruled out: the count raised; the object put at the end.
@@ -222,10 +224,10 @@ fn found_number(c: Coordinator, me: u8, object: u8) -> u8
 {
     let x = at_place(c, object);
     let early = refuse(numbers::NOT_READY, !is_ready(x), 0);
-    let absent = !(place(c, object) < OBJECTS);
+    let absent = !(place(c, object) < MOST_OPEN);
     let none = refuse(numbers::NO_SUCH_OBJECT, absent, early);
     let turn = refuse(numbers::OUT_OF_TURN, c.phase == IDLE, none);
-    refuse(numbers::STRANGER, !(me < 13), turn)
+    refuse(numbers::STRANGER, !(me < NODES_END), turn)
 }
 
 // Answers the value found for a ready object.
@@ -249,7 +251,7 @@ fn reselect_number(c: Coordinator, me: u8, live: u16, chosen: Choice) -> u8
     let turn = refuse(numbers::OUT_OF_TURN, c.phase != OPEN, no_quorum);
     refuse(
         numbers::STRANGER,
-        either(!(me < 13), EVERY_NODE < live),
+        either(!(me < NODES_END), EVERY_NODE < live),
         turn,
     )
 }
@@ -304,7 +306,7 @@ fn request_number(c: Coordinator, me: u8, chosen: Choice) -> u8
         no_quorum,
     );
     let turn = refuse(numbers::OUT_OF_TURN, c.phase != OPEN, early);
-    refuse(numbers::STRANGER, !(me < 13), turn)
+    refuse(numbers::STRANGER, !(me < NODES_END), turn)
 }
 
 // Asks for votes; answers the participants, who are the chosen write quorum and the contacted nodes.
@@ -346,7 +348,7 @@ fn abort_number(c: Coordinator, me: u8) -> u8
         !either(c.phase == OPEN, c.phase == VOTING),
         0,
     );
-    refuse(numbers::STRANGER, !(me < 13), turn)
+    refuse(numbers::STRANGER, !(me < NODES_END), turn)
 }
 
 // The record of a transaction that ends aborted.

@@ -5,10 +5,10 @@ ghost use Rattle.coordinator.specs.State.{idleAfter};
 ghost use Rattle.coordinator.specs.Calls.{isNone};
 use crate::Coordinator;
 use crate::IDLE;
-use crate::NODES;
-use crate::OBJECTS;
 use crate::Object;
 use crate::Step;
+use numbers::MOST_OPEN;
+use numbers::NODES;
 use quorum::Choice;
 
 // The call is refused: the record is as before. Ruled out: a blank record; an answer other than 0.
@@ -72,7 +72,7 @@ pub fn idle_with(serial: u32, timestamp: u32, outcome: u8) -> Coordinator
         given: false,
         new: 0,
     };
-    let objects = [none; OBJECTS];
+    let objects = [none; MOST_OPEN];
     let distances = [0u16; NODES];
     let rivals = [0u32; NODES];
     Coordinator {

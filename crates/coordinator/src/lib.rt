@@ -1,4 +1,5 @@
-// A node's own transaction (document 01: the booking end): a record by value, and the host's calls.
+// A node's own transaction (document 01: the booking end): a record by value, and the host's calls. `booking` runs these steps on a record that is lent,
+// and the definitions here are what every call must meet. A call from C works on the record's bytes instead, in `record_calls`.
 mod calls;
 mod common;
 mod objects;
@@ -19,25 +20,14 @@ pub use common::idle_with;
 pub use common::is_none;
 pub use common::mask_of;
 pub use common::refused;
+use numbers::MOST_OPEN;
+use numbers::NODES;
 pub use objects::all_settled;
 pub use objects::any_used_up;
 pub use objects::at_index;
 pub use objects::at_place;
 pub use objects::is_ready;
 pub use objects::place;
-
-// How many objects a transaction may open, and what every object is below.
-pub const OBJECTS: usize = 8;
-
-pub const OBJECTS_END: u8 = 64;
-
-// How many nodes there are, and the mask of all of them.
-pub const NODES: usize = 13;
-
-pub const EVERY_NODE: u16 = 8191;
-
-// The last serial, and the last version: there is none above it.
-pub const HIGHEST: u32 = 4294967295;
 
 // The phases.
 pub const IDLE: u8 = 0;
@@ -84,7 +74,7 @@ pub struct Coordinator {
     pub quorum: u16,
     pub contacted: u16,
     pub count: usize,
-    pub objects: [Object; OBJECTS],
+    pub objects: [Object; MOST_OPEN],
     pub participants: u16,
     pub yes: u16,
     pub done: u16,

@@ -4,9 +4,9 @@ ghost use lib.ListN.{getD, set};
 ghost use Rattle.coordinator.specs.System.{tree};
 ghost use Rattle.coordinator.specs.State.{noObject, placeIn, placeOf, objectAt, ready, andSettled, orUsedUp, allSettled, anyUsedUp, hereElse};
 use crate::Coordinator;
-use crate::HIGHEST;
-use crate::OBJECTS;
 use crate::Object;
+use numbers::HIGHEST;
+use numbers::MOST_OPEN;
 use numbers::both;
 use numbers::either;
 use quorum::Kind;
@@ -23,11 +23,11 @@ fn here_else(object: u8, count: usize, i: usize, x: Object, rest: usize) -> usiz
 }
 
 // The place of an opened object; 8 where it is not open.
-fn place_in(objects: [Object; OBJECTS], count: usize, object: u8) -> usize
+fn place_in(objects: [Object; MOST_OPEN], count: usize, object: u8) -> usize
     ensures { λ r. ⌜ r ≡ placeIn objects count object ⌝ }
 {
-    let mut at = OBJECTS;
-    let mut i = OBJECTS;
+    let mut at = MOST_OPEN;
+    let mut i = MOST_OPEN;
     while 0 < i {
         i = i - 1;
         at = here_else(object, count, i, objects[i], at);
@@ -59,11 +59,11 @@ fn and_settled(count: usize, i: usize, x: Object, rest: bool) -> bool
 }
 
 // The same of every object. Ruled out: true where the last object opened is settled and an earlier one is not; false for a blank place past the count.
-pub fn all_settled(objects: [Object; OBJECTS], count: usize) -> bool
+pub fn all_settled(objects: [Object; MOST_OPEN], count: usize) -> bool
     ensures { λ r. ⌜ r ≡ allSettled tree objects count ⌝ }
 {
     let mut ok = true;
-    let mut i = OBJECTS;
+    let mut i = MOST_OPEN;
     while 0 < i {
         i = i - 1;
         ok = and_settled(count, i, objects[i], ok);
@@ -82,11 +82,11 @@ fn or_used_up(count: usize, i: usize, x: Object, rest: bool) -> bool
 }
 
 // The same of every object. Ruled out: a version read counted as used up; only the last object looked at.
-pub fn any_used_up(objects: [Object; OBJECTS], count: usize) -> bool
+pub fn any_used_up(objects: [Object; MOST_OPEN], count: usize) -> bool
     ensures { λ r. ⌜ r ≡ anyUsedUp objects count ⌝ }
 {
     let mut found = false;
-    let mut i = OBJECTS;
+    let mut i = MOST_OPEN;
     while 0 < i {
         i = i - 1;
         found = or_used_up(count, i, objects[i], found);
@@ -95,10 +95,10 @@ pub fn any_used_up(objects: [Object; OBJECTS], count: usize) -> bool
 }
 
 // The object that stands at a place; a blank one past the end. Ruled out: the place after it; the last object for a place past the end.
-pub fn at_index(objects: [Object; OBJECTS], p: usize) -> Object
+pub fn at_index(objects: [Object; MOST_OPEN], p: usize) -> Object
     ensures { λ r. ⌜ r ≡ getD objects p noObject ⌝ }
 {
-    if p < OBJECTS {
+    if p < MOST_OPEN {
         objects[p]
     } else {
         Object {
@@ -122,11 +122,11 @@ pub fn at_place(c: Coordinator, object: u8) -> Object
 }
 
 // The objects with another at a place; the same where there is no such place.
-pub(crate) fn put(objects: [Object; OBJECTS], p: usize, x: Object) -> [Object; OBJECTS]
+pub(crate) fn put(objects: [Object; MOST_OPEN], p: usize, x: Object) -> [Object; MOST_OPEN]
     ensures { λ r. ⌜ r ≡ set objects p x ⌝ }
 {
     let mut a = objects;
-    if p < OBJECTS {
+    if p < MOST_OPEN {
         a[p] = x;
     }
     a

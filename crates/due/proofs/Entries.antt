@@ -10,6 +10,7 @@ use lib.Dec.{eqb, ltb, leb}
 use borrow.Author.Tests.{eqb-true, eqb-false, eq-eqb, ne-eqb, ltb-true, ltb-false, lt-ltb, le-ltb, le-leb}
 use lib.ListN.{length, getD, length-append, List·getD-append}
 use lib.Seq.{getD-append-add}
+use Rattle.numbers.specs.Sizes.{objects, mostOpen}
 use Rattle.mask.proofs.Tests.{and-left, and-right, T-true, compared}
 use Rattle.wire.specs.declared.Entry.{Entry}
 use Rattle.wire.specs.Encode.{All}
@@ -19,7 +20,7 @@ use Rattle.wire.proofs.Stores.{all-append}
 use Rattle.coordinator.specs.declared.Object.{Object}
 use Rattle.coordinator.specs.declared.Coordinator.{Coordinator}
 use Rattle.coordinator.specs.System.{System}
-use Rattle.coordinator.specs.State.{eight, objectsEnd, placeOf, objectAt, isOpen}
+use Rattle.coordinator.specs.State.{placeOf, objectAt, isOpen}
 use Rattle.clauses.proofs.Parts.{by-test, true-T}
 use Rattle.clauses.proofs.Places.{at, place-open, place-at}
 use Rattle.clauses.proofs.Facts.{Meets}
@@ -113,7 +114,7 @@ below-not k n h f = compared (k < n) k n (λ z. z) (λ z. absurd (f z)) (λ z. a
 module _ (s : System) (c : Coordinator) (m : Meets s c) where
   -- where an open object stands
   pub open-place : (n : ℕ) → isOpen c n ≡ true → (placeOf c n < c .count) × (objectAt c n .object ≡ n)
-  open-place n e = let p = place-open (c .objects) (c .count) n (ltb-true (placeOf c n) eight e) in (p .0, p .1 .1)
+  open-place n e = let p = place-open (c .objects) (c .count) n (ltb-true (placeOf c n) mostOpen e) in (p .0, p .1 .1)
 
   -- an object that stands at a place is found there, and no other object is
   here : (n k : ℕ) → k < c .count → at (c .objects) k .object ≡ n → placeOf c n ≡ k
@@ -122,7 +123,7 @@ module _ (s : System) (c : Coordinator) (m : Meets s c) where
   stands : (n k : ℕ) → k < c .count → placeOf c n ≡ k → at (c .objects) k .object ≡ n
   stands n k h e =
       let small = m .objects .eight-at-most in
-      let p = place-open (c .objects) (c .count) n (let z : placeOf c n < eight = omega arith in z) in
+      let p = place-open (c .objects) (c .count) n (let z : placeOf c n < mostOpen = omega arith in z) in
       subst (λ (i : ℕ). at (c .objects) i .object ≡ n) e (p .1 .1)
 
   -- one object more
@@ -142,9 +143,9 @@ module _ (s : System) (c : Coordinator) (m : Meets s c) where
   shut-one : (n : ℕ) → isOpen c n ≡ false → one (ltb (placeOf c n) (c .count)) ≡ 0
   shut-one n e =
       let small = m .objects .eight-at-most in
-      ap one (le-ltb (placeOf c n) (c .count) (let z : c .count ≤ placeOf c n = omega (arith, ltb-false (placeOf c n) eight e) in z))
+      ap one (le-ltb (placeOf c n) (c .count) (let z : c .count ≤ placeOf c n = omega (arith, ltb-false (placeOf c n) mostOpen e) in z))
 
-  room : (n : ℕ) (es : List Entry) → length es ≡ below (c .objects) n (c .count) → isOpen c n ≡ true → length es < eight
+  room : (n : ℕ) (es : List Entry) → length es ≡ below (c .objects) n (c .count) → isOpen c n ≡ true → length es < mostOpen
   room n es e o =
       let small = m .objects .eight-at-most in
       omega (arith, below-next n (c .count) (omega arith), open-one n o, below-most (c .objects) (suc n) (c .count))
@@ -152,7 +153,7 @@ module _ (s : System) (c : Coordinator) (m : Meets s c) where
   next-open : (n : ℕ) (es : List Entry) → length es ≡ below (c .objects) n (c .count) → isOpen c n ≡ true
       → withNext c n es ≡ es ++ (entryFor (objectAt c n) ∷ [])
   unfolding withNext
-  next-open n es e o = simp (o, lt-ltb (length es) eight (room n es e o))
+  next-open n es e o = simp (o, lt-ltb (length es) mostOpen (room n es e o))
 
   next-shut : (n : ℕ) (es : List Entry) → isOpen c n ≡ false → withNext c n es ≡ es
   unfolding withNext
@@ -172,7 +173,7 @@ module _ (s : System) (c : Coordinator) (m : Meets s c) where
   -- there are as many entries as open objects
   pub entries-count : length (entriesOf c) ≡ c .count
   unfolding entriesOf
-  entries-count = length-below objectsEnd ∙ below-all (c .objects) objectsEnd (c .count) (λ i h. m .objects .opened i h .object-known)
+  entries-count = length-below objects ∙ below-all (c .objects) objects (c .count) (λ i h. m .objects .opened i h .object-known)
 
   -- ---- a fact about every entry: it holds of the entry of each open object
   pub every-entry : (P : Entry → Type 0) → ((n : ℕ) → isOpen c n ≡ true → P (entryFor (objectAt c n))) → (n : ℕ) → All P (entriesBelow c n)
@@ -210,7 +211,7 @@ module _ (s : System) (c : Coordinator) (m : Meets s c) where
   -- the entries' objects ascend strictly
   pub entries-ascend : ascend 0 (map (λ (e : Entry). e .object) (entriesOf c)) ≡ true
   unfolding entriesOf
-  entries-ascend = ascend-below objectsEnd
+  entries-ascend = ascend-below objects
 
   -- each entry is that of an open object
   pub entries-only : All (λ (e : Entry). (isOpen c (e .object) ≡ true) × (e ≡ entryFor (objectAt c (e .object)))) (entriesOf c)
@@ -219,7 +220,7 @@ module _ (s : System) (c : Coordinator) (m : Meets s c) where
       every-entry (λ (e : Entry). (isOpen c (e .object) ≡ true) × (e ≡ entryFor (objectAt c (e .object))))
       (λ n o. let q : n ≡ objectAt c n .object = sym (open-place n o .1) in
       (subst (λ (k : ℕ). isOpen c k ≡ true) q o, ap (λ (k : ℕ). entryFor (objectAt c k)) q))
-      objectsEnd
+      objects
 
   -- and each open object has its entry
   entry-below : (n k : ℕ) → k < n → isOpen c k ≡ true → Stands (entryFor (objectAt c k)) (entriesBelow c n)
@@ -238,16 +239,16 @@ module _ (s : System) (c : Coordinator) (m : Meets s c) where
       (stands-longer es (entryFor (objectAt c n) ∷ []) (entryFor (objectAt c k)) r))
       (λ p. subst (Stands (entryFor (objectAt c k))) (sym (next-shut n es p)) r))
 
-  open-known : (n : ℕ) → isOpen c n ≡ true → n < objectsEnd
+  open-known : (n : ℕ) → isOpen c n ≡ true → n < objects
   open-known n o =
       let p = open-place n o in
       let q = m .objects .opened (placeOf c n) (p .0) .object-known in
-      let r : objectAt c n .object < objectsEnd = q in
+      let r : objectAt c n .object < objects = q in
       omega (arith, p .1)
 
   pub entries-every : (n : ℕ) → isOpen c n ≡ true → Stands (entryFor (objectAt c n)) (entriesOf c)
   unfolding entriesOf
-  entries-every n o = entry-below objectsEnd n (open-known n o) o
+  entries-every n o = entry-below objects n (open-known n o) o
 
   -- an entry is one of them exactly when its object is open and it is that object's entry
   pub entries-open : (e : Entry)

@@ -7,6 +7,7 @@ use native.Mathlib.Omega.{arith}
 use lib.Dec.{eqb, ltb, leb}
 use borrow.Author.Tests.{eqb-true, eqb-false, eq-eqb, ne-eqb, ltb-true, ltb-false, leb-true, leb-false, lt-ltb, le-leb, not-false, not-true}
 use lib.ListN.{length, getD}
+use Rattle.numbers.specs.Sizes.{nodes, objects, mostOpen, highest, longestMessage}
 use Rattle.mask.proofs.Tests.{and-left, and-right, T-true}
 use Rattle.mask.specs.Mask.{contains}
 use Rattle.numbers.specs.Refusal.{firstOf}
@@ -15,12 +16,12 @@ use Rattle.wire.specs.declared.Rival.{Rival}
 use Rattle.wire.specs.Message.{fetch, ask, outcome, yield}
 use Rattle.wire.specs.Formed.{countsOk, ascend, every, entryOk, rivalOk, entriesOk, rivalsOk, wellFormed}
 use Rattle.wire.specs.Encode.{All}
-use Rattle.wire.specs.Write.{sent, writtenOf}
+use Rattle.letters.specs.Write.{sent, writtenOf}
 use Rattle.wire.proofs.Theorems.{length-bounds}
 use Rattle.coordinator.specs.declared.Object.{Object}
 use Rattle.coordinator.specs.declared.Coordinator.{Coordinator}
 use Rattle.coordinator.specs.System.{System}
-use Rattle.coordinator.specs.State.{highest, openPhase, votingPhase, finishingPhase, committed, placeOf, objectAt, isOpen, anyUsedUp, awaited, ready}
+use Rattle.coordinator.specs.State.{openPhase, votingPhase, finishingPhase, committed, placeOf, objectAt, isOpen, anyUsedUp, awaited, ready}
 use Rattle.due.specs.Kind.{noKind, openDue, votingDue, finishingDue, dueKind, dueRefusals}
 use Rattle.coordinator.proofs.Refusals.{clear}
 use Rattle.clauses.proofs.Parts.{by-test, true-T, neither-right}
@@ -65,19 +66,19 @@ unfolding ascend
 ascend-one x = simp (le-leb 0 x (omega arith))
 
 -- ---- a message from the owner
-module _ (node me serial stamp : ℕ) (hn : node < 13) (hm : me < 13) (hs : 1 ≤ serial) (ht : 1 ≤ stamp) where
+module _ (node me serial stamp : ℕ) (hn : node < nodes) (hm : me < nodes) (hs : 1 ≤ serial) (ht : 1 ≤ stamp) where
   sent-formed : (kind : ℕ) (es : List Entry) (rs : List Rival) (ws : List ℕ) → countsOk kind (length es) (length rs) (length ws) (getD ws 0 0) ≡ true
       → eqb (kind % 2) 1 ≡ true → ascend 0 (map (λ (e : Entry). e .object) es) ≡ true → every (entryOk kind) es ≡ true
       → ascend 0 (map (λ (r : Rival). r .owner) rs) ≡ true → every (rivalOk kind me node) rs ≡ true
       → wellFormed (sent node me serial stamp kind es rs ws) ≡ true
   unfolding wellFormed entriesOk rivalsOk
   sent-formed kind es rs ws k d a b p q =
-      simp (k, lt-ltb me 13 hm, lt-ltb node 13 hn, le-leb 1 serial hs, le-leb 1 stamp ht, d, eq-eqb me me refl, a, b, p, q)
+      simp (k, lt-ltb me nodes hm, lt-ltb node nodes hn, le-leb 1 serial hs, le-leb 1 stamp ht, d, eq-eqb me me refl, a, b, p, q)
 
-  fetch-formed : (object mode : ℕ) → object < 64 → mode < 2
+  fetch-formed : (object mode : ℕ) → object < objects → mode < 2
       → wellFormed (sent node me serial stamp fetch (record { object = object; mode = mode; version = 0; value = 0 } ∷ []) [] []) ≡ true
   unfolding countsOk ascend entryOk
-  fetch-formed object mode h k = sent-formed fetch _ [] [] refl refl (ascend-one object) (simp (lt-ltb object 64 h, lt-ltb mode 2 k)) refl refl
+  fetch-formed object mode h k = sent-formed fetch _ [] [] refl refl (ascend-one object) (simp (lt-ltb object objects h, lt-ltb mode 2 k)) refl refl
 
   abort-formed : wellFormed (sent node me serial stamp outcome [] [] (0 ∷ [])) ≡ true
   unfolding countsOk ascend
@@ -88,18 +89,18 @@ module _ (node me serial stamp : ℕ) (hn : node < 13) (hm : me < 13) (hs : 1 �
   unfolding countsOk ascend rivalOk
   yield-formed r f g =
       let h : 1 ≤ r = positive r g in
-      sent-formed yield [] _ [] refl refl refl refl (ascend-one node) (simp (lt-ltb node 13 hn, ne-eqb node me f, le-leb 1 r h, eq-eqb node node refl))
+      sent-formed yield [] _ [] refl refl refl refl (ascend-one node) (simp (lt-ltb node nodes hn, ne-eqb node me f, le-leb 1 r h, eq-eqb node node refl))
 
   -- an ask or a commit, with one to eight entries
-  ask-formed : (es : List Entry) → 1 ≤ length es → length es ≤ 8 → ascend 0 (map (λ (e : Entry). e .object) es) ≡ true → every (entryOk ask) es ≡ true
+  ask-formed : (es : List Entry) → 1 ≤ length es → length es ≤ mostOpen → ascend 0 (map (λ (e : Entry). e .object) es) ≡ true → every (entryOk ask) es ≡ true
       → wellFormed (sent node me serial stamp ask es [] []) ≡ true
   unfolding countsOk
-  ask-formed es h k a b = sent-formed ask es [] [] (simp (le-leb 1 (length es) h, le-leb (length es) 8 k)) refl a b ascend-none refl
+  ask-formed es h k a b = sent-formed ask es [] [] (simp (le-leb 1 (length es) h, le-leb (length es) mostOpen k)) refl a b ascend-none refl
 
-  commit-formed : (es : List Entry) → 1 ≤ length es → length es ≤ 8 → ascend 0 (map (λ (e : Entry). e .object) es) ≡ true
+  commit-formed : (es : List Entry) → 1 ≤ length es → length es ≤ mostOpen → ascend 0 (map (λ (e : Entry). e .object) es) ≡ true
       → every (entryOk outcome) es ≡ true → wellFormed (sent node me serial stamp outcome es [] (1 ∷ [])) ≡ true
   unfolding countsOk
-  commit-formed es h k a b = sent-formed outcome es [] (1 ∷ []) (simp (le-leb 1 (length es) h, le-leb (length es) 8 k)) refl a b ascend-none refl
+  commit-formed es h k a b = sent-formed outcome es [] (1 ∷ []) (simp (le-leb 1 (length es) h, le-leb (length es) mostOpen k)) refl a b ascend-none refl
 
 -- ---- what is due
 module _ (s : System) (c : Coordinator) (m : Meets s c) (w : Widths c) where
@@ -113,7 +114,7 @@ module _ (s : System) (c : Coordinator) (m : Meets s c) (w : Widths c) where
       let y : Object = objectAt c n in
       let small = m .objects .eight-at-most in
       let full = m .sizes .objects-8 in
-      let a = lt-ltb (y .object) 64 (x .object-known) in
+      let a = lt-ltb (y .object) objects (x .object-known) in
       let b = lt-ltb (y .mode) 2 (x .mode-known) in
       by-test (entryOk kind (entryFor y) ≡ true) (eqb (y .mode) 0) (λ e. simp (a, b, k1, k2, e))
       (λ e.
@@ -129,13 +130,13 @@ module _ (s : System) (c : Coordinator) (m : Meets s c) (w : Widths c) where
       under n h f = by-test (n < highest) (ltb n highest) (λ e. ltb-true n highest e)
           (λ e. absurd (f (let k = ltb-false n highest e in let z : n ≡ highest = omega arith in z)))
 
-  module _ (me node object : ℕ) (hm : me < 13) (hn : node < 13) (own : getD (c .rivals) me 0 ≡ 0) where
+  module _ (me node object : ℕ) (hm : me < nodes) (hn : node < nodes) (own : getD (c .rivals) me 0 ≡ 0) where
     begun-serial : (c .phase ≡ 0 → ⊥) → (1 ≤ c .serial) × (1 ≤ c .timestamp)
     begun-serial f =
         let used : c .serial ≡ 0 → ⊥ = (λ e. f (m .numbers .unused e .1 .0)) in
         (positive (c .serial) used, positive (c .timestamp) (m .numbers .used used))
 
-    full-entries : Full s (c .contacted) (c .count) (c .objects) (c .participants) → (1 ≤ length (entriesOf c)) × (length (entriesOf c) ≤ 8)
+    full-entries : Full s (c .contacted) (c .count) (c .objects) (c .participants) → (1 ≤ length (entriesOf c)) × (length (entriesOf c) ≤ mostOpen)
     full-entries f =
         let k = positive (c .count) (f .some-object) in
         let small = m .objects .eight-at-most in
@@ -147,7 +148,7 @@ module _ (s : System) (c : Coordinator) (m : Meets s c) (w : Widths c) where
     unfolding entriesOf
     entries-fine kind a b f =
         every-all (entryOk kind) (entriesOf c)
-        (every-entry s c m (λ (e : Entry). entryOk kind e ≡ true) (entry-ok kind a b (f .none-used-up)) 64)
+        (every-entry s c m (λ (e : Entry). entryOk kind e ≡ true) (entry-ok kind a b (f .none-used-up)) objects)
 
     open-formed : c .phase ≡ openPhase → isOpen c object ≡ true → wellFormed (fetchTo c me node object) ≡ true
     open-formed e o =
@@ -211,11 +212,11 @@ module _ (s : System) (c : Coordinator) (m : Meets s c) (w : Widths c) where
     due-formed size d =
         let zero = eqb-true _ 0 (both-left _ (ltb noKind (dueKind s c node object)) d) in
         let free = clear (writeRefusals size c me node object) tt zero in
-        kind-formed (λ e. not-false (isOpen c object) (neither-right (not (ltb object 64)) (not (isOpen c object)) (rest-false _ _ e (free .1 .1 .0))))
+        kind-formed (λ e. not-false (isOpen c object) (neither-right (not (ltb object objects)) (not (isOpen c object)) (rest-false _ _ e (free .1 .1 .0))))
         (both-right (eqb (firstOf (writeRefusals size c me node object)) 0) _ d)
 
     -- the buffer has room then
-    due-long : (size : ℕ) → isDue s size c me node object ≡ true → ltb size 128 ≡ false
+    due-long : (size : ℕ) → isDue s size c me node object ≡ true → ltb size longestMessage ≡ false
     unfolding isDue writeRefusals dueRefusals
     due-long size d =
         clear (writeRefusals size c me node object) tt (eqb-true _ 0 (both-left _ (ltb noKind (dueKind s c node object)) d)) .0
@@ -223,7 +224,7 @@ module _ (s : System) (c : Coordinator) (m : Meets s c) (w : Widths c) where
     -- so it is written whole: the number is 0, and there are 15 to 128 bytes
     pub due-bytes : (size : ℕ) → isDue s size c me node object ≡ true
         → (dueWritten s size c me node object .number ≡ 0)
-        × ((15 ≤ dueWritten s size c me node object .length) × (dueWritten s size c me node object .length ≤ 128))
+        × ((15 ≤ dueWritten s size c me node object .length) × (dueWritten s size c me node object .length ≤ longestMessage))
     unfolding dueWritten writtenOf
     due-bytes size d =
         let f = due-formed size d in

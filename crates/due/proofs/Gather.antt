@@ -9,11 +9,12 @@ use lib.Dec.{eqb, ltb}
 use borrow.Author.Tests.{eqb-true, eqb-false, ne-eqb, ltb-true, ltb-false}
 use lib.ListN.{length, getD, take, drop, set, replicate, length-append, getD-replicate}
 use lib.Seq.{take-suc-set, getD-set-same, getD-set-other}
+use Rattle.numbers.specs.Sizes.{objects as objectsEnd, mostOpen}
 use Rattle.mask.proofs.Tests.{and-left, T-true}
 use Rattle.wire.specs.declared.Entry.{Entry}
 use Rattle.coordinator.specs.declared.Object.{Object}
 use Rattle.coordinator.specs.declared.Coordinator.{Coordinator}
-use Rattle.coordinator.specs.State.{eight, objectsEnd, noObject, across, hereElse, placeIn, placeOf, objectAt, isOpen}
+use Rattle.coordinator.specs.State.{noObject, across, hereElse, placeIn, placeOf, objectAt, isOpen}
 use Rattle.coordinator.proofs.Across.{across-turn, across-start}
 use Rattle.clauses.proofs.Parts.{on-cond, true-T}
 use Rattle.due.specs.declared.Gathered.{Gathered}
@@ -21,7 +22,7 @@ use Rattle.due.specs.Gather.{Lists}
 use Rattle.due.specs.Due.{entryFor, withNext, entriesBelow}
 
 -- an entry put behind those that are there
-pub one-more : (g : Gathered) (e : Entry) (es : List Entry) → length (g .entries) ≡ 8 → g .count < 8 → Lists g es
+pub one-more : (g : Gathered) (e : Entry) (es : List Entry) → length (g .entries) ≡ mostOpen → g .count < mostOpen → Lists g es
     → Lists (record { entries = set (g .entries) (g .count) e; count = g .count + 1 }) (es ++ (e ∷ []))
 one-more g e es full h l =
     record {
@@ -32,17 +33,17 @@ one-more g e es full h l =
 
 -- the next object: open and with room, or not
 module _ (c : Coordinator) (n : ℕ) (g r : Gathered) (es : List Entry) (l : Lists g es) where
-  pub next-taken : (isOpen c n && ltb (g .count) 8) ≡ true → Lists r (es ++ (entryFor (objectAt c n) ∷ [])) → Lists r (withNext c n es)
+  pub next-taken : (isOpen c n && ltb (g .count) mostOpen) ≡ true → Lists r (es ++ (entryFor (objectAt c n) ∷ [])) → Lists r (withNext c n es)
   unfolding withNext
-  next-taken t m = let u : (isOpen c n && ltb (length es) 8) ≡ true = ap (λ (k : ℕ). isOpen c n && ltb k 8) (sym (l .count)) ∙ t in simp u m
+  next-taken t m = let u : (isOpen c n && ltb (length es) mostOpen) ≡ true = ap (λ (k : ℕ). isOpen c n && ltb k mostOpen) (sym (l .count)) ∙ t in simp u m
 
-  pub next-left : (isOpen c n && ltb (g .count) 8) ≡ false → Lists g (withNext c n es)
+  pub next-left : (isOpen c n && ltb (g .count) mostOpen) ≡ false → Lists g (withNext c n es)
   unfolding withNext
-  next-left t = let u : (isOpen c n && ltb (length es) 8) ≡ false = ap (λ (k : ℕ). isOpen c n && ltb k 8) (sym (l .count)) ∙ t in simp u l
+  next-left t = let u : (isOpen c n && ltb (length es) mostOpen) ≡ false = ap (λ (k : ℕ). isOpen c n && ltb k mostOpen) (sym (l .count)) ∙ t in simp u l
 
 -- all of them, as a writer of at most eight takes them
-pub listed-all : (g : Gathered) (es : List Entry) → Lists g es → take (min (g .count) 8) (g .entries) ≡ es
-listed-all g es l = let e : min (g .count) 8 ≡ g .count = omega (arith, l .room) in ap (λ (n : ℕ). take n (g .entries)) e ∙ l .same
+pub listed-all : (g : Gathered) (es : List Entry) → Lists g es → take (min (g .count) mostOpen) (g .entries) ≡ es
+listed-all g es l = let e : min (g .count) mostOpen ≡ g .count = omega (arith, l .room) in ap (λ (n : ℕ). take n (g .entries)) e ∙ l .same
 
 -- the second of two tests that hold
 pub second-fits : (a : Bool) (k n : ℕ) → (a && ltb k n) ≡ true → k < n
@@ -62,10 +63,10 @@ below-more c n = ap (entriesBelow c) (add-one n)
 
 -- ---- where each object stands, looked for from place i on
 abbrev pub Marks : List ℕ → List Object → ℕ → ℕ → Type 0
-Marks places objects count i = (n : ℕ) → n < objectsEnd → getD places n 0 ≡ across (hereElse n count) eight i (drop i objects)
+Marks places objects count i = (n : ℕ) → n < objectsEnd → getD places n 0 ≡ across (hereElse n count) mostOpen i (drop i objects)
 
-pub marks-start : (objects : List Object) (count : ℕ) → length objects ≡ eight → Marks (replicate 64 8) objects count eight
-marks-start objects count e n h = getD-replicate 64 n 8 0 h ∙ sym (across-start (hereElse n count) eight objects eight (omega arith))
+pub marks-start : (objects : List Object) (count : ℕ) → length objects ≡ mostOpen → Marks (replicate objectsEnd mostOpen) objects count mostOpen
+marks-start objects count e n h = getD-replicate objectsEnd n mostOpen 0 h ∙ sym (across-start (hereElse n count) mostOpen objects mostOpen (omega arith))
 
 pub marks-whole : (places : List ℕ) (objects : List Object) (count : ℕ) → Marks places objects count 0
     → (n : ℕ) → n < objectsEnd → getD places n 0 ≡ placeIn objects count n
@@ -73,30 +74,30 @@ unfolding placeIn
 marks-whole places objects count m n h = m n h
 
 -- an object below the count and below 64 is marked, another is not looked for
-put-test : (a : Bool) (o n : ℕ) → (a && ltb o 64) ≡ true → (a && eqb o n) ≡ eqb o n
+put-test : (a : Bool) (o n : ℕ) → (a && ltb o objectsEnd) ≡ true → (a && eqb o n) ≡ eqb o n
 put-test true o n t = refl
 put-test false o n t = absurd (let z : _≡_ {A = ℕ} 0 1 = cc in let w : ⊥ = omega arith in w)
 
-keep-test : (a : Bool) (o n : ℕ) → n < 64 → (a && ltb o 64) ≡ false → (a && eqb o n) ≡ false
-keep-test true o n h t = ne-eqb o n (λ e. omega (arith, ltb-false o 64 t))
+keep-test : (a : Bool) (o n : ℕ) → n < objectsEnd → (a && ltb o objectsEnd) ≡ false → (a && eqb o n) ≡ false
+keep-test true o n h t = ne-eqb o n (λ e. omega (arith, ltb-false o objectsEnd t))
 keep-test false o n h t = refl
 
 module _ (places : List ℕ) (objects : List Object) (count i o : ℕ) (h : 0 < i) (k : i ≤ length objects)
     (same : o ≡ getD objects (i - 1) noObject .object) (m : Marks places objects count i) where
   abbrev found : ℕ → Bool → ℕ
-  found n t = cond t (i - 1) (across (hereElse n count) eight i (drop i objects))
+  found n t = cond t (i - 1) (across (hereElse n count) mostOpen i (drop i objects))
 
-  turn : (n : ℕ) → across (hereElse n count) eight (i - 1) (drop (i - 1) objects) ≡ found n (ltb (i - 1) count && eqb o n)
-  turn n = across-turn (hereElse n count) eight objects i h k ∙ ap (λ (j : ℕ). found n (ltb (i - 1) count && eqb j n)) (sym same)
+  turn : (n : ℕ) → across (hereElse n count) mostOpen (i - 1) (drop (i - 1) objects) ≡ found n (ltb (i - 1) count && eqb o n)
+  turn n = across-turn (hereElse n count) mostOpen objects i h k ∙ ap (λ (j : ℕ). found n (ltb (i - 1) count && eqb j n)) (sym same)
 
-  pub marks-put : o < length places → (ltb (i - 1) count && ltb o 64) ≡ true → Marks (set places o (i - 1)) objects count (i - 1)
+  pub marks-put : o < length places → (ltb (i - 1) count && ltb o objectsEnd) ≡ true → Marks (set places o (i - 1)) objects count (i - 1)
   marks-put l t n b =
-      on-cond (λ (p : ℕ). getD (set places o (i - 1)) n 0 ≡ p) (eqb o n) (i - 1) (across (hereElse n count) eight i (drop i objects))
+      on-cond (λ (p : ℕ). getD (set places o (i - 1)) n 0 ≡ p) (eqb o n) (i - 1) (across (hereElse n count) mostOpen i (drop i objects))
       (λ e. ap (λ (j : ℕ). getD (set places o (i - 1)) j 0) (sym (eqb-true o n e)) ∙ getD-set-same places o (i - 1) 0 l)
       (λ e. getD-set-other places o n (i - 1) 0 (λ z. eqb-false o n e (sym z)) ∙ m n b)
       ∙ sym (turn n ∙ ap (found n) (put-test (ltb (i - 1) count) o n t))
 
-  pub marks-keep : (ltb (i - 1) count && ltb o 64) ≡ false → Marks places objects count (i - 1)
+  pub marks-keep : (ltb (i - 1) count && ltb o objectsEnd) ≡ false → Marks places objects count (i - 1)
   marks-keep t n b = m n b ∙ sym (turn n ∙ ap (found n) (keep-test (ltb (i - 1) count) o n b t))
 
 -- ---- the entries of the objects below n, for every record with these objects at these places
@@ -111,11 +112,11 @@ gathers-none objects places entries c e f =
 
 module _ (objects : List Object) (places : List ℕ) (entries : List Entry) (count n p : ℕ) (h : n < objectsEnd) (at : p ≡ getD places n 0)
     (l : Gathers objects places entries count n) where
-  test : (c : Coordinator) → ((k : ℕ) → k < objectsEnd → getD places k 0 ≡ placeOf c k) → (b : Bool) → (ltb p 8 && ltb count 8) ≡ b
-      → (isOpen c n && ltb count 8) ≡ b
-  test c f b t = ap (λ (k : ℕ). ltb k 8 && ltb count 8) (sym (at ∙ f n h)) ∙ t
+  test : (c : Coordinator) → ((k : ℕ) → k < objectsEnd → getD places k 0 ≡ placeOf c k) → (b : Bool) → (ltb p mostOpen && ltb count mostOpen) ≡ b
+      → (isOpen c n && ltb count mostOpen) ≡ b
+  test c f b t = ap (λ (k : ℕ). ltb k mostOpen && ltb count mostOpen) (sym (at ∙ f n h)) ∙ t
 
-  pub gathers-more : (e : Entry) → length entries ≡ 8 → (ltb p 8 && ltb count 8) ≡ true → e ≡ entryFor (getD objects p noObject)
+  pub gathers-more : (e : Entry) → length entries ≡ mostOpen → (ltb p mostOpen && ltb count mostOpen) ≡ true → e ≡ entryFor (getD objects p noObject)
       → Gathers objects places (set entries count e) (count + 1) (n + 1)
   gathers-more e full t same c o f =
       let g : Gathered = record { entries = entries; count = count } in
@@ -123,11 +124,11 @@ module _ (objects : List Object) (places : List ℕ) (entries : List Entry) (cou
       let es = entriesBelow c n in
       let x : e ≡ entryFor (objectAt c n) =
       same ∙ ap (λ (k : ℕ). entryFor (getD objects k noObject)) (at ∙ f n h) ∙ ap (λ (y : List Object). entryFor (getD y (placeOf c n) noObject)) (sym o) in
-      let m : Lists r (es ++ (e ∷ [])) = one-more g e es full (second-fits (ltb p 8) count 8 t) (l c o f) in
+      let m : Lists r (es ++ (e ∷ [])) = one-more g e es full (second-fits (ltb p mostOpen) count mostOpen t) (l c o f) in
       subst (Lists r) (sym (below-more c n))
       (next-taken c n g r es (l c o f) (test c f true t) (subst (λ (y : Entry). Lists r (es ++ (y ∷ []))) x m))
 
-  pub gathers-same : (ltb p 8 && ltb count 8) ≡ false → Gathers objects places entries count (n + 1)
+  pub gathers-same : (ltb p mostOpen && ltb count mostOpen) ≡ false → Gathers objects places entries count (n + 1)
   gathers-same t c o f =
       let g : Gathered = record { entries = entries; count = count } in
       subst (Lists g) (sym (below-more c n)) (next-left c n g g (entriesBelow c n) (l c o f) (test c f false t))

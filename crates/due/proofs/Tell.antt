@@ -6,9 +6,9 @@ use Prim.Native.Nat.{ℕ}
 use native.Mathlib.Omega.{arith}
 use lib.Dec.{eqb, ltb}
 use lib.ListN.{length}
+use Rattle.numbers.specs.Sizes.{longestMessage}
 use Rattle.numbers.specs.Refusal.{firstOf}
-use Rattle.wire.specs.Decode.{longest}
-use Rattle.wire.specs.Write.{answer, writtenOf, bufferAfter}
+use Rattle.letters.specs.Write.{answer, writtenOf, bufferAfter}
 use Rattle.coordinator.specs.declared.Coordinator.{Coordinator}
 use Rattle.due.specs.declared.Duty.{Duty}
 use Rattle.coordinator.specs.System.{System}
@@ -29,16 +29,16 @@ kind-long true n x k e = absurd (let z : _≡_ {A = ℕ} 0 1 = cc in let w : ⊥
 kind-long false n x k e = kind-free (eqb n 0) x k e
 
 module _ (s : System) (c : Coordinator) (me node object : ℕ) where
-  pub short-not : (size : ℕ) → ltb size longest ≡ true → isDue s size c me node object ≡ false
+  pub short-not : (size : ℕ) → ltb size longestMessage ≡ true → isDue s size c me node object ≡ false
   unfolding isDue writeRefusals
   short-not size t = simp t
 
-  pub short-written : (size : ℕ) → ltb size longest ≡ true → answer 1 0 ≡ dueWritten s size c me node object
+  pub short-written : (size : ℕ) → ltb size longestMessage ≡ true → answer 1 0 ≡ dueWritten s size c me node object
   unfolding dueWritten isDue writeRefusals
   short-written size t = simp t
 
   -- the code's test
-  pub due-test : (size : ℕ) → ltb size longest ≡ false → (d : Duty) → d ≡ dueOf s c me node object → {b : Bool}
+  pub due-test : (size : ℕ) → ltb size longestMessage ≡ false → (d : Duty) → d ≡ dueOf s c me node object → {b : Bool}
       → (eqb (d .number) 0 && ltb 0 (d .kind)) ≡ b → isDue s size c me node object ≡ b
   unfolding dueOf isDue writeRefusals
   due-test size t d e {b} h =
@@ -49,7 +49,7 @@ module _ (s : System) (c : Coordinator) (me node object : ℕ) where
 
   kind-due : (size : ℕ) → isDue s size c me node object ≡ true → dueOf s c me node object .kind ≡ dueKind s c node object
   unfolding dueOf isDue writeRefusals
-  kind-due size t = kind-long (ltb size longest) (firstOf (dueRefusals c me node object)) _ (dueKind s c node object) t
+  kind-due size t = kind-long (ltb size longestMessage) (firstOf (dueRefusals c me node object)) _ (dueKind s c node object) t
 
   pub written-taken : (size : ℕ) → isDue s size c me node object ≡ true → (d : Duty) → d ≡ dueOf s c me node object
       → writtenOf size (messageDue c me node object (d .kind)) ≡ dueWritten s size c me node object
@@ -57,7 +57,7 @@ module _ (s : System) (c : Coordinator) (me node object : ℕ) where
   written-taken size t d e =
       simp t (ap (λ (k : ℕ). writtenOf size (messageDue c me node object k)) (ap (λ (x : Duty). x .kind) e ∙ kind-due size t))
 
-  pub written-left : (size : ℕ) → ltb size longest ≡ false → isDue s size c me node object ≡ false → (d : Duty) → d ≡ dueOf s c me node object
+  pub written-left : (size : ℕ) → ltb size longestMessage ≡ false → isDue s size c me node object ≡ false → (d : Duty) → d ≡ dueOf s c me node object
       → answer (d .number) 0 ≡ dueWritten s size c me node object
   unfolding dueWritten writeRefusals dueOf
   written-left size h t d e = simp (t, h) (ap (λ (x : Duty). answer (x .number) 0) e)

@@ -4,17 +4,17 @@ use mathlib.Core.List.{List, [], _∷_, _++_}
 use Prim.Native.Nat.{ℕ, zero, suc}
 use lib.Dec.{eqb, ltb}
 use lib.ListN.{getD, length}
+use Rattle.numbers.specs.Sizes.{objects, mostOpen, longestMessage}
 use Rattle.numbers.specs.Numbers.{wrongLength}
 use Rattle.numbers.specs.Refusal.{Refusal, refuse, firstOf}
 use Rattle.wire.specs.declared.Entry.{Entry}
-use Rattle.wire.specs.declared.Written.{Written}
+use Rattle.letters.specs.declared.Written.{Written}
 use Rattle.wire.specs.Message.{Message, fetch, ask, outcome}
-use Rattle.wire.specs.Decode.{longest}
-use Rattle.wire.specs.Write.{sent, fetchOf, yieldOf, writtenOf, bufferAfter}
+use Rattle.letters.specs.Write.{sent, fetchOf, yieldOf, writtenOf, bufferAfter}
 use Rattle.coordinator.specs.declared.Object.{Object}
 use Rattle.coordinator.specs.declared.Coordinator.{Coordinator}
 use Rattle.coordinator.specs.System.{System}
-use Rattle.coordinator.specs.State.{eight, objectsEnd, committed, objectAt, isOpen}
+use Rattle.coordinator.specs.State.{committed, objectAt, isOpen}
 use Rattle.due.specs.Kind.{noKind, dueKind, dueRefusals}
 
 -- ---- the entries of an ask or a commit
@@ -24,7 +24,7 @@ entryFor x = record { object = x .object; mode = x .mode; version = x .version; 
 
 -- the open objects below n, ascending whatever the order of opening; a record has eight places, so there are no more
 abbrev pub listsNext : Coordinator → ℕ → List Entry → Bool
-listsNext c n es = isOpen c n && ltb (length es) eight
+listsNext c n es = isOpen c n && ltb (length es) mostOpen
 
 unfoldable pub withNext : Coordinator → ℕ → List Entry → List Entry
 withNext c n es = cond (listsNext c n es) (es ++ (entryFor (objectAt c n) ∷ [])) es
@@ -34,7 +34,7 @@ entriesBelow c zero = []
 entriesBelow c (suc n) = withNext c n (entriesBelow c n)
 
 unfoldable pub entriesOf : Coordinator → List Entry
-entriesOf c = entriesBelow c objectsEnd
+entriesOf c = entriesBelow c objects
 
 -- ---- the messages, from node `me` to `node`, with the transaction's serial and timestamp
 abbrev pub fetchTo : Coordinator → ℕ → ℕ → ℕ → Message
@@ -60,7 +60,7 @@ messageDue c me node object kind =
 
 -- ---- what the caller sees: 1 for a buffer under 128 bytes, then the coordinator's refusals
 unfoldable pub writeRefusals : ℕ → Coordinator → ℕ → ℕ → ℕ → List Refusal
-writeRefusals size c me node object = refuse wrongLength (ltb size longest) ∷ dueRefusals c me node object
+writeRefusals size c me node object = refuse wrongLength (ltb size longestMessage) ∷ dueRefusals c me node object
 
 -- something is due: nothing refuses, and there is a kind
 unfoldable pub isDue : System → ℕ → Coordinator → ℕ → ℕ → ℕ → Bool

@@ -5,6 +5,7 @@ use mathlib.Core.List.{List, [], _∷_}
 use Prim.Native.Nat.{ℕ}
 use lib.Dec.{eqb, ltb}
 use lib.ListN.{getD}
+use Rattle.numbers.specs.Sizes.{objects}
 use Rattle.mask.specs.Mask.{contains}
 use Rattle.numbers.specs.Numbers.{stranger, noSuchObject}
 use Rattle.numbers.specs.Refusal.{Refusal, refuse, firstOf}
@@ -12,7 +13,7 @@ use Rattle.wire.specs.Message.{fetch, ask, outcome, yield}
 use Rattle.coordinator.specs.declared.Coordinator.{Coordinator}
 use Rattle.due.specs.declared.Duty.{Duty}
 use Rattle.coordinator.specs.System.{System}
-use Rattle.coordinator.specs.State.{objectsEnd, openPhase, votingPhase, finishingPhase, committed, objectAt, isOpen, ready, awaited}
+use Rattle.coordinator.specs.State.{openPhase, votingPhase, finishingPhase, committed, objectAt, isOpen, ready, awaited}
 use Rattle.coordinator.specs.Calls.{noNode}
 
 -- no kind: nothing is due
@@ -39,7 +40,7 @@ dueKind s c node object =
 unfoldable pub dueRefusals : Coordinator → ℕ → ℕ → ℕ → List Refusal
 dueRefusals c me node object =
     refuse stranger (noNode me || noNode node)
-    ∷ refuse noSuchObject (eqb (c .phase) openPhase && (not (ltb object objectsEnd) || not (isOpen c object)))
+    ∷ refuse noSuchObject (eqb (c .phase) openPhase && (not (ltb object objects) || not (isOpen c object)))
     ∷ []
 
 unfoldable pub dueOf : System → Coordinator → ℕ → ℕ → ℕ → Duty

@@ -8,15 +8,16 @@ use crate::Duty;
 use coordinator::COMMITTED;
 use coordinator::Coordinator;
 use coordinator::FINISHING;
-use coordinator::NODES;
-use coordinator::OBJECTS;
-use coordinator::OBJECTS_END;
 use coordinator::OPEN;
 use coordinator::VOTING;
 use coordinator::at_place;
 use coordinator::awaited_by;
 use coordinator::is_ready;
 use coordinator::place;
+use numbers::MOST_OPEN;
+use numbers::NODES;
+use numbers::NODES_END;
+use numbers::OBJECTS_END;
 use numbers::both;
 use numbers::either;
 use numbers::pick;
@@ -87,9 +88,13 @@ fn due_kind(c: Coordinator, node: u8, object: u8) -> u8
 fn due_number(c: Coordinator, me: u8, node: u8, object: u8) -> u8
     ensures { λ r. ⌜ r ≡ firstOf (dueRefusals c me node object) ⌝ }
 {
-    let absent = either(!(object < OBJECTS_END), !(place(c, object) < OBJECTS));
+    let absent = either(!(object < OBJECTS_END), !(place(c, object) < MOST_OPEN));
     let none = refuse(numbers::NO_SUCH_OBJECT, both(c.phase == OPEN, absent), 0);
-    refuse(numbers::STRANGER, either(!(me < 13), !(node < 13)), none)
+    refuse(
+        numbers::STRANGER,
+        either(!(me < NODES_END), !(node < NODES_END)),
+        none,
+    )
 }
 
 // Which kind of message is due to a node, while open for an object; 0 where nothing is due.

@@ -1,9 +1,11 @@
-// What is due to a node, as a message in a lent buffer.
+// What is due to a node, as a message in a lent buffer, from a record by value. A call from C works on the record's bytes instead, in `record_due`, which
+// takes an object's entry from here.
 ghost use mathlib.Core.Path.{_≡_};
 ghost use Prim.Native.Nat.{ℕ, _<_};
 ghost use lib.ListN.{length, getD, replicate};
+ghost use Rattle.numbers.specs.Sizes.{objects as objectsEnd, mostOpen};
 ghost use Rattle.wire.specs.Items.{noEntry};
-ghost use Rattle.wire.specs.Write.{writtenOf, bufferAfter};
+ghost use Rattle.letters.specs.Write.{writtenOf, bufferAfter};
 ghost use Rattle.coordinator.specs.System.{tree};
 ghost use Rattle.coordinator.specs.State.{placeIn};
 ghost use Rattle.due.specs.Gather.{Lists};
@@ -13,16 +15,14 @@ mod duties;
 
 use coordinator::COMMITTED;
 use coordinator::Coordinator;
-use coordinator::OBJECTS;
 use coordinator::Object;
 pub use duties::due;
 pub use duties::rival_of;
+use letters::Written;
+use numbers::MOST_OPEN;
+use numbers::OBJECTS;
 use numbers::both;
 use wire::Entry;
-use wire::Written;
-
-// Objects are below this.
-const OBJECTS_END: usize = 64;
 
 // What is due to a node: the call's number, and the kind of message, 0 where nothing is due.
 pub struct Duty {
@@ -32,7 +32,7 @@ pub struct Duty {
 
 // The first `count` of eight entries.
 pub struct Gathered {
-    pub entries: [Entry; OBJECTS],
+    pub entries: [Entry; MOST_OPEN],
     pub count: usize,
 }
 
@@ -50,8 +50,8 @@ pub fn entry_for(x: Object) -> Entry
 }
 
 // Room for eight entries. Ruled out: an object other than 0; seven entries.
-pub fn no_entries() -> [Entry; OBJECTS]
-    ensures { λ r. ⌜ r ≡ replicate 8 noEntry ⌝ }
+pub fn no_entries() -> [Entry; MOST_OPEN]
+    ensures { λ r. ⌜ r ≡ replicate mostOpen noEntry ⌝ }
 {
     let e = Entry {
         object: 0,
@@ -59,7 +59,7 @@ pub fn no_entries() -> [Entry; OBJECTS]
         version: 0,
         value: 0,
     };
-    [e; OBJECTS]
+    [e; MOST_OPEN]
 }
 
 // A byte as an index.
@@ -70,17 +70,17 @@ fn wide(x: u8) -> usize
 }
 
 // Where each object stands among the open ones, 8 where it is not open. The loop goes down over the places, so that the first of two counts.
-fn places_of(objects: [Object; OBJECTS], count: usize) -> [u8; OBJECTS_END]
-    ensures { λ r. ⌜ length r ≡ 64 ⌝ }
-    ensures { λ r. ⌜ ((n : ℕ) → n < 64 → getD r n 0 ≡ placeIn objects count n) ⌝ }
+fn places_of(objects: [Object; MOST_OPEN], count: usize) -> [u8; OBJECTS]
+    ensures { λ r. ⌜ length r ≡ objectsEnd ⌝ }
+    ensures { λ r. ⌜ ((n : ℕ) → n < objectsEnd → getD r n 0 ≡ placeIn objects count n) ⌝ }
 {
-    let mut places = [8u8; OBJECTS_END];
-    let mut i = OBJECTS;
+    let mut places = [8u8; OBJECTS];
+    let mut i = MOST_OPEN;
     while 0 < i {
         i = i - 1;
         let x = objects[i];
         let at = wide(x.object);
-        if both(i < count, at < OBJECTS_END) {
+        if both(i < count, at < OBJECTS) {
             places[at] = i as u8;
         }
     }
@@ -96,10 +96,10 @@ fn entries_of(c: Coordinator) -> Gathered
     let mut entries = no_entries();
     let mut count: usize = 0;
     let mut n: usize = 0;
-    while n < OBJECTS_END {
+    while n < OBJECTS {
         let p = wide(places[n]);
         n = n + 1;
-        if both(p < OBJECTS, count < OBJECTS) {
+        if both(p < MOST_OPEN, count < MOST_OPEN) {
             entries[count] = entry_for(objects[p]);
             count = count + 1;
         }
@@ -114,7 +114,7 @@ fn send_ask(c: Coordinator, me: u8, node: u8, out: &mut [u8]) -> Written
 {
     let g = entries_of(c);
     let entries = g.entries;
-    wire::write_ask(out, node, me, c.serial, c.timestamp, entries, g.count)
+    letters::write_ask(out, node, me, c.serial, c.timestamp, entries, g.count)
 }
 
 // The outcome to a node: a commit with the entries of the ask, an abort with none.
@@ -125,10 +125,10 @@ fn send_outcome(c: Coordinator, me: u8, node: u8, out: &mut [u8]) -> Written
     if c.outcome == COMMITTED {
         let g = entries_of(c);
         let entries = g.entries;
-        wire::write_outcome(out, node, me, c.serial, c.timestamp, entries, g.count, 1)
+        letters::write_outcome(out, node, me, c.serial, c.timestamp, entries, g.count, 1)
     } else {
         let entries = no_entries();
-        wire::write_outcome(out, node, me, c.serial, c.timestamp, entries, 0, 0)
+        letters::write_outcome(out, node, me, c.serial, c.timestamp, entries, 0, 0)
     }
 }
 
@@ -140,13 +140,13 @@ fn send(c: Coordinator, me: u8, node: u8, object: u8, kind: u8, out: &mut [u8]) 
     match kind {
         wire::FETCH => {
             let x = coordinator::at_place(c, object);
-            wire::write_fetch(out, node, me, c.serial, c.timestamp, object, x.mode)
+            letters::write_fetch(out, node, me, c.serial, c.timestamp, object, x.mode)
         }
         wire::ASK => send_ask(c, me, node, out),
         wire::OUTCOME => send_outcome(c, me, node, out),
         _ => {
             let rivals = c.rivals;
-            wire::write_yield(out, me, c.serial, c.timestamp, node, rival_of(rivals, node))
+            letters::write_yield(out, me, c.serial, c.timestamp, node, rival_of(rivals, node))
         }
     }
 }
@@ -157,7 +157,7 @@ pub fn write(c: Coordinator, me: u8, node: u8, object: u8, out: &mut [u8]) -> Wr
     ensures { λ r. ⌜ r ≡ dueWritten tree (length (now (out .entry))) c me node object ⌝ }
     ensures { λ r. ⌜ now (out .exit) ≡ dueBuffer tree c me node object (now (out .entry)) ⌝ }
 {
-    if out.len() < wire::LONGEST {
+    if out.len() < numbers::LONGEST_MESSAGE {
         return Written {
             number: numbers::LENGTH,
             length: 0,

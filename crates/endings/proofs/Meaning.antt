@@ -9,6 +9,7 @@ use native.Mathlib.Decide.{ℕ-discrete}
 use native.Mathlib.Omega.{arith}
 use lib.ListN.{length}
 use borrow.Author.Tests.{eq-eqb}
+use Rattle.numbers.specs.Sizes.{nodes, everyNode, objects}
 use Rattle.mask.specs.Mask.{contains}
 use Rattle.quorum.specs.declared.Kind.the-variants.{Read}
 use Rattle.quorum.specs.Quorum.{isQuorum}
@@ -34,7 +35,7 @@ use Rattle.history.proofs.Claimed.{applied-newest, always-good}
 use Rattle.history.proofs.Numbered.{always-in-turn}
 use Rattle.history.proofs.Running.{sheet-is-replay}
 use Rattle.history.specs.Running.{sheet}
-use Rattle.replay.specs.Layout.{objects, size}
+use Rattle.replay.specs.Layout.{size}
 use Rattle.replay.specs.Sheet.{valueOf}
 use Rattle.runs.specs.Held.{Holds}
 use Rattle.closing.specs.Copies.{newestOf, newest}
@@ -64,7 +65,7 @@ module _ (st : Station) (L : Ledger) (F : Past) (w : World st L F) (t : InTurn s
         let m = w .valid .records o in
         let same : c .serial ≡ s = a .present ∙ z .of-serial in
         let now : σ .history .phase (tx o (c .serial)) ≡ committed = ap (λ (k : ℕ). σ .history .phase (tx o k)) same ∙ p in
-        let small : o < 13 = on (lt-or-le o 13) (λ h. h)
+        let small : o < nodes = on (lt-or-le o nodes) (λ h. h)
         (λ h. let k = z .is-held in let j = of-out (stateField shape) (st .images n) o h in absurd (clash (cc))) in
         let party : contains (c .participants) n ≡ true =
         sym (ap (λ (k : Contents ℕ). k .participants n) (asked-contents st σ (w .log) (w .sim) o m (a .begun) (inr now)))
@@ -115,7 +116,7 @@ pub rest-released : (st : Station) → Quiescent st → Released st
 rest-released st rest o n small h e f party z = let k = rest o small in clash (cc)
 
 -- all nodes together are a read quorum
-everyone : isQuorum Read 8191 ≡ true
+everyone : isQuorum Read everyNode ≡ true
 unfolding isQuorum
 everyone = refl
 
@@ -128,25 +129,25 @@ settled-newest up cs a free q r n t new =
 
 -- ---- the same of the buffers that hold what the steps left
 module _ (up : ℕ) (cs : List Call) (a : AllTyped cs) (b : Buffers) (h : Holds up cs b) where
-  its-image : (n : ℕ) → n < 13 → reached up cs .images n ≡ imageAt (b .images) n
+  its-image : (n : ℕ) → n < nodes → reached up cs .images n ≡ imageAt (b .images) n
   its-image n s = ap (λ (st : Station). st .images n) (sym (h .station)) ∙ image-in (b .images) n s
 
-  its-version : (n t : ℕ) → n < 13 → version (reached up cs .images n) t ≡ version (imageAt (b .images) n) t
+  its-version : (n t : ℕ) → n < nodes → version (reached up cs .images n) t ≡ version (imageAt (b .images) n) t
   its-version n t s = ap (λ (l : List ℕ). version l t) (its-image n s)
 
   -- a node with the newest copy has replay's last value
-  at-node : Released (reached up cs) → (n t : ℕ) → n < 13 → newestOf (b .images) t 13 .version ≡ version (imageAt (b .images) n) t
+  at-node : Released (reached up cs) → (n t : ℕ) → n < nodes → newestOf (b .images) t nodes .version ≡ version (imageAt (b .images) n) t
       → value (reached up cs .images n) t ≡ lastValue (told up cs) t
-  at-node free n t s e = settled-newest up cs a free 8191 everyone n t (λ m i j.
-      let k = none-newer (b .images) t 13 m i in
+  at-node free n t s e = settled-newest up cs a free everyNode everyone n t (λ m i j.
+      let k = none-newer (b .images) t nodes m i in
       let p = its-version m t i in
       let q = its-version n t s in
       omega arith)
 
-  its-value : Released (reached up cs) → (t : ℕ) → newestOf (b .images) t 13 .value ≡ lastValue (told up cs) t
-  its-value free t = on (some-has (b .images) t 13)
+  its-value : Released (reached up cs) → (t : ℕ) → newestOf (b .images) t nodes .value ≡ lastValue (told up cs) t
+  its-value free t = on (some-has (b .images) t nodes)
       (λ z.
-      let e : version (imageAt (b .images) 0) t ≡ 0 = let k = none-newer (b .images) t 13 0 (omega arith) in let p = z .0 in omega arith in
+      let e : version (imageAt (b .images) 0) t ≡ 0 = let k = none-newer (b .images) t nodes 0 (omega arith) in let p = z .0 in omega arith in
       let g = always-good up cs a in
       z .1 ∙ sym (blank-value (reached up cs) _ _ (g .world) (always-in-turn up cs a) 0 t (its-version 0 t (omega arith) ∙ e))
       ∙ at-node free 0 t (omega arith) (z .0 ∙ sym e))

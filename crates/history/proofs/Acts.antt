@@ -10,19 +10,19 @@ use native.Mathlib.Numerals.{add-one}
 use native.Mathlib.Omega.{arith}
 use lib.Dec.{eqb, ltb}
 use borrow.Author.Tests.{eqb-true, eqb-false, ltb-true, ltb-false, eq-eqb, ne-eqb, le-ltb}
+use Rattle.numbers.specs.Sizes.{nodes, nobody, objects}
 use Rattle.image.proofs.Each.{lt-or-le}
 use Rattle.wire.specs.declared.Entry.{Entry}
 use Rattle.wire.specs.Message.{Message}
 use Rattle.wire.specs.Formed.{wordOf}
 use Rattle.image.specs.declared.Copy.{Copy}
 use Rattle.image.specs.declared.Owner.{Owner}
-use Rattle.image.specs.Layout.{shape, owners, value, version, holder, serial, state, copyOf, ownerOf}
+use Rattle.image.specs.Layout.{shape, value, version, holder, serial, state, copyOf, ownerOf}
 use Rattle.image.specs.Layout.{versionField, valueField}
-use Rattle.image.specs.Valid.{nobody}
 use Rattle.image.specs.Change.{freeing}
 use Rattle.image.proofs.Lens.{of-out}
-use Rattle.replica.specs.Standing.{aboveOf, standing, active, entered}
-use Rattle.replica.specs.Judge.{votesNo}
+use Rattle.judge.specs.Standing.{aboveOf, standing, active, entered}
+use Rattle.judge.specs.Judge.{votesNo}
 use Rattle.replica.specs.Steps.{fetchImage, askImage, outcomeImage}
 use Rattle.replica.proofs.Delivered.{entries-of, commit-raises}
 use Rattle.replica.proofs.Fields.{restated, ownerWith, holderIn}
@@ -276,18 +276,18 @@ module _ (st : Station) (σ : State ℕ) (log : List Tx) (sim : Sim st σ log) (
 
     -- a vote's owner: the serial stays, the state is the vote's
     voted-owner : (j : List ℕ) → j ≡ i₁ → (u : ℕ)
-        → ((p : ℕ) → p < owners → ownerOf (askImage l m) p ≡ cond (eqb p o) (restated u (listedOwner l m)) (ownerOf l p))
+        → ((p : ℕ) → p < nodes → ownerOf (askImage l m) p ≡ cond (eqb p o) (restated u (listedOwner l m)) (ownerOf l p))
         → OneOwner j (askImage l m) o (serial j o) u
     unfolding ownerOf
     voted-owner j e u h =
-        let f : (p : ℕ) → p < owners → ownerOf j p ≡ cond (eqb p o) (listedOwner l m) (ownerOf l p) =
+        let f : (p : ℕ) → p < nodes → ownerOf j p ≡ cond (eqb p o) (listedOwner l m) (ownerOf l p) =
         λ p q. ap (λ (y : List ℕ). ownerOf y p) e ∙ entered-owner l m (k .sound) (k .owner) (k .serial) (k .stamp) (k .fits) a p q in
         let here : ownerOf j o ≡ listedOwner l m = f o (k .owner) ∙ ap (λ (b : Bool). cond b (listedOwner l m) (ownerOf l o)) (eq-eqb o o refl) in
         subst (λ (s : ℕ). OneOwner j (askImage l m) o s u) (sym (ap (λ (y : Owner). y .serial) here))
         (owner-from j (askImage l m) o (restated u (listedOwner l m)) (k .owner)
         (λ p q. h p q ∙ by p q (eqb p o) refl (f p q)))
       where
-        by : (p : ℕ) → p < owners → (b : Bool) → eqb p o ≡ b → ownerOf j p ≡ cond b (listedOwner l m) (ownerOf l p)
+        by : (p : ℕ) → p < nodes → (b : Bool) → eqb p o ≡ b → ownerOf j p ≡ cond b (listedOwner l m) (ownerOf l p)
             → cond b (restated u (listedOwner l m)) (ownerOf l p) ≡ cond b (restated u (listedOwner l m)) (ownerOf j p)
         by p q true r f = refl
         by p q false r f = sym f
@@ -323,7 +323,7 @@ module _ (st : Station) (σ : State ℕ) (log : List Tx) (sim : Sim st σ log) (
       free-there : (e : Entry) → In e (m .entries) → (holderOf i₁ (e .object) ≡ none) ⊎ (holderOf i₁ (e .object) ≡ some o)
       free-there e i = on (all-in _ (m .entries) (yes-only-free i₁ m v) e i)
           (λ q. inl (holder-none (e .object) (holder i₁ (e .object)) q))
-          (λ q. inr (ap (λ (h : ℕ). cond (ltb (e .object) 64) (cond (eqb h 255) none (some h)) none) q
+          (λ q. inr (ap (λ (h : ℕ). cond (ltb (e .object) objects) (cond (eqb h nobody) none (some h)) none) q
           ∙ holder-some (e .object) o (small-object (m .kind) (m .entries) (entries-of m (k .formed)) e i) (λ z. let w : ⊥ = omega (arith, z, k .owner) in w)))
 
       nobody-holds : (t : ℕ) (y : Tx) → Held (τ .ends) n y → Writes (τ .history .contents) y t → Touches (τ .history .contents) x t → ⊥
@@ -361,7 +361,7 @@ module _ (st : Station) (σ : State ℕ) (log : List Tx) (sim : Sim st σ log) (
           (ap (λ (y : Copy). y .value) c, ap (λ (y : Copy). y .version) c))
 
       -- the holder of an object below 64
-      held-holder : (j : List ℕ) → j ≡ i₁ → (t : ℕ) → t < 64 → holder (askImage l m) t ≡ holderIn o (m .entries) t (holder j t)
+      held-holder : (j : List ℕ) → j ≡ i₁ → (t : ℕ) → t < objects → holder (askImage l m) t ≡ holderIn o (m .entries) t (holder j t)
       unfolding copyOf
       held-holder j e t p =
           ap (λ (y : Copy). y .holder) (yes-copy l m (k .sound) (k .owner) (k .serial) (k .stamp) (k .fits) a v t p)
@@ -372,18 +372,18 @@ module _ (st : Station) (σ : State ℕ) (log : List Tx) (sim : Sim st σ log) (
       holds-now : (t : ℕ) → Writes (τ .history .contents) x t → holderOf (askImage l m) t ≡ some o
       holds-now t w =
           let z = its-entry (τ .history .contents x) (m .entries) match' t w in
-          let p : t < 64 = subst (λ (g : ℕ). g < 64) (z .2) (small-object (m .kind) (m .entries) (entries-of m (k .formed)) (z .0) (z .1)) in
-          ap (λ (h : ℕ). cond (ltb t 64) (cond (eqb h 255) none (some h)) none)
+          let p : t < objects = subst (λ (g : ℕ). g < objects) (z .2) (small-object (m .kind) (m .entries) (entries-of m (k .formed)) (z .0) (z .1)) in
+          ap (λ (h : ℕ). cond (ltb t objects) (cond (eqb h nobody) none (some h)) none)
           (held-holder i₁ refl t p ∙ holder-taken o t (m .entries) (holder i₁ t) (written-in (τ .history .contents x) (m .entries) match' t w))
           ∙ holder-some t o p (λ q. let y : ⊥ = omega (arith, q, k .owner) in y)
 
       holds-still : (j : List ℕ) → j ≡ i₁ → (t : ℕ) → (Writes (τ .history .contents) x t → ⊥) → holderOf (askImage l m) t ≡ holderOf j t
-      holds-still j e t w = on (lt-or-le t 64)
-          (λ p. ap (λ (h : ℕ). cond (ltb t 64) (cond (eqb h 255) none (some h)) none)
+      holds-still j e t w = on (lt-or-le t objects)
+          (λ p. ap (λ (h : ℕ). cond (ltb t objects) (cond (eqb h nobody) none (some h)) none)
           (held-holder j e t p ∙ holder-left o t (m .entries) (holder j t) (not-in (τ .history .contents x) (m .entries) match' t w)))
-          (λ p. let q = le-ltb t 64 p in
-          ap (λ (b : Bool). cond b (cond (eqb (holder (askImage l m) t) 255) none (some (holder (askImage l m) t))) none) q
-          ∙ sym (ap (λ (b : Bool). cond b (cond (eqb (holder j t) 255) none (some (holder j t))) none) q))
+          (λ p. let q = le-ltb t objects p in
+          ap (λ (b : Bool). cond b (cond (eqb (holder (askImage l m) t) nobody) none (some (holder (askImage l m) t))) none) q
+          ∙ sym (ap (λ (b : Bool). cond b (cond (eqb (holder j t) nobody) none (some (holder j t))) none) q))
 
       pub voted-yes : Acted (askImage l m) (λ τ' l'. (l' ≡ pick (ℕ-discrete n 0) (x ∷ log) log) × (τ' .votes .yes n x ≡ true) × (n ≡ 0 → In x log → ⊥))
       voted-yes = record {
@@ -423,7 +423,7 @@ module _ (st : Station) (σ : State ℕ) (log : List Tx) (sim : Sim st σ log) (
   over-late i τ l' s a b = inr (last-read i τ l' s o ∙ a, state-read i τ l' s o ∙ ap stateOf b)
 
   -- the owner is over: serial s, all others as they were
-  over-owner : (s : ℕ) (w : Owner) → w .serial ≡ s → w .state ≡ 0 → ((p : ℕ) → p < owners → ownerOf (outcomeImage l m) p ≡ cond (eqb p o) w (ownerOf l p))
+  over-owner : (s : ℕ) (w : Owner) → w .serial ≡ s → w .state ≡ 0 → ((p : ℕ) → p < nodes → ownerOf (outcomeImage l m) p ≡ cond (eqb p o) w (ownerOf l p))
       → OneOwner l (outcomeImage l m) o s 0
   over-owner s w a b h = subst (λ (u : ℕ). OneOwner l (outcomeImage l m) o s u) b
       (subst (λ (g : ℕ). OneOwner l (outcomeImage l m) o g (w .state)) a (owner-from l (outcomeImage l m) o w (k .owner) h))
@@ -433,12 +433,12 @@ module _ (st : Station) (σ : State ℕ) (log : List Tx) (sim : Sim st σ log) (
     early-drop : CanDrop σ n x
     early-drop = record { phase = aborted-now; fits = inr (can-list early .above, can-list early .over) }
 
-    not-holder : (t : ℕ) → t < 64 → holder l t ≡ o → ⊥
+    not-holder : (t : ℕ) → t < objects → holder l t ≡ o → ⊥
     not-holder t p e = on (k .sound .clauses .copies-sound t p .holding)
         (λ q. let z : ⊥ = omega (arith, e, q, k .owner) in z)
         (λ q. let r = fresh-state l m small-state early in let z : state l o ≡ 2 = ap (state l) (sym e) ∙ q .1 in let y : ⊥ = omega (arith, r, z) in y)
 
-    unfreed : (t : ℕ) → t < 64 → copyOf (outcomeImage l m) t .holder ≡ freeing o (copyOf l t .holder)
+    unfreed : (t : ℕ) → t < objects → copyOf (outcomeImage l m) t .holder ≡ freeing o (copyOf l t .holder)
     unfolding copyOf
     unfreed t p = ap (λ (y : Copy). y .holder) (early-copy l m (k .sound) (k .owner) (k .serial) (k .stamp) (k .fits) early t p)
         ∙ sym (ap (λ (b : Bool). cond b nobody (holder l t)) (ne-eqb (holder l t) o (not-holder t p)))
@@ -519,7 +519,7 @@ module _ (st : Station) (σ : State ℕ) (log : List Tx) (sim : Sim st σ log) (
 
       still-stored : (t : ℕ) → (Writes (σ .history .contents) x t → ⊥)
           → (version (outcomeImage l m) t ≡ version l t) × (value (outcomeImage l m) t ≡ value l t)
-      still-stored t w = on (lt-or-le t 64)
+      still-stored t w = on (lt-or-le t objects)
           (λ p. let c = commit-others l m k kind is-held word t p (not-in (σ .history .contents x) (m .entries) match t w) in (c .1, c .0))
           (λ p. (
             of-out (versionField shape) _ t p ∙ sym (of-out (versionField shape) l t p),
@@ -527,7 +527,7 @@ module _ (st : Station) (σ : State ℕ) (log : List Tx) (sim : Sim st σ log) (
                 (of-out (valueField shape) l t p),
           ))
 
-      freed-now : (t : ℕ) → t < 64 → copyOf (outcomeImage l m) t .holder ≡ freeing o (copyOf l t .holder)
+      freed-now : (t : ℕ) → t < objects → copyOf (outcomeImage l m) t .holder ≡ freeing o (copyOf l t .holder)
       freed-now t p = ap (λ (y : Copy). y .holder)
           (commit-copy l m (k .sound) (k .owner) (k .serial) (k .stamp) (k .fits) is-held word (commit-raises m (k .formed) kind) t p)
 

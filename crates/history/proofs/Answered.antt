@@ -8,6 +8,7 @@ use native.Mathlib.Omega.{arith}
 use lib.Dec.{T, eqb}
 use lib.ListN.{length, getD}
 use borrow.Author.Tests.{eq-eqb, ne-eqb, lt-ltb}
+use Rattle.numbers.specs.Sizes.{mostOpen}
 use Rattle.mask.specs.Mask.{within}
 use Rattle.mask.proofs.Tests.{T-true}
 use Rattle.wire.specs.Decode.{fromOf}
@@ -15,16 +16,17 @@ use Rattle.wire.specs.Items.{entryOf}
 use Rattle.coordinator.specs.declared.Coordinator.{Coordinator}
 use Rattle.coordinator.specs.declared.Step.{Step}
 use Rattle.coordinator.specs.System.{tree}
-use Rattle.coordinator.specs.State.{eight, votingPhase, finishingPhase, placeOf, ready, awaited, idleAfter}
+use Rattle.coordinator.specs.State.{votingPhase, finishingPhase, placeOf, ready, awaited, idleAfter}
 use Rattle.coordinator.specs.Calls.{withPhase, endedAborted}
 use Rattle.arrivals.specs.Receive.{brought}
 use Rattle.clauses.proofs.Facts.{Meets}
 use Rattle.clauses.proofs.Parts.{T-false}
 use Rattle.clauses.proofs.Sets.{node-known}
-use Rattle.clauses.proofs.Messages.{vote-owner}
-use Rattle.clauses.proofs.Deliver.{receive-keeps}
-use Rattle.clauses.proofs.Deliveries.{CopyFitting, YesFitting, DoneFitting, OpenOrVoting, copiedObject, afterCopy, saidYes, named, saidDone}
-use Rattle.clauses.proofs.Deliveries.{receive-cases}
+use Rattle.clauses_arrive.proofs.Messages.{vote-owner}
+use Rattle.clauses_arrive.proofs.Deliver.{receive-keeps}
+use Rattle.clauses.proofs.Cases.{OpenOrVoting}
+use Rattle.clauses_arrive.proofs.Deliveries.{CopyFitting, YesFitting, DoneFitting, copiedObject, afterCopy, saidYes, named, saidDone}
+use Rattle.clauses_arrive.proofs.Deliveries.{receive-cases}
 use Rattle.steps.specs.Station.{Station, withRecord, without}
 use Rattle.steps.specs.Step.{delivery, Outcome, refusedWith, taken, takenOut, atCoordinator}
 use Rattle.protocol.specs.Table.{In}
@@ -94,7 +96,7 @@ module _ (st : Station) (L : Ledger) (F : Past) (w : World st L F) (k : ℕ) (ke
   copied-case f m =
       let answer : ℕ = cond (ready tree (copiedObject c b)) 3 0 in
       go answer (afterCopy c b)
-      (copy-world st L F w n (f .answer .in-phase) (fromOf b) (entryOf b 0) (lt-ltb (placeOf c (entryOf b 0 .object)) eight (f .is-open))
+      (copy-world st L F w n (f .answer .in-phase) (fromOf b) (entryOf b 0) (lt-ltb (placeOf c (entryOf b 0 .object)) mostOpen (f .is-open))
       (T-false _ (f .not-ready)) (w .sim .waits b in-pool .a-copy (f .answer .its-kind)) pool (told answer) (same-told answer) m sub refl refl
       (no-commit (ready tree (copiedObject c b))) refl refl)
 

@@ -9,6 +9,7 @@ use native.Mathlib.Omega.{arith}
 use lib.Dec.{eqb, lit<}
 use lib.ListN.{length, getD, set, replicate}
 use lib.Seq.{getD-set-same, getD-set-other, set-out}
+use Rattle.numbers.specs.Sizes.{nodes}
 use Rattle.mask.specs.Mask.{contains}
 use Rattle.octets.proofs.Laws.{Bytes}
 use Rattle.wire.specs.declared.Entry.{Entry}
@@ -16,15 +17,15 @@ use Rattle.wire.specs.declared.Rival.{Rival}
 use Rattle.wire.specs.Message.{Message}
 use Rattle.wire.specs.Encode.{All, EntryFits, RivalFits, Fits}
 use Rattle.wire.specs.Formed.{wordOf}
-use Rattle.wire.specs.Write.{rivalsBy}
+use Rattle.letters.specs.Write.{rivalsBy}
 use Rattle.image.specs.Layout.{shape, valueField, versionField, holderField, readersField, writersField, serialField, stateField, stampField, value}
 use Rattle.image.specs.Layout.{version, serial}
 use Rattle.image.specs.Change.{withOwner, withSerial, withState, withValue, free, unlist}
 use Rattle.image.proofs.Each.{lt-or-le}
 use Rattle.image.proofs.Lens.{bytes-with, of-small}
 use Rattle.image.proofs.Whole.{bytes-free, bytes-unlist}
-use Rattle.replica.specs.Standing.{standing, active, entered}
-use Rattle.replica.specs.Judge.{votesNo, named, noSerials, namedBelow, serialsOf, rivalsOf}
+use Rattle.judge.specs.Standing.{standing, active, entered}
+use Rattle.judge.specs.Judge.{votesNo, named, noSerials, namedBelow, serialsOf, rivalsOf}
 use Rattle.replica.specs.Steps.{copyTo, voteTo, doneTo, wanted, fetchImage, copyHere, holdingOne, holding, leaves, judgedImage, askImage, appliedOne, applied}
 use Rattle.replica.specs.Steps.{decided, released, outcomeImage}
 use Rattle.replica.specs.Receive.{step, Delivered}
@@ -110,7 +111,7 @@ module _ (me : ℕ) (m : Message) (f : Fits m) where
   by-fits o [] h g = tt
   by-fits o (s ∷ ss) h g = one-fits o s (eqb s 0) (rivalsBy (o + 1) ss) (omega arith) (g 0) (by-fits (o + 1) ss (omega arith) (λ i. g (suc i)))
 
-  pub vote-fits : (ss : List ℕ) (word : ℕ) → length ss ≡ 13 → ((i : ℕ) → getD ss i 0 < 256 ^ 4) → Fits (voteTo me m ss word)
+  pub vote-fits : (ss : List ℕ) (word : ℕ) → length ss ≡ nodes → ((i : ℕ) → getD ss i 0 < 256 ^ 4) → Fits (voteTo me m ss word)
   vote-fits ss word h g = record { serial = f .serial; stamp = f .stamp; entries = tt; rivals = by-fits 0 ss (omega (arith, h)) g }
 
 zero-place : (n i : ℕ) → _≡_ {A = ℕ} (getD (replicate n 0) i 0) 0
@@ -119,7 +120,7 @@ zero-place (suc n) zero = refl
 zero-place (suc n) (suc i) = zero-place n i
 
 pub none-small : (i : ℕ) → getD noSerials i 0 < 256 ^ 4
-none-small i = subst (λ (s : ℕ). s < 256 ^ 4) (sym (zero-place 13 i)) (lit< tt)
+none-small i = subst (λ (s : ℕ). s < 256 ^ 4) (sym (zero-place nodes i)) (lit< tt)
 
 named-small : (l : List ℕ) → Bytes l → (rivals n i : ℕ) → getD (namedBelow l rivals n) i 0 < 256 ^ 4
 unfolding namedBelow
@@ -134,7 +135,7 @@ named-small l b rivals (suc n) i = by-cases (ℕ-discrete i n)
 
 pub yes-fits : (me : ℕ) (m : Message) → Fits m → (l : List ℕ) → Bytes l → Fits (voteTo me m (serialsOf l (rivalsOf l m)) 1)
 unfolding serialsOf
-yes-fits me m f l b = vote-fits me m f (serialsOf l (rivalsOf l m)) 1 (length-named l (rivalsOf l m) 13) (named-small l b (rivalsOf l m) 13)
+yes-fits me m f l b = vote-fits me m f (serialsOf l (rivalsOf l m)) 1 (length-named l (rivalsOf l m) nodes) (named-small l b (rivalsOf l m) nodes)
 
 pub here-fits : (l : List ℕ) → Bytes l → (e : Entry) → e .object < 256 → e .mode < 256 → EntryFits (copyHere l e)
 unfolding copyHere

@@ -9,6 +9,7 @@ use native.Mathlib.Omega.{arith}
 use lib.Dec.{T, eqb, ltb}
 use lib.ListN.{length}
 use borrow.Author.Tests.{eqb-true, eqb-false, ne-eqb, ltb-true}
+use Rattle.numbers.specs.Sizes.{nodes, objects, mostOpen}
 use Rattle.mask.specs.Mask.{contains, joined}
 use Rattle.mask.proofs.Tests.{T-true}
 use Rattle.numbers.specs.Refusal.{Refusal, firstOf}
@@ -19,7 +20,7 @@ use Rattle.coordinator.specs.declared.Coordinator.{Coordinator}
 use Rattle.coordinator.specs.declared.BeginWith.{BeginWith}
 use Rattle.coordinator.specs.declared.Step.{Step}
 use Rattle.coordinator.specs.System.{tree}
-use Rattle.coordinator.specs.State.{thirteen, eight, idlePhase, openPhase, votingPhase, objectAt, isOpen, stepOf}
+use Rattle.coordinator.specs.State.{idlePhase, openPhase, votingPhase, objectAt, isOpen, stepOf}
 use Rattle.coordinator.specs.Calls.{beginRefusals, begun, beginOf, openRefusals, opened, openOf, setRefusals, withNew, setOf, foundRefusals, foundOf}
 use Rattle.coordinator.specs.Calls.{reselectRefusals, reselected, reselectOf, requestCommitRefusals, requested, requestCommitOf, abortRefusals, endedAborted}
 use Rattle.coordinator.specs.Calls.{abortOf}
@@ -105,7 +106,7 @@ module _ (st : Station) (L : Ledger) (F : Past) (w : World st L F) where
     abbrev md : Meets tree d
     md = w .valid .records n
 
-    pub begin-next : (a : BeginWith) → length (a .distances) ≡ thirteen → Next (begin n a) (hosted st n (beginOf tree d n a))
+    pub begin-next : (a : BeginWith) → length (a .distances) ≡ nodes → Next (begin n a) (hosted st n (beginOf tree d n a))
     unfolding beginOf beginRefusals noted
     begin-next a size =
         let chosen = tree .nearestRead (a .live) (a .distances) in
@@ -121,8 +122,8 @@ module _ (st : Station) (L : Ledger) (F : Past) (w : World st L F) where
         let rs = openRefusals d n t in
         host-next n call rs 0 (opened d t mode) tt (λ k.
         subst (λ (L' : Ledger). World (withRecord st n (opened d t mode)) L' (More F (withRecord st n (opened d t mode)))) (sym (says 0))
-        (open-world st L F w n (eqb-true (d .phase) openPhase (not-false _ (k .1 .0))) t mode (or-neither (not (ltb t 64)) (isOpen d t) (k .1 .1 .0) .1)
-        (ltb-true (d .count) eight (not-false _ (k .1 .1 .1 .0)))
+        (open-world st L F w n (eqb-true (d .phase) openPhase (not-false _ (k .1 .0))) t mode (or-neither (not (ltb t objects)) (isOpen d t) (k .1 .1 .0) .1)
+        (ltb-true (d .count) mostOpen (not-false _ (k .1 .1 .1 .0)))
         (subst (Meets tree) (taken-record rs 0 d (opened d t mode) k) (open-keeps tree tree-quorums d n md t mode small))))
 
     pub read-next : (t : ℕ) → Next (openRead n t) (hosted st n (openOf d n t 0))
@@ -151,7 +152,7 @@ module _ (st : Station) (L : Ledger) (F : Past) (w : World st L F) where
     unfolding reselected
     same-objects live distances q = record { serial = refl; phase = λ e. e; phase' = λ e. e; objects = refl; count = refl; participants = refl }
 
-    pub reselect-next : (live : ℕ) (distances : List ℕ) → length distances ≡ thirteen → Next (reselect n live distances)
+    pub reselect-next : (live : ℕ) (distances : List ℕ) → length distances ≡ nodes → Next (reselect n live distances)
         (hosted st n (reselectOf tree d n live distances))
     unfolding reselectOf reselectRefusals noted
     reselect-next live distances size =

@@ -7,6 +7,7 @@ use Prim.Native.Nat.{ℕ, _<_, _≤_}
 use native.Mathlib.Omega.{arith}
 use lib.Dec.{eqb}
 use borrow.Author.Tests.{eqb-true, eqb-false, ltb-true, eq-eqb}
+use Rattle.numbers.specs.Sizes.{nodes, objects, mostOpen}
 use Rattle.mask.specs.Mask.{contains}
 use Rattle.numbers.specs.Refusal.{firstOf}
 use Rattle.quorum.specs.declared.Kind.the-variants.{Read}
@@ -21,7 +22,7 @@ use Rattle.image.proofs.Each.{lt-or-le}
 use Rattle.coordinator.specs.declared.Coordinator.{Coordinator}
 use Rattle.coordinator.specs.declared.Step.{Step}
 use Rattle.coordinator.specs.System.{tree}
-use Rattle.coordinator.specs.State.{eight, idlePhase, idleAfter, placeOf, objectAt, isOpen, ready, stepOf}
+use Rattle.coordinator.specs.State.{idlePhase, idleAfter, placeOf, objectAt, isOpen, ready, stepOf}
 use Rattle.coordinator.specs.Calls.{foundRefusals, foundOf}
 use Rattle.coordinator.proofs.Refusals.{clear}
 use Rattle.clauses.proofs.Places.{place-open}
@@ -141,7 +142,7 @@ module _ (st : Station) (L : Ledger) (F : Past) (g : Good st L F) where
   pub is-sourced : (x : Tx) (t v : ℕ) → Finds st x t v → (v ≡ 0) ⊎ ((y : Tx) × In y (L .committed) × (L .mode y t ≡ write) × (v ≡ L .new y t))
   is-sourced x t v f =
       let c = st .records (x .owner) in
-      let z = place-open (c .objects) (c .count) t (ltb-true (placeOf c t) eight (f .opened)) in
+      let z = place-open (c .objects) (c .count) t (ltb-true (placeOf c t) mostOpen (f .opened)) in
       on (w .sim .owners (x .owner) .found (placeOf c t))
       (λ q. inl (sym (f .value) ∙ q .1))
       (λ i. source-as t v (subst (λ (a : ℕ). (a ≡ 0) ⊎ ((y : Tx) × (σ .history .phase y ≡ committed) × (σ .history .contents y .mode t ≡ write)
@@ -167,11 +168,11 @@ module _ (st : Station) (L : Ledger) (F : Past) (g : Good st L F) where
       ∙ sym (base .last t) ∙ sym (last-as t)
     where
       below : (m : ℕ) → contains q m ≡ true → version (st .images m) t ≤ version (st .images n) t
-      below m j = on (lt-or-le m 13) (λ h. new m h j)
+      below m j = on (lt-or-le m nodes) (λ h. new m h j)
           (λ h. subst (λ (k : ℕ). k ≤ version (st .images n) t)
           (sym (ap (λ (l : List ℕ). version l t) (g .wide .beyond m h) ∙ blank-zero (versionField shape) t tt tt tt)) (omega arith))
 
-  pub is-newest : Settled L → (q : ℕ) → isQuorum Read q ≡ true → (n t : ℕ) → n < 13 → contains q n ≡ true → t < 64 → Newest st q n t
+  pub is-newest : Settled L → (q : ℕ) → isQuorum Read q ≡ true → (n t : ℕ) → n < nodes → contains q n ≡ true → t < objects → Newest st q n t
       → value (st .images n) t ≡ lastValue L t
   is-newest s q r n t small i known new = applied-newest (all-applied s) q r n t new
 

@@ -8,6 +8,7 @@ use native.Mathlib.Nat.{mod-lt}
 use lib.Dec.{ltb, lit<}
 use lib.ListN.{length}
 use borrow.Author.Tests.{ltb-true}
+use Rattle.numbers.specs.Sizes.{nodes, longestMessage}
 use Rattle.octets.specs.Octets.{le}
 use Rattle.octets.proofs.Laws.{Bytes}
 use Rattle.wire.specs.declared.Entry.{Entry}
@@ -59,17 +60,17 @@ rival-bytes r f = bytes-cons (r .owner) (le 4 (r .serial)) (f .owner) (bytes-le 
 
 -- three sections after the header, each count below 256
 module _ (m : Message) (f : Fits m) (w : wellFormed m ≡ true) where
-  size : length (encode m) ≤ 128
+  size : length (encode m) ≤ longestMessage
   size = length-bounds m w .1
 
   names : (m .from < 256) × ((m .to < 256) × (m .owner < 256))
   unfolding wellFormed
   names =
       let a = and-true (namesOk m) _ (and-true (countsOk (m .kind) _ _ _ (wordOf m)) _ w .1) .0 in
-      let b = and-true (ltb (m .from) 13) _ a in
-      let c = and-true (ltb (m .to) 13) _ (b .1) in
-      let d = and-true (ltb (m .owner) 13) _ (c .1) in
-      (omega (arith, ltb-true (m .from) 13 (b .0)), (omega (arith, ltb-true (m .to) 13 (c .0)), omega (arith, ltb-true (m .owner) 13 (d .0))))
+      let b = and-true (ltb (m .from) nodes) _ a in
+      let c = and-true (ltb (m .to) nodes) _ (b .1) in
+      let d = and-true (ltb (m .owner) nodes) _ (c .1) in
+      (omega (arith, ltb-true (m .from) nodes (b .0)), (omega (arith, ltb-true (m .to) nodes (c .0)), omega (arith, ltb-true (m .owner) nodes (d .0))))
 
   pub bytes-encode : m .kind < 256 → All (λ (x : ℕ). x < 256) (m .words) → Bytes (encode m)
   unfolding encode

@@ -8,6 +8,7 @@ use Prim.Native.Nat.{ℕ, _%_, _<_, _≤_}
 use native.Mathlib.Omega.{arith}
 use lib.Dec.{T, eqb, ltb}
 use borrow.Author.Tests.{eqb-true, ltb-true}
+use Rattle.numbers.specs.Sizes.{nodes, everyNode}
 use Rattle.mask.specs.Mask.{contains, joined, within}
 use Rattle.mask.proofs.Laws.{within-contains}
 use Rattle.mask.proofs.Tests.{T-true}
@@ -19,7 +20,7 @@ use Rattle.coordinator.specs.declared.Coordinator.{Coordinator}
 use Rattle.coordinator.specs.declared.BeginWith.{BeginWith}
 use Rattle.coordinator.specs.declared.Step.{Step}
 use Rattle.coordinator.specs.System.{tree}
-use Rattle.coordinator.specs.State.{everyNode, idlePhase, openPhase, aborted, awaited, idleAfter}
+use Rattle.coordinator.specs.State.{idlePhase, openPhase, aborted, awaited, idleAfter}
 use Rattle.coordinator.specs.Calls.{beginRefusals, begun, beginOf, openRefusals, opened, openOf, setRefusals, withNew, setOf, foundOf}
 use Rattle.coordinator.specs.Calls.{reselectRefusals, reselected, reselectOf, requestCommitRefusals, requested, requestCommitOf, abortOf}
 use Rattle.arrivals.specs.Receive.{receiveOf}
@@ -28,8 +29,9 @@ use Rattle.replica.proofs.Delivered.{either-way}
 use Rattle.clauses.proofs.Parts.{true-T}
 use Rattle.clauses.proofs.Sets.{node-known, within-left, within-right}
 use Rattle.clauses.proofs.Cases.{step-keeps}
-use Rattle.clauses.proofs.Messages.{vote-owner}
-use Rattle.clauses.proofs.Deliveries.{YesFitting, DoneFitting, Endings, abort-cases, saidYes, saidDone, receive-cases}
+use Rattle.clauses_arrive.proofs.Messages.{vote-owner}
+use Rattle.clauses.proofs.Cases.{Endings, abort-cases}
+use Rattle.clauses_arrive.proofs.Deliveries.{YesFitting, DoneFitting, saidYes, saidDone, receive-cases}
 use Rattle.steps.specs.Station.{Station}
 use Rattle.protocol.specs.Proof.Tables.{on}
 use Rattle.history.proofs.Tests.{and-true, not-false}
@@ -49,12 +51,12 @@ module _ (b : List ℕ) (ok : checkOf b ≡ 0) where
       let d = and-true (namesOk m) _ a in
       (d .0, and-true (directionOk m) _ (d .1) .0)
 
-  pub nodes-named : (toOf b < 13) × (ownerOf b < 13)
+  pub nodes-named : (toOf b < nodes) × (ownerOf b < nodes)
   unfolding decode
   nodes-named =
-      let a = and-true (ltb (fromOf b) 13) _ (named-right .0) .1 in
-      let d = and-true (ltb (toOf b) 13) _ a in
-      (ltb-true (toOf b) 13 (d .0), ltb-true (ownerOf b) 13 (and-true (ltb (ownerOf b) 13) _ (d .1) .0))
+      let a = and-true (ltb (fromOf b) nodes) _ (named-right .0) .1 in
+      let d = and-true (ltb (toOf b) nodes) _ a in
+      (ltb-true (toOf b) nodes (d .0), ltb-true (ownerOf b) nodes (and-true (ltb (ownerOf b) nodes) _ (d .1) .0))
 
   -- a done goes to its owner
   done-to : kindOf b ≡ done → toOf b ≡ ownerOf b

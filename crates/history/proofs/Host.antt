@@ -8,13 +8,14 @@ use native.Mathlib.Decide.{ℕ-discrete}
 use native.Mathlib.Omega.{arith}
 use lib.ListN.{set}
 use borrow.Author.Tests.{ltb-true}
+use Rattle.numbers.specs.Sizes.{mostOpen}
 use Rattle.mask.specs.Mask.{contains}
 use Rattle.octets.proofs.Laws.{Bytes}
 use Rattle.coordinator.specs.declared.Object.{Object}
 use Rattle.coordinator.specs.declared.Coordinator.{Coordinator}
 use Rattle.coordinator.specs.declared.BeginWith.{BeginWith}
 use Rattle.coordinator.specs.System.{tree}
-use Rattle.coordinator.specs.State.{eight, idlePhase, openPhase, placeIn, placeOf, objectAt, isOpen, ready}
+use Rattle.coordinator.specs.State.{idlePhase, openPhase, placeIn, placeOf, objectAt, isOpen, ready}
 use Rattle.coordinator.specs.Calls.{begun, opened, renewed, withNew, withObjects}
 use Rattle.arrivals.specs.Receive.{withCopy}
 use Rattle.wire.specs.declared.Entry.{Entry}
@@ -208,7 +209,7 @@ module _ (st : Station) (L : Ledger) (F : Past) (w : World st L F) (n : ℕ) whe
       }
 
     -- ---- open
-    module _ (t mode : ℕ) (shut : isOpen c t ≡ false) (room : c .count < eight) (m : Meets tree (opened c t mode)) where
+    module _ (t mode : ℕ) (shut : isOpen c t ≡ false) (room : c .count < mostOpen) (m : Meets tree (opened c t mode)) where
       abbrev c₁ : Coordinator
       c₁ = opened c t mode
 
@@ -262,7 +263,7 @@ module _ (st : Station) (L : Ledger) (F : Past) (w : World st L F) (n : ℕ) whe
       i₂ = placeOf c t
 
       stood : (i₂ < c .count) × (objectAt c t .object ≡ t)
-      stood = let z = place-open (c .objects) (c .count) t (ltb-true i₂ eight opened-now) in (z .0, z .1 .1)
+      stood = let z = place-open (c .objects) (c .count) t (ltb-true i₂ mostOpen opened-now) in (z .0, z .1 .1)
 
       -- the record with x there, which is of the same object and mode
       module _ (c' : Coordinator) (x : Object) (k : OneSet c c' i₂ x) (m : Meets tree c') (same-object : x .object ≡ objectAt c t .object)
@@ -430,4 +431,5 @@ module _ (st : Station) (L : Ledger) (F : Past) (w : World st L F) where
 
   -- the same station once more
   pub again : World st L (More F st)
-  again = fewer (st .pool) (st .own) L (λ y i. i) (w .books .pool-as) refl refl refl refl (record { serials = refl; modes = refl; news = refl; parties = refl })
+  again = fewer (st .pool) (st .own) L (λ y i. i) (w .books .pool-as) refl refl refl refl
+      (record { serials = refl; modes = refl; news = refl; parties = refl })

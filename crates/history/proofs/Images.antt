@@ -8,13 +8,14 @@ use Prim.Native.Nat.{ℕ, _<_, _≤_}
 use native.Mathlib.Omega.{arith}
 use lib.Dec.{eqb, ltb}
 use borrow.Author.Tests.{eqb-true, eqb-false, eq-eqb, ne-eqb, lt-ltb, le-ltb, ltb-true}
+use Rattle.numbers.specs.Sizes.{nodes, nobody, objects}
 use Rattle.wire.specs.declared.Entry.{Entry}
 use Rattle.wire.specs.Formed.{every, entryOk}
 use Rattle.wire.specs.Encode.{All}
 use Rattle.image.specs.declared.Field.{Field}
 use Rattle.image.specs.declared.Owner.{Owner}
 use Rattle.image.specs.Field.{fieldOf}
-use Rattle.image.specs.Layout.{shape, owners, valueField, versionField, holderField, serialField, stateField, value, version, holder, serial, state, copyOf}
+use Rattle.image.specs.Layout.{shape, valueField, versionField, holderField, serialField, stateField, value, version, holder, serial, state, copyOf}
 use Rattle.image.specs.Layout.{ownerOf}
 use Rattle.image.specs.Change.{freeing}
 use Rattle.image.proofs.Each.{lt-or-le}
@@ -45,34 +46,34 @@ module _ (l k : List ℕ) where
   holders-from h = same-field (holderField shape) l k h
 
   -- one owner w, the others as they were
-  pub owner-from : (o : ℕ) (w : Owner) → o < owners
-      → ((p : ℕ) → p < owners → ownerOf k p ≡ cond (eqb p o) w (ownerOf l p)) → OneOwner l k o (w .serial) (w .state)
+  pub owner-from : (o : ℕ) (w : Owner) → o < nodes
+      → ((p : ℕ) → p < nodes → ownerOf k p ≡ cond (eqb p o) w (ownerOf l p)) → OneOwner l k o (w .serial) (w .state)
   unfolding ownerOf
   owner-from o w small h = record {
     its-serial = ap (λ (x : Owner). x .serial) here;
     its-state = ap (λ (x : Owner). x .state) here;
-    serials = λ p e. on (lt-or-le p owners) (λ q. ap (λ (x : Owner). x .serial) (else p q e)) (λ q. of-out (serialField shape) k p q
+    serials = λ p e. on (lt-or-le p nodes) (λ q. ap (λ (x : Owner). x .serial) (else p q e)) (λ q. of-out (serialField shape) k p q
         ∙ sym (of-out (serialField shape) l p q));
-    states = λ p e. on (lt-or-le p owners) (λ q. ap (λ (x : Owner). x .state) (else p q e)) (λ q. of-out (stateField shape) k p q
+    states = λ p e. on (lt-or-le p nodes) (λ q. ap (λ (x : Owner). x .state) (else p q e)) (λ q. of-out (stateField shape) k p q
         ∙ sym (of-out (stateField shape) l p q));
   }
     where
       here : ownerOf k o ≡ w
       here = h o small ∙ ap (λ (b : Bool). cond b w (ownerOf l o)) (eq-eqb o o refl)
 
-      else : (p : ℕ) → p < owners → (p ≡ o → ⊥) → ownerOf k p ≡ ownerOf l p
+      else : (p : ℕ) → p < nodes → (p ≡ o → ⊥) → ownerOf k p ≡ ownerOf l p
       else p q e = h p q ∙ ap (λ (b : Bool). cond b w (ownerOf l p)) (ne-eqb p o e)
 
 -- ---- holders
 -- a holder as it is read
 abbrev read-holder : ℕ → ℕ → Option ℕ
-read-holder t h = cond (ltb t 64) (cond (eqb h 255) none (some h)) none
+read-holder t h = cond (ltb t objects) (cond (eqb h nobody) none (some h)) none
 
-pub holder-some : (t w : ℕ) → t < 64 → (w ≡ 255 → ⊥) → cond (ltb t 64) (cond (eqb w 255) none (some w)) none ≡ some w
-holder-some t w p e = rw (lt-ltb t 64 p, ne-eqb w 255 e)
+pub holder-some : (t w : ℕ) → t < objects → (w ≡ nobody → ⊥) → cond (ltb t objects) (cond (eqb w nobody) none (some w)) none ≡ some w
+holder-some t w p e = rw (lt-ltb t objects p, ne-eqb w nobody e)
 
-pub holder-none : (t h : ℕ) → h ≡ 255 → cond (ltb t 64) (cond (eqb h 255) none (some h)) none ≡ none
-holder-none t h e = by (ltb t 64) (eqb h 255) (eq-eqb h 255 e)
+pub holder-none : (t h : ℕ) → h ≡ nobody → cond (ltb t objects) (cond (eqb h nobody) none (some h)) none ≡ none
+holder-none t h e = by (ltb t objects) (eqb h nobody) (eq-eqb h nobody e)
   where
     by : (a b : Bool) → b ≡ true → _≡_ {A = Option ℕ} (cond a (cond b none (some h)) none) none
     by true true q = refl
@@ -85,39 +86,39 @@ some-is e = cc
 none-some : {a : ℕ} → _≡_ {A = Option ℕ} none (some a) → ⊥
 none-some e = clash (cc)
 
-freed-by : (a b c : Bool) (h w : ℕ) → eqb h 255 ≡ b → eqb h w ≡ c → (w ≡ 255 → ⊥)
-    → (cond a (cond b none (some h)) none ≡ some w → cond a (cond (eqb (cond c 255 h) 255) none (some (cond c 255 h))) none ≡ none)
+freed-by : (a b c : Bool) (h w : ℕ) → eqb h nobody ≡ b → eqb h w ≡ c → (w ≡ nobody → ⊥)
+    → (cond a (cond b none (some h)) none ≡ some w → cond a (cond (eqb (cond c nobody h) nobody) none (some (cond c nobody h))) none ≡ none)
     × ((cond a (cond b none (some h)) none ≡ some w → ⊥)
-    → cond a (cond (eqb (cond c 255 h) 255) none (some (cond c 255 h))) none ≡ cond a (cond b none (some h)) none)
+    → cond a (cond (eqb (cond c nobody h) nobody) none (some (cond c nobody h))) none ≡ cond a (cond b none (some h)) none)
 freed-by false b c h w p q n = ((λ e. refl), (λ e. refl))
 freed-by true true true h w p q n = ((λ e. refl), (λ e. refl))
 freed-by true true false h w p q n = ((λ e. absurd (none-some e)), (λ e. rw p))
 freed-by true false true h w p q n = ((λ e. refl), (λ e. absurd (e (ap some (eqb-true h w q)))))
 freed-by true false false h w p q n = ((λ e. absurd (eqb-false h w q (some-is e))), (λ e. rw p))
 
-pub freed-from : (l k : List ℕ) (w : ℕ) → w < owners → ((t : ℕ) → t < shape .objects → copyOf k t .holder ≡ freeing w (copyOf l t .holder))
+pub freed-from : (l k : List ℕ) (w : ℕ) → w < nodes → ((t : ℕ) → t < shape .objects → copyOf k t .holder ≡ freeing w (copyOf l t .holder))
     → FreedHolders l k w
 unfolding copyOf
 freed-from l k w small h = record { its = λ t. both t .0; other = λ t. both t .1 }
   where
-    big : w ≡ 255 → ⊥
+    big : w ≡ nobody → ⊥
     big e = let z : ⊥ = omega (arith, small, e) in z
 
-    below : (t : ℕ) → t < 64 → (holderOf l t ≡ some w → holderOf k t ≡ none) × ((holderOf l t ≡ some w → ⊥) → holderOf k t ≡ holderOf l t)
+    below : (t : ℕ) → t < objects → (holderOf l t ≡ some w → holderOf k t ≡ none) × ((holderOf l t ≡ some w → ⊥) → holderOf k t ≡ holderOf l t)
     below t p =
-        let z = freed-by (ltb t 64) (eqb (holder l t) 255) (eqb (holder l t) w) (holder l t) w refl refl big in
+        let z = freed-by (ltb t objects) (eqb (holder l t) nobody) (eqb (holder l t) w) (holder l t) w refl refl big in
         let f : holderOf k t ≡ read-holder t (freeing w (holder l t)) = ap (read-holder t) (h t p) in
         ((λ e. f ∙ z .0 e), (λ e. f ∙ z .1 e))
 
-    above : (t : ℕ) → 64 ≤ t → (holderOf l t ≡ some w → holderOf k t ≡ none) × ((holderOf l t ≡ some w → ⊥) → holderOf k t ≡ holderOf l t)
-    above t p = let e = le-ltb t 64 p in (
-      (λ q. ap (λ (b : Bool). cond b (cond (eqb (holder k t) 255) none (some (holder k t))) none) e),
-      (λ q. ap (λ (b : Bool). cond b (cond (eqb (holder k t) 255) none (some (holder k t))) none) e
-          ∙ sym (ap (λ (b : Bool). cond b (cond (eqb (holder l t) 255) none (some (holder l t))) none) e)),
+    above : (t : ℕ) → objects ≤ t → (holderOf l t ≡ some w → holderOf k t ≡ none) × ((holderOf l t ≡ some w → ⊥) → holderOf k t ≡ holderOf l t)
+    above t p = let e = le-ltb t objects p in (
+      (λ q. ap (λ (b : Bool). cond b (cond (eqb (holder k t) nobody) none (some (holder k t))) none) e),
+      (λ q. ap (λ (b : Bool). cond b (cond (eqb (holder k t) nobody) none (some (holder k t))) none) e
+          ∙ sym (ap (λ (b : Bool). cond b (cond (eqb (holder l t) nobody) none (some (holder l t))) none) e)),
     )
 
     both : (t : ℕ) → (holderOf l t ≡ some w → holderOf k t ≡ none) × ((holderOf l t ≡ some w → ⊥) → holderOf k t ≡ holderOf l t)
-    both t = on (lt-or-le t 64) (below t) (above t)
+    both t = on (lt-or-le t objects) (below t) (above t)
 
 -- ---- what the entries write
 pub all-in : (P : Entry → Type 0) (es : List Entry) → All P es → (e : Entry) → In e es → P e
@@ -126,13 +127,13 @@ all-in P (x ∷ es) a e (inl q) = subst P (sym q) (a .0)
 all-in P (x ∷ es) a e (inr i) = all-in P es (a .1) e i
 
 writes-entry : (t : ℕ) (es : List Entry) → writesIn es t ≡ true → (e : Entry) × In e es × (writesTo e t ≡ true)
-unfolding Rattle.replica.specs.Judge.some
+unfolding Rattle.judge.specs.Judge.some
 writes-entry t [] w = absurd (let z : false ≡ true = w in clash (cc))
 writes-entry t (x ∷ es) w = on (or-true (writesTo x t) (writesIn es t) w)
     (λ q. (x, inl refl, q)) (λ q. let r = writes-entry t es q in (r .0, inr (r .1), r .2))
 
 entry-writes : (t : ℕ) (es : List Entry) (e : Entry) → In e es → writesTo e t ≡ true → writesIn es t ≡ true
-unfolding Rattle.replica.specs.Judge.some
+unfolding Rattle.judge.specs.Judge.some
 entry-writes t [] e i w = absurd i
 entry-writes t (x ∷ es) e (inl q) w = ap (λ (b : Bool). b || writesIn es t) (ap (λ (y : Entry). writesTo y t) (sym q) ∙ w)
 entry-writes t (x ∷ es) e (inr i) w = last-true (writesTo x t) (writesIn es t) (entry-writes t es e i w)
@@ -184,7 +185,7 @@ abbrev Taking : ℕ → ℕ → List Entry → ℕ → Type 0
 Taking o t es h = (writesIn es t ≡ true → holderIn o es t h ≡ o) × (writesIn es t ≡ false → holderIn o es t h ≡ h)
 
 holder-in : (o t : ℕ) (es : List Entry) (h : ℕ) → Taking o t es h
-unfolding Rattle.replica.specs.Judge.some holderIn
+unfolding Rattle.judge.specs.Judge.some holderIn
 holder-in o t [] h = ((λ e. absurd (let z : false ≡ true = e in clash (cc))), (λ e. refl))
 holder-in o t (x ∷ es) h = by (writesTo x t) (writesIn es t) refl (holder-in o t es)
   where
@@ -204,10 +205,10 @@ pub holder-left : (o t : ℕ) (es : List Entry) (h : ℕ) → writesIn es t ≡ 
 holder-left o t es h = holder-in o t es h .1
 
 -- the objects of a message's entries
-pub small-object : (kind : ℕ) (es : List Entry) → every (entryOk kind) es ≡ true → (e : Entry) → In e es → e .object < 64
+pub small-object : (kind : ℕ) (es : List Entry) → every (entryOk kind) es ≡ true → (e : Entry) → In e es → e .object < objects
 unfolding entryOk
 small-object kind [] w e i = absurd i
 small-object kind (x ∷ es) w e (inl q) =
     let f = and-true (entryOk kind x) (every (entryOk kind) es) w .0 in
-    subst (λ (y : Entry). y .object < 64) (sym q) (ltb-true (x .object) 64 (and-true (ltb (x .object) 64) _ f .0))
+    subst (λ (y : Entry). y .object < objects) (sym q) (ltb-true (x .object) objects (and-true (ltb (x .object) objects) _ f .0))
 small-object kind (x ∷ es) w e (inr i) = small-object kind es (and-true (entryOk kind x) (every (entryOk kind) es) w .1) e i

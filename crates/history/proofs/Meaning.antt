@@ -10,10 +10,11 @@ use native.Mathlib.Omega.{arith}
 use lib.Dec.{eqb, ltb}
 use lib.ListN.{length, getD}
 use borrow.Author.Tests.{eqb-true, eq-eqb, ltb-true}
+use Rattle.numbers.specs.Sizes.{longestMessage}
 use Rattle.mask.specs.Mask.{contains}
 use Rattle.mask.proofs.Laws.{contains-within}
 use Rattle.mask.proofs.Tests.{T-true, compared}
-use Rattle.wire.specs.Decode.{kindOf, fromOf, toOf, longest, checkOf}
+use Rattle.wire.specs.Decode.{kindOf, fromOf, toOf, checkOf}
 use Rattle.wire.specs.Items.{wordOf}
 use Rattle.replica.specs.Steps.{Answer, silent, says}
 use Rattle.replica.specs.Receive.{deliver}
@@ -23,11 +24,11 @@ use Rattle.coordinator.specs.System.{tree}
 use Rattle.coordinator.specs.State.{idlePhase, votingPhase, finishingPhase}
 use Rattle.arrivals.specs.Receive.{forReplica, receiveOf}
 use Rattle.clauses.proofs.Parts.{on-cond, true-T, by-test}
-use Rattle.clauses.proofs.Messages.{vote-owner}
-use Rattle.clauses.proofs.Laws.{Commits, commit-needs-every-yes}
+use Rattle.clauses_arrive.proofs.Messages.{vote-owner}
+use Rattle.clauses_arrive.proofs.Laws.{Commits, commit-needs-every-yes}
 use Rattle.steps.specs.Station.{Station}
-use Rattle.steps.specs.Step.{Call, begin, openRead, openWrite, setValue, found, reselect, requestCommit, abort, send, delivery, drop, switch, Outcome, full}
-use Rattle.steps.specs.Step.{answered, atReplica, atCoordinator, arriving, deliveryOf, step}
+use Rattle.steps.specs.Step.{Call, begin, openRead, openWrite, setValue, found, reselect, requestCommit, abort, send, delivery, drop, switch}
+use Rattle.steps.specs.Step.{Outcome, full, answered, atReplica, atCoordinator, arriving, deliveryOf, step}
 use Rattle.steps.specs.Run.{Event, eventOf}
 use Rattle.protocol.specs.Table.{In}
 use Rattle.protocol.specs.State.{Tx, tx-path}
@@ -166,7 +167,7 @@ module _ (st : Station) (L : Ledger) (F : Past) (B : Ballots) (g : Good st L F) 
     unfolding deliveryOf arriving atReplica atCoordinator
     committing =
         let n = toOf b in
-        let d = deliver longest (st .images n) n b in
+        let d = deliver longestMessage (st .images n) n b in
         on-cond If (ltb j (length (st .pool))) _ _
         (λ p. on-cond If (eqb (checkOf b) 0) _ _
         (λ q. on-cond If (contains (st .own .on) n) _ _

@@ -9,16 +9,17 @@ use native.Mathlib.Decide.{ℕ-discrete}
 use native.Mathlib.Omega.{arith}
 use lib.Dec.{eqb, ltb}
 use borrow.Author.Tests.{eqb-true, eqb-false, ne-eqb, le-ltb, ltb-true}
+use Rattle.numbers.specs.Sizes.{objects}
 use Rattle.octets.proofs.Laws.{Bytes}
 use Rattle.wire.specs.declared.Entry.{Entry}
 use Rattle.wire.specs.Message.{Message, vote, done}
 use Rattle.wire.specs.Formed.{wordOf}
 use Rattle.wire.specs.Encode.{Fits}
-use Rattle.image.specs.Layout.{owners, serial, state, ownerOf}
+use Rattle.image.specs.Layout.{serial, state, ownerOf}
 use Rattle.image.specs.Valid.{over, held}
 use Rattle.image.proofs.Each.{lt-or-le}
-use Rattle.replica.specs.Standing.{aboveOf, standing, active, entered}
-use Rattle.replica.specs.Judge.{votesNo, noSerials, serialsOf, rivalsOf}
+use Rattle.judge.specs.Standing.{aboveOf, standing, active, entered}
+use Rattle.judge.specs.Judge.{votesNo, noSerials, serialsOf, rivalsOf}
 use Rattle.replica.specs.Steps.{Answer, silent, says, copyTo, voteTo, doneTo, wanted, copyHere, fetchImage, fetchAnswer, askImage, askAnswer, judgedAnswer}
 use Rattle.replica.specs.Steps.{outcomeImage}
 use Rattle.replica.specs.Receive.{Delivered, step}
@@ -217,7 +218,7 @@ module _ (l : List ℕ) (m : Message) (t : Taken l m) where
     unfolding copyHere
     copy-replied k =
         let z = wanted-fits (m .kind) (m .entries) (entries-of m (t .formed)) in
-        let a = ltb-true (e₁ .object) 64 (z .0) in
+        let a = ltb-true (e₁ .object) objects (z .0) in
         let b = ltb-true (e₁ .mode) 2 (z .1) in
         record {
           fits = copy-fits n m (t .fits) (copyHere l e₁) (here-fits l bytes e₁ (omega (arith, a)) (omega (arith, b)));

@@ -10,16 +10,17 @@ use native.Mathlib.Omega.{arith}
 use lib.Dec.{eqb, ltb}
 use lib.ListN.{length, getD}
 use borrow.Author.Tests.{eqb-true, eq-eqb, ne-eqb, lt-ltb, le-ltb, ltb-true, ltb-false}
+use Rattle.numbers.specs.Sizes.{nodes, longestMessage, mostWaiting}
 use Rattle.mask.specs.Mask.{contains, within}
 use Rattle.numbers.specs.Refusal.{firstOf}
 use Rattle.wire.specs.Message.{Message}
 use Rattle.wire.specs.Encode.{encode}
-use Rattle.wire.specs.Decode.{kindOf, toOf, ownerOf, longest, decode, checkOf}
+use Rattle.wire.specs.Decode.{kindOf, toOf, ownerOf, decode, checkOf}
 use Rattle.wire.specs.Items.{rivalOf, wordOf}
 use Rattle.image.specs.Layout.{serial, state}
 use Rattle.image.specs.Valid.{over}
 use Rattle.image.proofs.Sound.{sound-check}
-use Rattle.replica.specs.Standing.{aboveOf, standing}
+use Rattle.judge.specs.Standing.{aboveOf, standing}
 use Rattle.replica.specs.Steps.{Answer, silent, says}
 use Rattle.replica.specs.Receive.{outcomeEarly, wrongTurn, refusals, refusal, Delivered}
 use Rattle.replica.proofs.Delivered.{either-way, cleared, step-fine, entries-of, delivered-is}
@@ -30,8 +31,8 @@ use Rattle.coordinator.specs.System.{System, tree}
 use Rattle.coordinator.specs.State.{awaited}
 use Rattle.arrivals.specs.Receive.{answers, copyFits, copyTaken, withYes, voteTaken, withDone, doneTaken, yieldTaken, delivered, forReplica}
 use Rattle.arrivals.specs.Receive.{receiveRefusals, receiveOf}
-use Rattle.clauses.proofs.Deliveries.{saidYes, saidDone}
-use Rattle.steps.specs.Station.{Station, poolSize, withImage, withRecord}
+use Rattle.clauses_arrive.proofs.Deliveries.{saidYes, saidDone}
+use Rattle.steps.specs.Station.{Station, withImage, withRecord}
 use Rattle.steps.specs.Step.{Call, delivery, Outcome, refusedWith, taken, putting, takenOut, full, answered, atReplica, atCoordinator, arriving, deliveryOf}
 use Rattle.steps.specs.Step.{step}
 use Rattle.protocol.specs.Table.{In}
@@ -92,7 +93,7 @@ module _ (st : Station) (L : Ledger) (F : Past) (w : World st L F) (t : InTurn s
   module _ (order : forReplica (kindOf b) ≡ true) where
     not-early : standing l m ≡ 5 → ⊥
     not-early e =
-        let small = subst (λ (o : ℕ). o < 13) (sym (header b .3)) (nodes-named b well .1) in
+        let small = subst (λ (o : ℕ). o < nodes) (sym (header b .3)) (nodes-named b well .1) in
         let z = early-above l m (w .valid .images n .0 .clauses .owners-sound (m .owner) small .small) e in
         on (heard-of (st .images) (st .records) b (t .waits b in-pool) order)
         (λ q. let s = behind-stands l m q in let y : ⊥ = omega (arith, s, e) in y)
@@ -127,13 +128,13 @@ module _ (st : Station) (L : Ledger) (F : Past) (w : World st L F) (t : InTurn s
         by false false true p q r e = outcome-fits (sym (header b .0) ∙ eqb-true (m .kind) 5 r)
         by false false false p q r e = absurd (no-both e refl)
 
-    pub replica-clear : refusal longest l n b ≡ 0
+    pub replica-clear : refusal longestMessage l n b ≡ 0
     unfolding refusal refusals
     replica-clear =
         let c = sound-check l (w .valid .images n .0) in
         let h = nodes-named b well .0 in
-        zero-first (refusals longest l n b) (
-          ap₂ (λ (x y : ℕ). ltb longest longest || (eqb x 1 || eqb y 1)) c well,
+        zero-first (refusals longestMessage l n b) (
+          ap₂ (λ (x y : ℕ). ltb longestMessage longestMessage || (eqb x 1 || eqb y 1)) c well,
           (
             ap (λ (x : ℕ). eqb x 2) c,
             (
@@ -156,7 +157,7 @@ module _ (st : Station) (L : Ledger) (F : Past) (w : World st L F) (t : InTurn s
         (
           ap (λ (x : ℕ). eqb x 3) well,
           (
-            ap₂ (λ (x y : Bool). not x || not y) (lt-ltb n 13 h) (eq-eqb n n refl),
+            ap₂ (λ (x y : Bool). not x || not y) (lt-ltb n nodes h) (eq-eqb n n refl),
             (e, tt),
           ),
         ),
@@ -179,7 +180,7 @@ answered-number st k kept n i (says a) = by (kept && full st)
     by true = inr (refl, refl, put-some (encode a))
     by false = inl refl
 
-module _ (st : Station) (L : Ledger) (F : Past) (w : World st L F) (t : InTurn st) (room : length (st .pool) ≤ poolSize) (k : ℕ)
+module _ (st : Station) (L : Ledger) (F : Past) (w : World st L F) (t : InTurn st) (room : length (st .pool) ≤ mostWaiting) (k : ℕ)
     (waits : k < length (st .pool)) where
   abbrev b : List ℕ
   b = getD (st .pool) k []
@@ -209,10 +210,10 @@ module _ (st : Station) (L : Ledger) (F : Past) (w : World st L F) (t : InTurn s
   replica-is kept e =
       let l = st .images (toOf b) in
       let z = replica-clear st L F w t b waiting e in
-      let q = cleared longest l (toOf b) b z in
+      let q = cleared longestMessage l (toOf b) b z in
       let f = step-fine (toOf b) l (decode b) (named-of (toOf b) (decode b) (q .node) (q .formed)) (entries-of (decode b) (q .formed)) .1 in
       ap (λ (d : Delivered). cond (eqb (d .number) 0) (answered st k kept (toOf b) (d .image) (d .answer)) (refusedWith (d .number) st))
-      (delivered-is longest l (toOf b) b z)
+      (delivered-is longestMessage l (toOf b) b z)
       ∙ ap (λ (x : Bool). cond x (answered st k kept (toOf b) (made .image) (made .answer)) (refusedWith (made .number) st)) (eq-eqb (made .number) 0 f)
 
   coordinator-number : (kept : Bool) → forReplica (kindOf b) ≡ false → atCoordinator st k kept (toOf b) b .number ≡ 0
@@ -229,13 +230,14 @@ module _ (st : Station) (L : Ledger) (F : Past) (w : World st L F) (t : InTurn s
       (refusedWith (s .number) st) .number)
       (eq-eqb (s .number) 0 z)
 
-  is-full : full st ≡ true → length (st .pool) ≡ poolSize
-  is-full e = let h = ltb-false (length (st .pool)) poolSize (not-true (ltb (length (st .pool)) poolSize) e) in omega (arith, h, room)
+  is-full : full st ≡ true → length (st .pool) ≡ mostWaiting
+  is-full e = let h = ltb-false (length (st .pool)) mostWaiting (not-true (ltb (length (st .pool)) mostWaiting) e) in omega (arith, h, room)
 
   pub waiting-number : (kept : Bool) → (step st (delivery k kept) .number ≡ 0) ⊎ Crowded st k kept
   waiting-number kept = by (contains (st .own .on) (toOf b)) (forReplica (kindOf b)) refl refl
     where
-      by : (up order : Bool) → contains (st .own .on) (toOf b) ≡ up → forReplica (kindOf b) ≡ order → (step st (delivery k kept) .number ≡ 0) ⊎ Crowded st k kept
+      by : (up order : Bool) → contains (st .own .on) (toOf b) ≡ up → forReplica (kindOf b) ≡ order
+          → (step st (delivery k kept) .number ≡ 0) ⊎ Crowded st k kept
       by false order p q = inl (ap (λ (r : Outcome). r .number) (arrives-at kept false order p q))
       by true false p q = inl (ap (λ (r : Outcome). r .number) (arrives-at kept true false p q) ∙ coordinator-number kept q)
       by true true p q =
@@ -265,7 +267,7 @@ module _ (up : ℕ) where
       let g = always-good up cs (a .1) in
       in-turn-next (reached up cs) _ _ (g .world) (g .wide) (always-in-turn cs (a .1)) c
 
-  pub always-room : (cs : List Call) → length (reached up cs .pool) ≤ poolSize
+  pub always-room : (cs : List Call) → length (reached up cs .pool) ≤ mostWaiting
   always-room [] = omega arith
   always-room (c ∷ cs) = room-next (reached up cs) (always-room cs) c
 

@@ -10,10 +10,11 @@ use lib.Dec.{ltb}
 use lib.ListN.{length, getD, set, List·getD-eq-default}
 use lib.Seq.{getD-set-same, getD-set-other}
 use borrow.Author.Tests.{ltb-true, ltb-false, lt-ltb}
+use Rattle.numbers.specs.Sizes.{mostOpen}
 use Rattle.coordinator.specs.declared.Object.{Object}
 use Rattle.coordinator.specs.declared.Coordinator.{Coordinator}
 use Rattle.coordinator.specs.System.{tree}
-use Rattle.coordinator.specs.State.{eight, idlePhase, noObject, placeIn, objectAt, isOpen, ready}
+use Rattle.coordinator.specs.State.{idlePhase, noObject, placeIn, objectAt, isOpen, ready}
 use Rattle.clauses.proofs.Facts.{Meets}
 use Rattle.clauses.proofs.Places.{at, Once, place-open, place-shut, place-at}
 use Rattle.history.specs.Claims.{Shows}
@@ -21,12 +22,12 @@ use Rattle.history.proofs.Sim.{modeOf, contentsOf}
 
 -- the objects of a record, and what its clauses say of them
 pub record Listed (objects : List Object) (count : ℕ) : Type 0 where
-  pub size : length objects ≡ eight
-  pub few : count ≤ eight
+  pub size : length objects ≡ mostOpen
+  pub few : count ≤ mostOpen
   pub once : Once objects count
 
 abbrev pub openIn : List Object → ℕ → ℕ → Bool
-openIn l n t = ltb (placeIn l n t) eight
+openIn l n t = ltb (placeIn l n t) mostOpen
 
 abbrev pub objectIn : List Object → ℕ → ℕ → Object
 objectIn l n t = getD l (placeIn l n t) noObject
@@ -35,7 +36,7 @@ module _ (l : List Object) (n : ℕ) (k : Listed l n) where
   -- an object that stands at a place
   pub stands-open : (i t : ℕ) → i < n → at l i .object ≡ t → openIn l n t ≡ true
   stands-open i t h e =
-      let p = sym (ap (placeIn l n) e) ∙ place-at l n (k .size) (k .few) (k .once) i h in lt-ltb (placeIn l n t) eight (omega (arith, p, k .few))
+      let p = sym (ap (placeIn l n) e) ∙ place-at l n (k .size) (k .few) (k .once) i h in lt-ltb (placeIn l n t) mostOpen (omega (arith, p, k .few))
 
   pub stands-at : (i t : ℕ) → i < n → at l i .object ≡ t → objectIn l n t ≡ at l i
   stands-at i t h e = ap (at l) (sym (ap (placeIn l n) e) ∙ place-at l n (k .size) (k .few) (k .once) i h)
@@ -43,10 +44,10 @@ module _ (l : List Object) (n : ℕ) (k : Listed l n) where
   -- one that is not open
   pub shut-blank : (t : ℕ) → openIn l n t ≡ false → objectIn l n t ≡ noObject
   shut-blank t e =
-      let past : length l ≤ placeIn l n t = omega (arith, ltb-false (placeIn l n t) eight e, k .size) in List·getD-eq-default l noObject past
+      let past : length l ≤ placeIn l n t = omega (arith, ltb-false (placeIn l n t) mostOpen e, k .size) in List·getD-eq-default l noObject past
 
   pub shut-nowhere : (t : ℕ) → openIn l n t ≡ false → (j : ℕ) → j < n → at l j .object ≡ t → ⊥
-  shut-nowhere t e j h = place-shut l n t (ltb-false (placeIn l n t) eight e) (omega (arith, k .size)) j h (omega (arith, k .few, k .size))
+  shut-nowhere t e j h = place-shut l n t (ltb-false (placeIn l n t) mostOpen e) (omega (arith, k .size)) j h (omega (arith, k .few, k .size))
 
 -- a list with x, whose object is t, at place p: below the count where t stands, or at the count
 module _ (l : List Object) (n m p : ℕ) (x : Object) (k : Listed l n) (k' : Listed (set l p x) m) (inside : p < m)
@@ -75,7 +76,7 @@ module _ (l : List Object) (n m p : ℕ) (x : Object) (k : Listed l n) (k' : Lis
 
     as-before : (b : Bool) → openIn l n u ≡ b → (openIn (set l p x) m u ≡ b) × (objectIn (set l p x) m u ≡ objectIn l n u)
     as-before true e =
-        let z = place-open l n u (ltb-true (placeIn l n u) eight e) in
+        let z = place-open l n u (ltb-true (placeIn l n u) mostOpen e) in
         let i = placeIn l n u in
         let q = else i (not-here i (z .0) (z .1 .1)) in
         let f = ap (λ (y : Object). y .object) q ∙ z .1 .1 in
@@ -86,7 +87,7 @@ module _ (l : List Object) (n m p : ℕ) (x : Object) (k : Listed l n) (k' : Lis
         still-shut : (b : Bool) → openIn (set l p x) m u ≡ b → openIn (set l p x) m u ≡ false
         still-shut false g = g
         still-shut true g =
-            let z = place-open (set l p x) m u (ltb-true (placeIn (set l p x) m u) eight g) in
+            let z = place-open (set l p x) m u (ltb-true (placeIn (set l p x) m u) mostOpen g) in
             let j = placeIn (set l p x) m u in
             absurd (by-cases (ℕ-discrete j p)
             (λ q. other (sym (z .1 .1) ∙ ap (λ (y : Object). y .object) (ap (at (set l p x)) q ∙ here)))

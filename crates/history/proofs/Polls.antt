@@ -11,11 +11,12 @@ use native.Mathlib.Omega.{arith}
 use lib.Dec.{T, eqb, ltb}
 use lib.ListN.{length, getD}
 use borrow.Author.Tests.{eqb-true, eqb-false, eq-eqb, ne-eqb, ltb-true}
+use Rattle.numbers.specs.Sizes.{longestMessage}
 use Rattle.mask.specs.Mask.{contains, only, joined, minus, within}
 use Rattle.numbers.specs.Refusal.{firstOf}
 use Rattle.quorum.specs.Nearest.{maskOf}
 use Rattle.wire.specs.Encode.{encode}
-use Rattle.wire.specs.Decode.{kindOf, fromOf, toOf, ownerOf, serialOf, stampOf, longest, checkOf}
+use Rattle.wire.specs.Decode.{kindOf, fromOf, toOf, ownerOf, serialOf, stampOf, checkOf}
 use Rattle.wire.specs.Items.{rivalOf, wordOf}
 use Rattle.replica.specs.Steps.{Answer, silent, says}
 use Rattle.replica.specs.Receive.{deliver}
@@ -36,10 +37,10 @@ use Rattle.clauses.proofs.Facts.{Meets}
 use Rattle.clauses.proofs.Parts.{on-cond, true-T, by-test}
 use Rattle.clauses.proofs.Cases.{either-of}
 use Rattle.clauses.proofs.Sets.{within-none, node-known}
-use Rattle.clauses.proofs.Messages.{Taken, taken-of, vote-owner}
+use Rattle.clauses_arrive.proofs.Messages.{Taken, taken-of, vote-owner}
 use Rattle.clauses.proofs.Quorums.{tree-quorums}
 use Rattle.clauses.proofs.Keep.{request-keeps}
-use Rattle.clauses.proofs.Deliveries.{afterCopy, copiedObject, saidYes, named, saidDone}
+use Rattle.clauses_arrive.proofs.Deliveries.{afterCopy, copiedObject, saidYes, named, saidDone}
 use Rattle.due.specs.Due.{messageDue}
 use Rattle.steps.specs.Station.{Station, blankStation, withRecord, without}
 use Rattle.steps.specs.Step.{Call, begin, openRead, openWrite, setValue, found, reselect, requestCommit, abort, send, delivery, drop, switch, Outcome}
@@ -324,7 +325,7 @@ module _ (st : Station) (L : Ledger) (F : Past) (B : Ballots) (g : Good st L F) 
       replica-counts : forReplica (kindOf b) ≡ true → Next call (atReplica st j kept (toOf b) b)
       unfolding atReplica
       replica-counts e =
-          let d = deliver longest (st .images (toOf b)) (toOf b) b in
+          let d = deliver longestMessage (st .images (toOf b)) (toOf b) b in
           on-cond (Next call) (eqb (d .number) 0) _ _ (λ f. answered-counts (replica-kind e) (toOf b) (d .image) (d .answer))
           (λ f. refused-counts call (d .number) (eqb-false (d .number) 0 f))
 

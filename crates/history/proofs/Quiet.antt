@@ -9,13 +9,14 @@ use native.Mathlib.Decide.{ℕ-discrete}
 use native.Mathlib.Omega.{arith}
 use lib.ListN.{length, getD, set, replicate}
 use lib.Seq.{getD-set-same, getD-set-other, set-out}
+use Rattle.numbers.specs.Sizes.{mostOpen}
 use Rattle.image.proofs.Each.{lt-or-le}
 use Rattle.mask.specs.Mask.{contains, only, joined}
 use Rattle.wire.specs.declared.Entry.{Entry}
 use Rattle.coordinator.specs.declared.Object.{Object}
 use Rattle.coordinator.specs.declared.Coordinator.{Coordinator}
 use Rattle.coordinator.specs.declared.BeginWith.{BeginWith}
-use Rattle.coordinator.specs.State.{eight, votingPhase, noObject, placeOf, objectAt, idleAfter}
+use Rattle.coordinator.specs.State.{votingPhase, noObject, placeOf, objectAt, idleAfter}
 use Rattle.coordinator.specs.Calls.{begun, opened, fresh, renewed, withNew, reselected, withObjects, withPhase}
 use Rattle.arrivals.specs.Receive.{better, withCopy}
 use Rattle.protocol.specs.Table.{In}
@@ -70,7 +71,7 @@ module _ (h : History ℕ) (v : Votes) (m : List (Copy ℕ)) (n : ℕ) (c : Coor
     when-aborted = λ e f. absurd (let z : ⊥ = omega arith in z);
     asked = λ e. absurd (e refl);
     agreed = λ i e. absurd (no-bit i e);
-    found = found-blank m eight;
+    found = found-blank m mostOpen;
   }
 
   -- idle again: only what is lasting
@@ -84,7 +85,7 @@ module _ (h : History ℕ) (v : Votes) (m : List (Copy ℕ)) (n : ℕ) (c : Coor
     when-aborted = λ e f. absurd (let z : ⊥ = omega arith in z);
     asked = λ e. absurd (e refl);
     agreed = λ i e. absurd (no-bit i e);
-    found = found-blank m eight;
+    found = found-blank m mostOpen;
   }
 
   -- other objects, before votes are asked for

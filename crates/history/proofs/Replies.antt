@@ -10,6 +10,7 @@ use native.Mathlib.Omega.{arith}
 use lib.Dec.{eqb, lit<}
 use lib.ListN.{getD}
 use borrow.Author.Tests.{eqb-true, eq-eqb, ne-eqb, ltb-true}
+use Rattle.numbers.specs.Sizes.{nodes, objects}
 use Rattle.octets.proofs.Laws.{Bytes}
 use Rattle.wire.specs.declared.Entry.{Entry}
 use Rattle.wire.specs.Message.{Message}
@@ -18,8 +19,8 @@ use Rattle.wire.specs.Encode.{encode, Fits}
 use Rattle.wire.specs.Decode.{fromOf}
 use Rattle.wire.specs.Items.{noEntry}
 use Rattle.image.specs.Layout.{version, value}
-use Rattle.replica.specs.Standing.{standing, active, entered}
-use Rattle.replica.specs.Judge.{votesNo, noSerials, serialsOf, rivalsOf}
+use Rattle.judge.specs.Standing.{standing, active, entered}
+use Rattle.judge.specs.Judge.{votesNo, noSerials, serialsOf, rivalsOf}
 use Rattle.replica.specs.Steps.{Answer, silent, says, copyTo, voteTo, doneTo, wanted, copyHere, fetchImage, fetchAnswer, askImage, askAnswer, judgedAnswer}
 use Rattle.replica.specs.Steps.{outcomeImage, outcomeAnswer}
 use Rattle.replica.specs.Receive.{outcomeEarly}
@@ -87,7 +88,7 @@ then a f = record {
   told = f (a .after) (a .log-after) (a .told);
 }
 
-module _ (st : Station) (σ : State ℕ) (log : List Tx) (sim : Sim st σ log) (n : ℕ) (small : n < 13) (m : Message) (k : Taken (st .images n) m)
+module _ (st : Station) (σ : State ℕ) (log : List Tx) (sim : Sim st σ log) (n : ℕ) (small : n < nodes) (m : Message) (k : Taken (st .images n) m)
     (small-bytes : Bytes (st .images n)) where
   abbrev l : List ℕ
   l = st .images n
@@ -102,8 +103,8 @@ module _ (st : Station) (σ : State ℕ) (log : List Tx) (sim : Sim st σ log) (
   abbrev e₁ : Entry
   e₁ = wanted m
 
-  wanted-small : (e₁ .object < 64) × (e₁ .mode < 2)
-  wanted-small = let f = wanted-fits (m .kind) (m .entries) (entries-of m (k .formed)) in (ltb-true _ 64 (f .0), ltb-true _ 2 (f .1))
+  wanted-small : (e₁ .object < objects) × (e₁ .mode < 2)
+  wanted-small = let f = wanted-fits (m .kind) (m .entries) (entries-of m (k .formed)) in (ltb-true _ objects (f .0), ltb-true _ 2 (f .1))
 
   copy-said : (τ : State ℕ) (l' : List Tx) → l' ≡ log → In (record { object = e₁ .object; version = version l (e₁ .object); value = value l (e₁ .object) })
       (τ .sent)

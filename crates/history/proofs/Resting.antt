@@ -5,6 +5,7 @@ use mathlib.Core.Bool.{true}
 use mathlib.Core.List.{List}
 use Prim.Native.Nat.{ℕ, _<_}
 use native.Mathlib.Decide.{ℕ-discrete}
+use Rattle.numbers.specs.Sizes.{nodes}
 use Rattle.mask.specs.Mask.{contains}
 use Rattle.quorum.specs.declared.Kind.the-variants.{Read}
 use Rattle.quorum.specs.Quorum.{isQuorum}
@@ -29,7 +30,7 @@ module _ (st : Station) (L : Ledger) (F : Past) (w : World st L F) (t : InTurn s
   -- no node has a transaction that is not over: its owner would not be idle
   all-over : (n o : ℕ) → state (st .images n) o ≡ over
   all-over n o = by-cases (ℕ-discrete (state (st .images n) o) over) (λ e. e)
-      (λ e. on (lt-or-le o 13) (λ h. absurd (t .not-over n o e .begun (rest o h))) (λ h. of-out (stateField shape) (st .images n) o h))
+      (λ e. on (lt-or-le o nodes) (λ h. absurd (t .not-over n o e .begun (rest o h))) (λ h. of-out (stateField shape) (st .images n) o h))
 
   pub rest-applied : AllApplied (w .state .votes) (w .state .history)
   rest-applied x n p q =

@@ -8,11 +8,12 @@ use lib.Dec.{eqb, ltb}
 use lib.ListN.{length, getD, take, length-append, length-drop}
 use lib.Seq.{length-take-le}
 use borrow.Author.Tests.{eqb-true, eqb-false, ltb-true}
+use Rattle.numbers.specs.Sizes.{longestMessage, mostWaiting}
 use Rattle.mask.specs.Mask.{contains}
 use Rattle.numbers.specs.Refusal.{firstOf}
 use Rattle.wire.specs.Formed.{wellFormed}
 use Rattle.wire.specs.Encode.{encode}
-use Rattle.wire.specs.Decode.{kindOf, toOf, longest, checkOf}
+use Rattle.wire.specs.Decode.{kindOf, toOf, checkOf}
 use Rattle.replica.specs.Steps.{Answer, silent, says}
 use Rattle.replica.specs.Receive.{deliver}
 use Rattle.replica.proofs.Delivered.{either-way}
@@ -23,7 +24,7 @@ use Rattle.arrivals.specs.Receive.{forReplica, receiveOf}
 use Rattle.due.specs.Kind.{dueKind, dueRefusals}
 use Rattle.clauses.proofs.Parts.{on-cond}
 use Rattle.due.specs.Due.{messageDue}
-use Rattle.steps.specs.Station.{Station, poolSize, without}
+use Rattle.steps.specs.Station.{Station, without}
 use Rattle.steps.specs.Step.{Call, begin, openRead, openWrite, setValue, found, reselect, requestCommit, abort, send, delivery, drop, switch, step, Outcome}
 use Rattle.steps.specs.Step.{refusedWith, taken, putting, full, whenOff, sendNumber, sendOf, hosted, answered, atReplica, atCoordinator, arriving, deliveryOf}
 use Rattle.steps.specs.Step.{dropOf, switchOf}
@@ -38,27 +39,27 @@ length-without k l h =
     let d = length-drop (k + 1) l in
     omega (arith, a, b, d, h)
 
-module _ (st : Station) (room : length (st .pool) ≤ poolSize) where
+module _ (st : Station) (room : length (st .pool) ≤ mostWaiting) where
   abbrev Room : Outcome → Type 0
-  Room r = length (r .station .pool) ≤ poolSize
+  Room r = length (r .station .pool) ≤ mostWaiting
 
   -- one message more
-  more : (l : List (List ℕ)) (b : List ℕ) → length l < poolSize → length (l ++ (b ∷ [])) ≤ poolSize
+  more : (l : List (List ℕ)) (b : List ℕ) → length l < mostWaiting → length (l ++ (b ∷ [])) ≤ mostWaiting
   more l b h = let a = length-append l (b ∷ []) in omega (arith, a, h)
 
-  not-full : full st ≡ false → length (st .pool) < poolSize
-  not-full e = ltb-true (length (st .pool)) poolSize (not-false _ e)
+  not-full : full st ≡ false → length (st .pool) < mostWaiting
+  not-full e = ltb-true (length (st .pool)) mostWaiting (not-false _ e)
 
   hosted-room : (n : ℕ) (s : Step) → Room (hosted st n s)
   unfolding hosted
   hosted-room n s = either-way Room (contains (st .own .on) n) _ _ (either-way Room (eqb (s .number) 0) _ _ room room) room
 
   module _ (k : ℕ) (waits : k < length (st .pool)) where
-    taken-less : (kept : Bool) → length (cond kept (st .pool) (without k (st .pool))) ≤ poolSize
+    taken-less : (kept : Bool) → length (cond kept (st .pool) (without k (st .pool))) ≤ mostWaiting
     taken-less true = room
     taken-less false = let a = length-without k (st .pool) waits in omega (arith, a, room)
 
-    put-less : (kept : Bool) (b : List ℕ) → (kept && full st) ≡ false → length (cond kept (st .pool) (without k (st .pool)) ++ (b ∷ [])) ≤ poolSize
+    put-less : (kept : Bool) (b : List ℕ) → (kept && full st) ≡ false → length (cond kept (st .pool) (without k (st .pool)) ++ (b ∷ [])) ≤ mostWaiting
     put-less true b e = more (st .pool) b (not-full e)
     put-less false b e = more (without k (st .pool)) b (let a = length-without k (st .pool) waits in omega (arith, a, room))
 
@@ -71,7 +72,7 @@ module _ (st : Station) (room : length (st .pool) ≤ poolSize) where
     unfolding arriving atReplica atCoordinator
     arriving-room kept b = either-way Room (contains (st .own .on) (toOf b)) _ _
         (either-way Room (forReplica (kindOf b)) _ _
-        (let d = deliver longest (st .images (toOf b)) (toOf b) b in
+        (let d = deliver longestMessage (st .images (toOf b)) (toOf b) b in
         either-way Room (eqb (d .number) 0) _ _ (answered-room kept (toOf b) (d .image) (d .answer)) room)
         (either-way Room (eqb (receiveOf tree (st .records (toOf b)) (toOf b) b .number) 0) _ _ (taken-less kept) room))
         (taken-less kept)
@@ -109,7 +110,7 @@ module _ (st : Station) (room : length (st .pool) ≤ poolSize) where
       (send-by (contains (st .own .on) n) (eqb refused 0) (not (eqb kind 0) && not (wellFormed a)) refused refl (eqb-true number 0 e)))) room)
       (λ e. room)
 
-  pub room-next : (call : Call) → length (step st call .station .pool) ≤ poolSize
+  pub room-next : (call : Call) → length (step st call .station .pool) ≤ mostWaiting
   unfolding step dropOf switchOf
   room-next (begin n a) = hosted-room n _
   room-next (openRead n x) = hosted-room n _

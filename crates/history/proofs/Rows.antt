@@ -9,6 +9,7 @@ use Prim.Native.Nat.{ℕ, suc}
 use native.Mathlib.Decide.{ℕ-discrete}
 use lib.Dec.{eqb, ltb}
 use borrow.Author.Tests.{eqb-true, eqb-false}
+use Rattle.numbers.specs.Sizes.{nobody, objects}
 use Rattle.image.specs.Layout.{value, version, holder, serial, state}
 use Rattle.steps.specs.Station.{Station, putAt, withImage}
 use Rattle.protocol.specs.Table.{put2, putRow}
@@ -74,7 +75,7 @@ pub record FreedHolders (l k : List ℕ) (w : ℕ) : Type 0 where
   pub other : (t : ℕ) → (holderOf l t ≡ some w → ⊥) → holderOf k t ≡ holderOf l t
 
 holder-as : (l k : List ℕ) → SameHolders l k → (t : ℕ) → holderOf k t ≡ holderOf l t
-holder-as l k same t = ap (λ (h : ℕ). cond (ltb t 64) (cond (eqb h 255) none (some h)) none) (same t)
+holder-as l k same t = ap (λ (h : ℕ). cond (ltb t objects) (cond (eqb h nobody) none (some h)) none) (same t)
 
 -- ---- the transitions
 module _ (st : Station) (σ : State ℕ) (l : List Tx) (sim : Sim st σ l) (n : ℕ) (k : List ℕ) where

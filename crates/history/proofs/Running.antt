@@ -10,8 +10,9 @@ use native.Mathlib.Omega.{arith}
 use lib.Dec.{eqb, ltb}
 use lib.ListN.{length, getD}
 use borrow.Author.Tests.{eqb-true, eqb-false}
+use Rattle.numbers.specs.Sizes.{objects, longestMessage}
 use Rattle.mask.specs.Mask.{contains}
-use Rattle.wire.specs.Decode.{kindOf, toOf, ownerOf, serialOf, longest, checkOf}
+use Rattle.wire.specs.Decode.{kindOf, toOf, ownerOf, serialOf, checkOf}
 use Rattle.image.proofs.Each.{lt-or-le}
 use Rattle.replica.specs.Steps.{Answer, silent, says}
 use Rattle.replica.specs.Receive.{deliver}
@@ -23,10 +24,10 @@ use Rattle.coordinator.specs.State.{openPhase, votingPhase, stepOf, ready}
 use Rattle.coordinator.specs.Calls.{openRefusals, openOf, setRefusals, setOf}
 use Rattle.arrivals.specs.Receive.{forReplica, receiveOf}
 use Rattle.coordinator.proofs.Refusals.{clear}
-use Rattle.clauses.proofs.Messages.{vote-owner}
-use Rattle.clauses.proofs.Deliveries.{copiedObject, receive-cases}
+use Rattle.clauses_arrive.proofs.Messages.{vote-owner}
+use Rattle.clauses_arrive.proofs.Deliveries.{copiedObject, receive-cases}
 use Rattle.replay.specs.Digest.{Digest, largest}
-use Rattle.replay.specs.Layout.{objects, size}
+use Rattle.replay.specs.Layout.{size}
 use Rattle.replay.specs.Sheet.{valueOf}
 use Rattle.replay.proofs.Laws.{Reads, owner-below, blank-law, begun-law, opened-law, valued-law, put-law, committed-law, value-reads}
 use Rattle.steps.specs.Station.{Station, blankStation}
@@ -161,7 +162,7 @@ module _ (st : Station) (k : ℕ) (kept : Bool) where
 
   at-replica : (n : ℕ) → Told (atReplica st k kept n b)
   unfolding atReplica
-  at-replica n = either-way Told (eqb (deliver longest (st .images n) n b .number) 0) _ _ (answered-told n _ _) mute
+  at-replica n = either-way Told (eqb (deliver longestMessage (st .images n) n b .number) 0) _ _ (answered-told n _ _) mute
 
   pub commit-of : Told (deliveryOf st k kept)
   unfolding deliveryOf arriving

@@ -9,6 +9,7 @@ use native.Mathlib.Omega.{arith}
 use lib.Dec.{eqb, ltb, lit<}
 use lib.ListN.{getD}
 use borrow.Author.Tests.{eqb-true, eqb-false, ltb-true}
+use Rattle.numbers.specs.Sizes.{nodes, objects}
 use Rattle.mask.specs.Mask.{contains}
 use Rattle.octets.proofs.Laws.{Bytes}
 use Rattle.numbers.specs.Refusal.{refuse, firstOf}
@@ -17,7 +18,7 @@ use Rattle.wire.specs.Message.{Message}
 use Rattle.wire.specs.Formed.{wordOf, wellFormed}
 use Rattle.wire.specs.Decode.{decode}
 use Rattle.wire.specs.Items.{noEntry}
-use Rattle.wire.specs.Write.{sent}
+use Rattle.letters.specs.Write.{sent}
 use Rattle.wire.specs.Encode.{encode, All, EntryFits, Fits}
 use Rattle.coordinator.specs.declared.Object.{Object}
 use Rattle.coordinator.specs.declared.Coordinator.{Coordinator}
@@ -118,7 +119,7 @@ module _ (c : Coordinator) (m : Meets tree c) (f : Rattle.clauses.proofs.Fits.F
 
   entries-fit : All EntryFits (entriesOf c)
   unfolding entriesOf
-  entries-fit = every-entry tree c m EntryFits entry-fits 64
+  entries-fit = every-entry tree c m EntryFits entry-fits objects
 
   serial-fits : (c .serial < 256 ^ 4) × (c .timestamp < 256 ^ 4)
   serial-fits = (omega (arith, f .widths .serial-32), omega (arith, f .widths .timestamp-32))
@@ -152,7 +153,7 @@ module _ (c : Coordinator) (m : Meets tree c) (f : Rattle.clauses.proofs.Fits.F
 
 -- ---- what is due
 module _ (st : Station) (L : Ledger) (F : Past) (w : World st L F) (n : ℕ) (f : Rattle.clauses.proofs.Fits.Fits (st .records n)) (to object : ℕ)
-    (known : to < 13) where
+    (known : to < nodes) where
   abbrev c : Coordinator
   c = st .records n
 
@@ -292,9 +293,9 @@ module _ (st : Station) (L : Ledger) (F : Past) (w : World st L F) (n to object 
   allowed true e = first-of number (not (eqb kind 0) && not (wellFormed a)) (full st) e
   allowed false e = absurd (off-number number e)
 
-  known-to : number ≡ 0 → to < 13
+  known-to : number ≡ 0 → to < nodes
   unfolding dueRefusals
-  known-to e = let k = clear (dueRefusals d n to object) tt e in ltb-true to 13 (not-false (ltb to 13) (or-neither (noNode n) (noNode to) (k .0) .1))
+  known-to e = let k = clear (dueRefusals d n to object) tt e in ltb-true to nodes (not-false (ltb to nodes) (or-neither (noNode n) (noNode to) (k .0) .1))
 
   well-formed : (x y : Bool) → (not x && not y) ≡ false → x ≡ false → y ≡ true
   well-formed true y e q = absurd (let z : true ≡ false = q in clash (cc))

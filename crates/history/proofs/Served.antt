@@ -9,10 +9,11 @@ use native.Mathlib.Omega.{arith}
 use lib.Dec.{eqb, ltb}
 use lib.ListN.{length, getD}
 use borrow.Author.Tests.{eqb-true, eqb-false, eq-eqb, ltb-true}
+use Rattle.numbers.specs.Sizes.{nodes, longestMessage}
 use Rattle.mask.specs.Mask.{contains, only, joined, minus}
 use Rattle.wire.specs.Message.{Message}
 use Rattle.wire.specs.Encode.{encode}
-use Rattle.wire.specs.Decode.{kindOf, toOf, longest, decode, checkOf}
+use Rattle.wire.specs.Decode.{kindOf, toOf, decode, checkOf}
 use Rattle.replica.specs.Steps.{Answer, silent, says, fetchImage, fetchAnswer, askImage, askAnswer, outcomeImage, outcomeAnswer}
 use Rattle.replica.specs.Receive.{refusal, gives, step, Delivered, deliver, wrongTurn}
 use Rattle.replica.proofs.Delivered.{cleared, step-fine, entries-of}
@@ -81,7 +82,7 @@ module _ (st : Station) (L : Ledger) (F : Past) (w : World st L F) (k : ℕ) (ke
     abbrev l : List ℕ
     l = st .images n
 
-    module _ (small : n < 13) (t : Taken l m) where
+    module _ (small : n < nodes) (t : Taken l m) where
       tells : Tells (w .state .history) (w .state .votes) (w .state .sent) b
       tells = w .sim .waits b in-pool
 
@@ -128,27 +129,27 @@ module _ (st : Station) (L : Ledger) (F : Past) (w : World st L F) (k : ℕ) (ke
               (sym (as-told (some (encode c)))) (answer-world st L F w n b pool sub t c a)
 
     -- refused, or the step
-    by-refusal : (g : Bool) → eqb (refusal longest l n b) 0 ≡ g
+    by-refusal : (g : Bool) → eqb (refusal longestMessage l n b) 0 ≡ g
         → Next st L F w (delivery k kept)
-        (cond (eqb (cond {A = Delivered} g (step l n m) (record { number = refusal longest l n b; image = l; answer = silent }) .number) 0)
-        (answered st k kept n (cond {A = Delivered} g (step l n m) (record { number = refusal longest l n b; image = l; answer = silent }) .image)
-        (cond {A = Delivered} g (step l n m) (record { number = refusal longest l n b; image = l; answer = silent }) .answer))
-        (refusedWith (cond {A = Delivered} g (step l n m) (record { number = refusal longest l n b; image = l; answer = silent }) .number) st))
+        (cond (eqb (cond {A = Delivered} g (step l n m) (record { number = refusal longestMessage l n b; image = l; answer = silent }) .number) 0)
+        (answered st k kept n (cond {A = Delivered} g (step l n m) (record { number = refusal longestMessage l n b; image = l; answer = silent }) .image)
+        (cond {A = Delivered} g (step l n m) (record { number = refusal longestMessage l n b; image = l; answer = silent }) .answer))
+        (refusedWith (cond {A = Delivered} g (step l n m) (record { number = refusal longestMessage l n b; image = l; answer = silent }) .number) st))
     by-refusal true e =
-        let z = eqb-true (refusal longest l n b) 0 e in
-        let q = cleared longest l n b z in
-        let t = taken longest l n b (w .valid .messages b in-pool) z in
+        let z = eqb-true (refusal longestMessage l n b) 0 e in
+        let q = cleared longestMessage l n b z in
+        let t = taken longestMessage l n b (w .valid .messages b in-pool) z in
         let f = step-fine n l m (named-of n m (q .node) (q .formed)) (entries-of m (q .formed)) .1 in
         subst (λ (g : Bool). Next st L F w (delivery k kept)
         (cond g (answered st k kept n (step l n m .image) (step l n m .answer)) (refusedWith (step l n m .number) st)))
         (sym (eq-eqb (step l n m .number) 0 f)) (answered-next (q .node) t (step l n m .answer) (reply (q .node) t))
     by-refusal false e =
-        subst (λ (g : Bool). Next st L F w (delivery k kept) (cond g (answered st k kept n l silent) (refusedWith (refusal longest l n b) st))) (sym e)
-        (refused-next st L F w (delivery k kept) (refusal longest l n b) (eqb-false (refusal longest l n b) 0 e))
+        subst (λ (g : Bool). Next st L F w (delivery k kept) (cond g (answered st k kept n l silent) (refusedWith (refusal longestMessage l n b) st))) (sym e)
+        (refused-next st L F w (delivery k kept) (refusal longestMessage l n b) (eqb-false (refusal longestMessage l n b) 0 e))
 
     pub replica-next : Next st L F w (delivery k kept) (atReplica st k kept n b)
     unfolding atReplica deliver
-    replica-next = by-refusal (eqb (refusal longest l n b) 0) refl
+    replica-next = by-refusal (eqb (refusal longestMessage l n b) 0) refl
 
   -- ---- where it arrives; a node that is off does nothing
   off-taken : Next st L F w (delivery k kept) (record { number = 0; answer = 0; put = none; station = takenOut st k kept })

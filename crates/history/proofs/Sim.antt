@@ -9,13 +9,13 @@ use Prim.Native.Nat.{ℕ, zero, suc, _<_}
 use native.Mathlib.Omega.{arith}
 use lib.Dec.{eqb, ltb}
 use lib.ListN.{getD}
+use Rattle.numbers.specs.Sizes.{nobody, objects}
 use Rattle.mask.specs.Mask.{contains}
 use Rattle.wire.specs.declared.Entry.{Entry}
 use Rattle.wire.specs.Message.{copy, ask, vote, outcome}
 use Rattle.wire.specs.Decode.{kindOf, fromOf, decode, checkOf}
 use Rattle.wire.specs.Items.{entryOf, wordOf}
 use Rattle.image.specs.Layout.{value, version, holder, serial, state}
-use Rattle.image.specs.Valid.{nobody}
 use Rattle.coordinator.specs.declared.Object.{Object}
 use Rattle.coordinator.specs.declared.Coordinator.{Coordinator}
 use Rattle.coordinator.specs.State.{openPhase, votingPhase, finishingPhase, noObject, objectAt, isOpen}
@@ -37,7 +37,7 @@ stateOf (suc (suc zero)) = held
 stateOf (suc (suc (suc n))) = refused
 
 abbrev pub holderOf : List ℕ → ℕ → Option ℕ
-holderOf l t = cond (ltb t 64) (cond (eqb (holder l t) nobody) none (some (holder l t))) none
+holderOf l t = cond (ltb t objects) (cond (eqb (holder l t) nobody) none (some (holder l t))) none
 
 abbrev pub holders : Station → HolderTable
 holders st n t = holderOf (st .images n) t

@@ -10,15 +10,16 @@ use native.Mathlib.Omega.{arith}
 use lib.Dec.{eqb, ltb}
 use lib.ListN.{length, getD}
 use borrow.Author.Tests.{ltb-true}
+use Rattle.numbers.specs.Sizes.{longestMessage}
 use Rattle.mask.specs.Mask.{contains, joined}
 use Rattle.quorum.specs.Nearest.{maskOf}
 use Rattle.octets.proofs.Laws.{get-small}
 use Rattle.wire.specs.Message.{Message}
 use Rattle.wire.specs.Encode.{encode}
-use Rattle.wire.specs.Decode.{kindOf, toOf, ownerOf, serialOf, stampOf, longest, checkOf, decode}
-use Rattle.wire.specs.Write.{sent}
-use Rattle.replica.specs.Standing.{standing, active, entered}
-use Rattle.replica.specs.Judge.{rivalsOf, votesNo, noSerials, serialsOf}
+use Rattle.wire.specs.Decode.{kindOf, toOf, ownerOf, serialOf, stampOf, checkOf, decode}
+use Rattle.letters.specs.Write.{sent}
+use Rattle.judge.specs.Standing.{standing, active, entered}
+use Rattle.judge.specs.Judge.{rivalsOf, votesNo, noSerials, serialsOf}
 use Rattle.replica.specs.Steps.{Answer, silent, says, copyTo, voteTo, doneTo, wanted, copyHere, fetchAnswer, judgedAnswer, askAnswer, outcomeImage}
 use Rattle.replica.specs.Receive.{refusal, gives, step, Delivered, deliver}
 use Rattle.replica.proofs.Delivered.{either-way}
@@ -33,7 +34,8 @@ use Rattle.arrivals.specs.Receive.{forReplica, receiveOf}
 use Rattle.due.specs.Kind.{dueKind}
 use Rattle.coordinator.proofs.Theorems.{found-leaves}
 use Rattle.clauses.proofs.Cases.{step-keeps}
-use Rattle.clauses.proofs.Deliveries.{Endings, abort-cases, receive-cases}
+use Rattle.clauses.proofs.Cases.{Endings, abort-cases}
+use Rattle.clauses_arrive.proofs.Deliveries.{receive-cases}
 use Rattle.due.specs.Due.{entriesOf, fetchTo, askTo, outcomeTo, yieldTo, messageDue}
 use Rattle.steps.specs.Station.{Own, Station, blankStation, putAt, without}
 use Rattle.steps.specs.Step.{Call, begin, openRead, openWrite, setValue, found, reselect, requestCommit, abort, send, delivery, drop, switch, Outcome}
@@ -160,10 +162,10 @@ step-echoes l n m =
     (either-way (Echoes m) (eqb (standing l m) 3) no silent (refl, (refl, refl)) tt)))
     (either-way D (eqb (m .kind) 5) (gives (outcomeImage l m) (says (doneTo n m))) (gives l silent) (refl, (refl, refl)) tt))
 
-deliver-echoes : (l : List ℕ) (n : ℕ) (b : List ℕ) → Echoes (decode b) (deliver longest l n b .answer)
+deliver-echoes : (l : List ℕ) (n : ℕ) (b : List ℕ) → Echoes (decode b) (deliver longestMessage l n b .answer)
 unfolding deliver
-deliver-echoes l n b = either-way (λ (d : Delivered). Echoes (decode b) (d .answer)) (eqb (refusal longest l n b) 0) (step l n (decode b))
-    (record { number = refusal longest l n b; image = l; answer = silent }) (step-echoes l n (decode b)) tt
+deliver-echoes l n b = either-way (λ (d : Delivered). Echoes (decode b) (d .answer)) (eqb (refusal longestMessage l n b) 0) (step l n (decode b))
+    (record { number = refusal longestMessage l n b; image = l; answer = silent }) (step-echoes l n (decode b)) tt
 
 -- ---- one step
 module _ (st : Station) (s : Stamped st) (v : Valid st) (w : Wide st) where
@@ -249,7 +251,7 @@ module _ (st : Station) (s : Stamped st) (v : Valid st) (w : Wide st) where
     unfolding arriving atReplica atCoordinator
     arriving-stamped =
         let n = toOf b in
-        let d = deliver longest (st .images n) n b in
+        let d = deliver longestMessage (st .images n) n b in
         either-way (λ (r : Outcome). Stamped (r .station)) (contains (st .own .on) n) _ _
         (either-way (λ (r : Outcome). Stamped (r .station)) (forReplica (kindOf b)) _ _
         (either-way (λ (r : Outcome). Stamped (r .station)) (eqb (d .number) 0) _ _

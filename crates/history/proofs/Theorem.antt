@@ -5,12 +5,13 @@ use mathlib.Core.Option.{none}
 use Prim.Native.Nat.{ℕ}
 use native.Mathlib.Omega.{arith}
 use borrow.Author.Tests.{lt-ltb, le-ltb}
+use Rattle.numbers.specs.Sizes.{objects, mostOpen}
 use Rattle.image.specs.Layout.{shape, versionField, valueField, serialField, stateField}
 use Rattle.image.specs.Blank.{blankAs}
 use Rattle.image.proofs.Blanks.{bytes-blank, blank-zero, blank-holder, blank-sound}
 use Rattle.image.proofs.Each.{lt-or-le}
 use Rattle.coordinator.specs.System.{tree}
-use Rattle.coordinator.specs.State.{eight, blankRecord, idleAfter}
+use Rattle.coordinator.specs.State.{blankRecord, idleAfter}
 use Rattle.clauses.proofs.Keep.{blank-meets}
 use Rattle.steps.specs.Station.{Station, blankStation}
 use Rattle.steps.specs.Step.{Call, begin, openRead, openWrite, setValue, found, reselect, requestCommit, abort, send, delivery, drop, switch, step}
@@ -95,7 +96,7 @@ abbrev β : State ℕ
 β = blankState rules
 
 blank-row : (t : ℕ) → holderOf (blankAs shape) t ≡ none
-blank-row t = on (lt-or-le t 64) (λ h. rw (lt-ltb t 64 h, blank-holder t h)) (λ h. rw (le-ltb t 64 h))
+blank-row t = on (lt-or-le t objects) (λ h. rw (lt-ltb t objects h, blank-holder t h)) (λ h. rw (le-ltb t objects h))
 
 blank-owner : (n : ℕ) → Owner (β .history) (β .votes) (β .sent) n blankRecord
 unfolding idleAfter
@@ -107,7 +108,7 @@ blank-owner n = record {
   when-aborted = λ e f. absurd (let z : ⊥ = omega arith in z);
   asked = λ e. absurd (e refl);
   agreed = λ m e. absurd (no-bit m e);
-  found = found-blank [] eight;
+  found = found-blank [] mostOpen;
 }
 
 blank-sim : (up : ℕ) → Sim (blankStation up) β []

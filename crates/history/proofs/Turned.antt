@@ -10,13 +10,14 @@ use native.Mathlib.Omega.{arith}
 use lib.Dec.{eqb, ltb}
 use lib.ListN.{length, getD}
 use borrow.Author.Tests.{eqb-true, eq-eqb, ne-eqb, ltb-true}
+use Rattle.numbers.specs.Sizes.{nodes, objects, mostOpen, longestMessage}
 use Rattle.mask.specs.Mask.{contains, within}
 use Rattle.numbers.specs.Refusal.{firstOf}
 use Rattle.wire.specs.Message.{Message}
 use Rattle.wire.specs.Formed.{wordOf}
-use Rattle.wire.specs.Write.{sent}
+use Rattle.letters.specs.Write.{sent}
 use Rattle.wire.specs.Encode.{encode, Fits}
-use Rattle.wire.specs.Decode.{kindOf, toOf, ownerOf, serialOf, longest, checkOf, decode}
+use Rattle.wire.specs.Decode.{kindOf, toOf, ownerOf, serialOf, checkOf, decode}
 use Rattle.replica.specs.Steps.{Answer, silent, says}
 use Rattle.replica.specs.Receive.{refusal, step, Delivered}
 use Rattle.replica.proofs.Delivered.{either-way, or-neither, refused-is, delivered-is}
@@ -24,7 +25,7 @@ use Rattle.replica.proofs.Taken.{Taken, taken}
 use Rattle.coordinator.specs.declared.Coordinator.{Coordinator}
 use Rattle.coordinator.specs.declared.Step.{Step}
 use Rattle.coordinator.specs.System.{tree}
-use Rattle.coordinator.specs.State.{eight, openPhase, votingPhase, finishingPhase, placeOf, objectAt, isOpen, awaited, ready}
+use Rattle.coordinator.specs.State.{openPhase, votingPhase, finishingPhase, placeOf, objectAt, isOpen, awaited, ready}
 use Rattle.coordinator.specs.Calls.{noNode}
 use Rattle.arrivals.specs.Receive.{forReplica, receiveOf}
 use Rattle.due.specs.Kind.{dueKind, openDue, votingDue, finishingDue, dueRefusals}
@@ -99,17 +100,17 @@ module _ (st : Station) (t : InTurn st) (n : ℕ) (m : Meets tree (st .records n
 
   module _ (clear-now : firstOf (dueRefusals c n to object) ≡ 0) where
     -- while open the object is open, so the present quorum is contacted
-    asked-for : c .phase ≡ openPhase → (object < 64) × (isOpen c object ≡ true)
+    asked-for : c .phase ≡ openPhase → (object < objects) × (isOpen c object ≡ true)
     unfolding dueRefusals
     asked-for p =
         let k = clear (dueRefusals c n to object) tt clear-now .1 .0 in
-        let z = or-neither (not (ltb object 64)) (not (isOpen c object))
-        (sym (ap (λ (x : Bool). x && (not (ltb object 64) || not (isOpen c object))) (eq-eqb (c .phase) openPhase p)) ∙ k) in
-        (ltb-true object 64 (not-false (ltb object 64) (z .0)), not-false (isOpen c object) (z .1))
+        let z = or-neither (not (ltb object objects)) (not (isOpen c object))
+        (sym (ap (λ (x : Bool). x && (not (ltb object objects) || not (isOpen c object))) (eq-eqb (c .phase) openPhase p)) ∙ k) in
+        (ltb-true object objects (not-false (ltb object objects) (z .0)), not-false (isOpen c object) (z .1))
 
     opened-some : c .phase ≡ openPhase → c .count ≡ 0 → ⊥
     opened-some p e =
-        let z = place-open (c .objects) (c .count) object (ltb-true (placeOf c object) eight (asked-for p .1)) .0 in
+        let z = place-open (c .objects) (c .count) object (ltb-true (placeOf c object) mostOpen (asked-for p .1)) .0 in
         let y : ⊥ = omega (arith, z, e) in y
 
     pub awaits-quorum : c .phase ≡ openPhase → contains (c .quorum) to ≡ true → contains (awaited c) to ≡ true
@@ -166,10 +167,10 @@ module _ (st : Station) (t : InTurn st) (n : ℕ) (m : Meets tree (st .records n
             (λ h. inr (awaits (λ z. let y : ⊥ = omega (arith, p, z) in y) q)) (λ h w. absurd (let y : ⊥ = omega (arith, w) in y))
             (λ h. absurd (let y : ⊥ = omega (arith, h) in y)) (λ h. absurd (let y : ⊥ = omega (arith, h) in y))
 
-    known-to : to < 13
+    known-to : to < nodes
     unfolding dueRefusals
     known-to = let k = clear (dueRefusals c n to object) tt clear-now in
-        ltb-true to 13 (not-false (ltb to 13) (or-neither (noNode n) (noNode to) (k .0) .1))
+        ltb-true to nodes (not-false (ltb to nodes) (or-neither (noNode n) (noNode to) (k .0) .1))
 
     yield-timely : Fine (yieldTo c n to)
     yield-timely = encoded-timely (st .images) (st .records) (yieldTo c n to) (yield-fits c m f n to (let h = known-to in omega (arith, h)))
@@ -245,15 +246,15 @@ module _ (st : Station) (L : Ledger) (F : Past) (w : World st L F) (g : Wide st)
 
       replica-turn : Kept (atReplica st k kept n b)
       unfolding atReplica
-      replica-turn = by-cases (ℕ-discrete (refusal longest l n b) 0)
+      replica-turn = by-cases (ℕ-discrete (refusal longestMessage l n b) 0)
           (λ e.
-          let z = taken longest l n b (w .valid .messages b in-pool) e in
+          let z = taken longestMessage l n b (w .valid .messages b in-pool) e in
           let r = served-step l m z n (w .valid .images n .1) in
-          subst (λ (d : Delivered). Kept (out d)) (sym (delivered-is longest l n b e))
+          subst (λ (d : Delivered). Kept (out d)) (sym (delivered-is longestMessage l n b e))
           (either-way Kept (eqb (step l n m .number) 0) _ _ (answered-turn z (step l n m .image) (r .0) (step l n m .answer) (r .1)) t))
-          (λ e. subst (λ (d : Delivered). Kept (out d)) (sym (refused-is longest l n b e))
-          (subst (λ (x : Bool). Kept (cond x (answered st k kept n l silent) (refusedWith (refusal longest l n b) st)))
-          (sym (ne-eqb (refusal longest l n b) 0 e)) t))
+          (λ e. subst (λ (d : Delivered). Kept (out d)) (sym (refused-is longestMessage l n b e))
+          (subst (λ (x : Bool). Kept (cond x (answered st k kept n l silent) (refusedWith (refusal longestMessage l n b) st)))
+          (sym (ne-eqb (refusal longestMessage l n b) 0 e)) t))
 
     arriving-turn : Kept (arriving st k kept b)
     unfolding arriving

@@ -8,6 +8,7 @@ use native.Mathlib.Decide.{ℕ-discrete}
 use native.Mathlib.Omega.{arith}
 use lib.Dec.{eqb, ltb, T-not}
 use borrow.Author.Tests.{ltb-true, lt-ltb}
+use Rattle.numbers.specs.Sizes.{mostOpen}
 use Rattle.mask.specs.Mask.{contains, only, joined, within}
 use Rattle.mask.proofs.Tests.{T-true, and-left, or-cases}
 use Rattle.quorum.specs.declared.Kind.the-variants.{Write}
@@ -15,7 +16,7 @@ use Rattle.quorum.specs.Quorum.{isQuorum}
 use Rattle.coordinator.specs.declared.Object.{Object}
 use Rattle.coordinator.specs.declared.Coordinator.{Coordinator}
 use Rattle.coordinator.specs.System.{tree}
-use Rattle.coordinator.specs.State.{eight, idlePhase, openPhase, votingPhase, finishingPhase, placeOf, objectAt, isOpen, ready, settled, allSettled}
+use Rattle.coordinator.specs.State.{idlePhase, openPhase, votingPhase, finishingPhase, placeOf, objectAt, isOpen, ready, settled, allSettled}
 use Rattle.coordinator.specs.State.{awaited, idleAfter}
 use Rattle.coordinator.specs.Calls.{withPhase, requested, endedAborted}
 use Rattle.clauses.proofs.Facts.{Meets}
@@ -82,7 +83,7 @@ module _ (st : Station) (L : Ledger) (F : Past) (w : World st L F) (n : ℕ) whe
   -- ---- votes asked for
   module _ (party : ℕ) (is-open : c .phase ≡ openPhase) (counts : isQuorum Write party ≡ true) (m : Meets tree (requested c party)) where
     placed : (t : ℕ) → isOpen c t ≡ true → objectAt c t .object ≡ t
-    placed t e = place-open (c .objects) (c .count) t (ltb-true (placeOf c t) eight e) .1 .1
+    placed t e = place-open (c .objects) (c .count) t (ltb-true (placeOf c t) mostOpen e) .1 .1
 
     abbrev c₁ : Coordinator
     c₁ = requested c party
@@ -120,7 +121,7 @@ module _ (st : Station) (L : Ledger) (F : Past) (w : World st L F) (n : ℕ) whe
     unfolding requested allSettled
     all-ready t e =
         let p = placeOf c t in
-        let z = place-open (c .objects) (c .count) t (ltb-true p eight e) in
+        let z = place-open (c .objects) (c .count) t (ltb-true p mostOpen e) in
         let a = across-at (λ i y. not (ltb i (c .count)) || settled tree y) (c .objects)
         (true-T _ (m .party .full (m .party .asked-for refl) .all-settled)) p (z .1 .0) in
         or-cases (ready tree (objectAt c t) ≡ true) (not (ltb p (c .count))) (settled tree (objectAt c t))

@@ -7,10 +7,11 @@ use native.Mathlib.Omega.{arith}
 use lib.Dec.{eqb, ltb}
 use lib.ListN.{length, getD}
 use borrow.Author.Tests.{eqb-true, ltb-true}
+use Rattle.numbers.specs.Sizes.{nodes, longestMessage}
 use Rattle.mask.specs.Mask.{contains}
 use Rattle.octets.proofs.Laws.{Bytes}
 use Rattle.wire.specs.Encode.{encode}
-use Rattle.wire.specs.Decode.{kindOf, toOf, longest, checkOf, decode}
+use Rattle.wire.specs.Decode.{kindOf, toOf, checkOf, decode}
 use Rattle.image.specs.Layout.{shape}
 use Rattle.image.specs.Blank.{blankAs}
 use Rattle.replica.specs.Steps.{Answer, silent, says}
@@ -25,11 +26,12 @@ use Rattle.due.specs.Kind.{dueKind}
 use Rattle.due.specs.Due.{messageDue}
 use Rattle.coordinator.proofs.Theorems.{found-leaves}
 use Rattle.clauses.proofs.Quorums.{tree-quorums}
-use Rattle.clauses.proofs.Fits.{Fits, blank-fits, begin-fits, open-fits, set-fits, reselect-fits, request-fits, abort-fits, receive-fits}
+use Rattle.clauses.proofs.Fits.{Fits, blank-fits, begin-fits, open-fits, set-fits, reselect-fits, request-fits, abort-fits}
+use Rattle.clauses_arrive.proofs.Fits.{receive-fits}
 use Rattle.steps.specs.Station.{Own, Station, blankStation, putAt}
-use Rattle.steps.specs.Step.{Call, begin, openRead, openWrite, setValue, found, reselect, requestCommit, abort, send, delivery, drop, switch, Outcome}
-use Rattle.steps.specs.Step.{refusedWith, taken, putting, sendNumber, hosted, answered, atReplica, atCoordinator, arriving, deliveryOf, dropOf, switchOf}
-use Rattle.steps.specs.Step.{sendOf}
+use Rattle.steps.specs.Step.{Call, begin, openRead, openWrite, setValue, found, reselect, requestCommit, abort, send, delivery, drop, switch}
+use Rattle.steps.specs.Step.{Outcome, refusedWith, taken, putting, sendNumber, hosted, answered, atReplica, atCoordinator, arriving, deliveryOf, dropOf}
+use Rattle.steps.specs.Step.{switchOf, sendOf}
 use Rattle.history.specs.Claims.{Typed}
 use Rattle.history.proofs.Carry.{put-all}
 use Rattle.history.proofs.Books.{Valid}
@@ -37,7 +39,7 @@ use Rattle.history.proofs.Arrive.{in-place}
 
 pub record Wide (st : Station) : Type 0 where
   pub fits : (n : ℕ) → Fits (st .records n)
-  pub beyond : (n : ℕ) → 13 ≤ n → st .images n ≡ blankAs shape
+  pub beyond : (n : ℕ) → nodes ≤ n → st .images n ≡ blankAs shape
 
 pub blank-wide : (on : ℕ) → Wide (blankStation on)
 blank-wide on = record { fits = λ n. blank-fits tree; beyond = λ n h. refl }
@@ -54,38 +56,39 @@ module _ (st : Station) (w : Wide st) (v : Valid st) where
       (either-way (λ (r : Outcome). Wide (r .station)) (eqb (s .number) 0) _ _ (record-wide n (s .coordinator) (st .pool) (st .own) f) w) w
 
   -- one image changed at a node
-  image-wide : (n : ℕ) (l : List ℕ) (pool : List (List ℕ)) → n < 13
+  image-wide : (n : ℕ) (l : List ℕ) (pool : List (List ℕ)) → n < nodes
       → Wide (record { images = putAt (st .images) n l; records = st .records; pool = pool; own = st .own })
   image-wide n l pool h = record {
     fits = w .fits;
-    beyond = put-all (λ (i : ℕ) (l : List ℕ). 13 ≤ i → l ≡ blankAs shape) (st .images) n l (λ g. absurd (let z : ⊥ = omega arith in z)) (λ i e. w .beyond i);
+    beyond = put-all (λ (i : ℕ) (l : List ℕ). nodes ≤ i → l ≡ blankAs shape) (st .images) n l (λ g. absurd (let z : ⊥ = omega arith in z))
+        (λ i e. w .beyond i);
   }
 
   pool-wide : (pool : List (List ℕ)) (own : Own) → Wide (record { images = st .images; records = st .records; pool = pool; own = own })
   pool-wide pool own = record { fits = w .fits; beyond = w .beyond }
 
-  answered-wide : (k : ℕ) (kept : Bool) (n : ℕ) (l : List ℕ) (a : Answer) → n < 13 → Wide (answered st k kept n l a .station)
+  answered-wide : (k : ℕ) (kept : Bool) (n : ℕ) (l : List ℕ) (a : Answer) → n < nodes → Wide (answered st k kept n l a .station)
   unfolding answered
   answered-wide k kept n l silent h = image-wide n l _ h
   answered-wide k kept n l (says m) h = either-way (λ (r : Outcome). Wide (r .station)) (kept && Rattle.steps.specs.Step.full st) _ _ w (image-wide n l _ h)
 
   replica-wide : (k : ℕ) (kept : Bool) (n : ℕ) (b : List ℕ) → Wide (atReplica st k kept n b .station)
   unfolding atReplica deliver
-  replica-wide k kept n b = by (eqb (refusal longest (st .images n) n b) 0) refl
+  replica-wide k kept n b = by (eqb (refusal longestMessage (st .images n) n b) 0) refl
     where
-      by : (g : Bool) → eqb (refusal longest (st .images n) n b) 0 ≡ g
+      by : (g : Bool) → eqb (refusal longestMessage (st .images n) n b) 0 ≡ g
           → Wide (cond (eqb (cond {A = Delivered} g (step (st .images n) n (decode b))
-          (record { number = refusal longest (st .images n) n b; image = st .images n; answer = silent }) .number) 0)
+          (record { number = refusal longestMessage (st .images n) n b; image = st .images n; answer = silent }) .number) 0)
           (answered st k kept n (cond {A = Delivered} g (step (st .images n) n (decode b))
-          (record { number = refusal longest (st .images n) n b; image = st .images n; answer = silent }) .image)
+          (record { number = refusal longestMessage (st .images n) n b; image = st .images n; answer = silent }) .image)
           (cond {A = Delivered} g (step (st .images n) n (decode b))
-          (record { number = refusal longest (st .images n) n b; image = st .images n; answer = silent }) .answer))
+          (record { number = refusal longestMessage (st .images n) n b; image = st .images n; answer = silent }) .answer))
           (refusedWith (cond {A = Delivered} g (step (st .images n) n (decode b))
-          (record { number = refusal longest (st .images n) n b; image = st .images n; answer = silent }) .number) st) .station)
+          (record { number = refusal longestMessage (st .images n) n b; image = st .images n; answer = silent }) .number) st) .station)
       by true e = either-way (λ (r : Outcome). Wide (r .station)) (eqb (step (st .images n) n (decode b) .number) 0) _ _
-          (answered-wide k kept n _ _ (cleared longest (st .images n) n b (eqb-true _ 0 e) .node)) w
+          (answered-wide k kept n _ _ (cleared longestMessage (st .images n) n b (eqb-true _ 0 e) .node)) w
       by false e = subst (λ (t : Bool). Wide (cond t (answered st k kept n (st .images n) silent)
-          (refusedWith (refusal longest (st .images n) n b) st) .station)) (sym e) w
+          (refusedWith (refusal longestMessage (st .images n) n b) st) .station)) (sym e) w
 
   coordinator-wide : (k : ℕ) (kept : Bool) (n : ℕ) (b : List ℕ) → Bytes b → Wide (atCoordinator st k kept n b .station)
   unfolding atCoordinator

@@ -8,6 +8,7 @@ use lib.Dec.{eqb, ltb, leb}
 use lib.ListN.{length, getD, drop}
 use borrow.Author.Tests.{lt-ltb, eqb-true}
 use native.Mathlib.Omega.{arith}
+use Rattle.numbers.specs.Sizes.{nodes, mostOpen}
 use Rattle.octets.specs.Octets.{le}
 use Rattle.octets.proofs.Laws.{length-le}
 use Rattle.wire.specs.declared.Rival.{Rival}
@@ -129,7 +130,7 @@ counts-word kind entries rivals words w (inl e) f =
     word-by w (leb rivals 12) (eqb rivals 0) (and-true (cond (eqb w 1) (leb rivals 12) (eqb w 0 && eqb rivals 0)) _ g .0)
 counts-word kind entries rivals words w (inr e) f =
     let g = subst (λ (k : ℕ). countsOk k entries rivals words w ≡ true) e f in
-    word-by w (between 1 8 entries) (eqb entries 0) (and-true (cond (eqb w 1) (between 1 8 entries) (eqb w 0 && eqb entries 0)) _ g .0)
+    word-by w (between 1 mostOpen entries) (eqb entries 0) (and-true (cond (eqb w 1) (between 1 mostOpen entries) (eqb w 0 && eqb entries 0)) _ g .0)
 
 pub formed-word : (m : Message) → wellFormed m ≡ true → (m .kind ≡ 4) ⊎ (m .kind ≡ 5)
     → (Rattle.wire.specs.Formed.wordOf m ≡ 0) ⊎ (Rattle.wire.specs.Formed.wordOf m ≡ 1)
@@ -164,7 +165,7 @@ formed-yield m f k =
     (subst (λ (k : ℕ). countsOk k (length (m .entries)) (length (m .rivals)) (length (m .words)) (Rattle.wire.specs.Formed.wordOf m) ≡ true) k (a .0)) .0) in
     let r = getD (m .rivals) 0 noRival in
     let g : ok r ≡ true = one-rival ok (m .rivals) one (and-true (ascend 0 (map (λ (r : Rival). r .owner) (m .rivals))) (every ok (m .rivals)) (d .1) .1) in
-    let h = and-true (ltb (r .owner) 13) _ g in
+    let h = and-true (ltb (r .owner) nodes) _ g in
     let i = and-true (not (eqb (r .owner) (m .owner))) _ (h .1) in
     let j = and-true (leb 1 (r .serial)) _ (i .1) in
     eqb-true (r .owner) (m .to) (subst (λ (k : ℕ). (not (eqb k 7) || eqb (r .owner) (m .to)) ≡ true) k (j .1))

@@ -8,6 +8,7 @@ use mathlib.Core.List.{List, [], _∷_}
 use mathlib.Core.Option.{none}
 use Prim.Native.Nat.{ℕ, _^_, _≤_, _<_}
 use lib.ListN.{length, getD}
+use Rattle.numbers.specs.Sizes.{nodes, objects, mostWaiting}
 use Rattle.mask.specs.Mask.{contains}
 use Rattle.numbers.specs.Numbers.{outOfTurn, poolFull}
 use Rattle.quorum.specs.declared.Kind.the-variants.{Read}
@@ -20,7 +21,7 @@ use Rattle.image.specs.Layout.{value, version}
 use Rattle.coordinator.specs.declared.Coordinator.{Coordinator}
 use Rattle.coordinator.specs.State.{idlePhase, committed, objectAt, isOpen, ready}
 use Rattle.coordinator.specs.System.{tree}
-use Rattle.steps.specs.Station.{Station, poolSize, blankStation}
+use Rattle.steps.specs.Station.{Station, blankStation}
 use Rattle.steps.specs.Step.{Call, begin, openRead, openWrite, setValue, found, reselect, requestCommit, abort, send, delivery, drop, switch, step}
 use Rattle.steps.specs.Run.{after, Event, eventOf, trace}
 use Rattle.protocol.specs.Table.{In, Suffix, times}
@@ -31,7 +32,7 @@ use Rattle.history.specs.Ballots.{Ballots, ballots}
 
 -- A step's arguments are of their C types: thirteen distances of 16 bits, a timestamp of 32 bits, a value of 64 bits. All others may be any number.
 abbrev pub Distances : List ℕ → Type 0
-Distances d = (length d ≡ 13) × ((i : ℕ) → getD d i 0 < 2 ^ 16)
+Distances d = (length d ≡ nodes) × ((i : ℕ) → getD d i 0 < 2 ^ 16)
 
 abbrev pub Typed : Call → Type 0
 Typed (begin n w) = (w .timestamp < 2 ^ 32) × Distances (w .distances)
@@ -76,7 +77,7 @@ Settled L = (x : Tx) → In x (L .committed) → (n : ℕ) → contains (L .part
 
 -- no node of the mask has a newer copy
 abbrev pub Newest : Station → ℕ → ℕ → ℕ → Type 0
-Newest st q n t = (m : ℕ) → m < 13 → contains q m ≡ true → version (st .images m) t ≤ version (st .images n) t
+Newest st q n t = (m : ℕ) → m < nodes → contains q m ≡ true → version (st .images m) t ≤ version (st .images n) t
 
 -- a transaction is ripe: votes were asked for it, a yes of it from every participant was delivered to its owner while on, and nothing spoilt it since
 pub record Ripe (L : Ledger) (B : Ballots) (x : Tx) : Type 0 where
@@ -97,7 +98,7 @@ pub record SaysCommitted (L : Ledger) (e : Event) (x : Tx) : Type 0 where
 pub record Crowded (st : Station) (k : ℕ) (kept : Bool) : Type 0 where
   pub number : step st (delivery k kept) .number ≡ poolFull
   pub is-kept : kept ≡ true
-  pub waiting : length (st .pool) ≡ poolSize
+  pub waiting : length (st .pool) ≡ mostWaiting
   pub an-answer : step st (delivery k false) .put ≢ none
 
 module _ (on : ℕ) where
@@ -139,7 +140,7 @@ module _ (on : ℕ) where
     pub sourced : (x : Tx) (t v : ℕ) → Finds (reached cs) x t v
         → (v ≡ 0) ⊎ ((y : Tx) × In y (told cs .committed) × (told cs .mode y t ≡ write) × (v ≡ told cs .new y t))
     -- (c) if it is settled, then in every read quorum, larger sets too, whichever nodes are on, every newest copy has replay's last value
-    pub newest : Settled (told cs) → (q : ℕ) → isQuorum Read q ≡ true → (n t : ℕ) → n < 13 → contains q n ≡ true → t < 64 → Newest (reached cs) q n t
+    pub newest : Settled (told cs) → (q : ℕ) → isQuorum Read q ≡ true → (n t : ℕ) → n < nodes → contains q n ≡ true → t < objects → Newest (reached cs) q n t
         → value (reached cs .images n) t ≡ lastValue (told cs) t
 
   -- The numbers of deliveries: 5 only where no such message waits, 12 as above, else 0. So whatever waits is accepted where it goes: it is never garbled,

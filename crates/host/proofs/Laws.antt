@@ -7,6 +7,7 @@ use native.Mathlib.Omega.{arith}
 use borrow.Author.Tests.{eq-eqb, ne-eqb, lt-ltb, le-ltb}
 use lib.ListN.{length, getD}
 use lib.Seq.{ext-getD}
+use Rattle.numbers.specs.Sizes.{nodes, everyNode}
 use Rattle.octets.specs.Octets.{get}
 use Rattle.quorum.specs.declared.Kind.{Kind}
 use Rattle.quorum.specs.declared.Choice.{Choice}
@@ -30,28 +31,28 @@ getD-pairs (suc n) l i zero h = let e : i ≡ i + 2 * 0 = omega arith in ap (get
 getD-pairs (suc n) l i (suc j) h = let e : i + 2 + 2 * j ≡ i + 2 * suc j = omega arith in getD-pairs n l (i + 2) j (omega arith) ∙ ap (get 2 l) e
 
 -- thirteen elements that are the numbers of two bytes are the distances
-pub all-distances : (d l : List ℕ) → length d ≡ 13 → ((j : ℕ) → j < 13 → getD d j 0 ≡ get 2 l (2 * j)) → d ≡ distancesOf l
+pub all-distances : (d l : List ℕ) → length d ≡ nodes → ((j : ℕ) → j < nodes → getD d j 0 ≡ get 2 l (2 * j)) → d ≡ distancesOf l
 unfolding distancesOf
 all-distances d l e f =
-    ext-getD 0 d (pairsOf 13 l 0) (e ∙ sym (length-pairs 13 l 0))
-    (λ j h. let z : 2 * j ≡ 0 + 2 * j = omega arith in f j (omega arith) ∙ ap (get 2 l) z ∙ sym (getD-pairs 13 l 0 j (omega arith)))
+    ext-getD 0 d (pairsOf nodes l 0) (e ∙ sym (length-pairs nodes l 0))
+    (λ j h. let z : 2 * j ≡ 0 + 2 * j = omega arith in f j (omega arith) ∙ ap (get 2 l) z ∙ sym (getD-pairs nodes l 0 j (omega arith)))
 
 -- ---- the answer, refusal by refusal
 pub answer-length : (k : Kind) (live : ℕ) (bytes : List ℕ) → (length bytes ≡ 26 → ⊥) → nearestAnswer k live bytes ≡ answerOf 1 Nothing
 unfolding nearestAnswer
 answer-length k live bytes f = simp (ne-eqb (length bytes) 26 f)
 
-pub answer-stranger : (k : Kind) (live : ℕ) (bytes : List ℕ) → length bytes ≡ 26 → 8191 < live → nearestAnswer k live bytes ≡ answerOf 4 Nothing
+pub answer-stranger : (k : Kind) (live : ℕ) (bytes : List ℕ) → length bytes ≡ 26 → everyNode < live → nearestAnswer k live bytes ≡ answerOf 4 Nothing
 unfolding nearestAnswer
-answer-stranger k live bytes e h = simp (eq-eqb (length bytes) 26 e, lt-ltb 8191 live h)
+answer-stranger k live bytes e h = simp (eq-eqb (length bytes) 26 e, lt-ltb everyNode live h)
 
 -- past these two the choice alone decides: nothing is 8
-pub answer-choice : (k : Kind) (live : ℕ) (bytes : List ℕ) (x : Choice) → length bytes ≡ 26 → live ≤ 8191
+pub answer-choice : (k : Kind) (live : ℕ) (bytes : List ℕ) (x : Choice) → length bytes ≡ 26 → live ≤ everyNode
     → nearestOf live (distancesOf bytes) (smallest k) ≡ x → nearestAnswer k live bytes ≡ answerOf (numberOf x) x
 unfolding nearestAnswer
 answer-choice k live bytes Nothing e h p =
     let q : isQuorum k live ≡ false = sym (Bool·not-not (isQuorum k live)) ∙ ap not (sym (none-exactly k live (distancesOf bytes)) ∙ ap isNothing p) in
-    simp (eq-eqb (length bytes) 26 e, le-ltb 8191 live h, q)
+    simp (eq-eqb (length bytes) 26 e, le-ltb everyNode live h, q)
 answer-choice k live bytes (Quorum m s) e h p =
     let q : isQuorum k live ≡ true = sym (Bool·not-not (isQuorum k live)) ∙ ap not (sym (none-exactly k live (distancesOf bytes)) ∙ ap isNothing p) in
-    simp (eq-eqb (length bytes) 26 e, le-ltb 8191 live h, q, p)
+    simp (eq-eqb (length bytes) 26 e, le-ltb everyNode live h, q, p)

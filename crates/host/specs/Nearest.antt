@@ -4,6 +4,7 @@ use mathlib.Core.List.{List, [], _∷_}
 use Prim.Native.Nat.{ℕ}
 use lib.Dec.{eqb, ltb}
 use lib.ListN.{length}
+use Rattle.numbers.specs.Sizes.{everyNode}
 use Rattle.numbers.specs.Numbers.{wrongLength, stranger, noQuorum}
 use Rattle.numbers.specs.Refusal.{Refusal, refuse, firstOf}
 use Rattle.quorum.specs.declared.Kind.{Kind}
@@ -17,7 +18,7 @@ use Rattle.host.specs.Distances.{distancesOf}
 
 abbrev pub nearestRefusals : Kind → ℕ → List ℕ → List Refusal
 nearestRefusals kind live bytes =
-    refuse wrongLength (not (eqb (length bytes) 26)) ∷ refuse stranger (ltb 8191 live) ∷ refuse noQuorum (not (isQuorum kind live)) ∷ []
+    refuse wrongLength (not (eqb (length bytes) 26)) ∷ refuse stranger (ltb everyNode live) ∷ refuse noQuorum (not (isQuorum kind live)) ∷ []
 
 abbrev pub nearestNumber : Kind → ℕ → List ℕ → ℕ
 nearestNumber kind live bytes = firstOf (nearestRefusals kind live bytes)

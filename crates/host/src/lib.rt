@@ -13,6 +13,8 @@ ghost use Rattle.quorum.specs.declared.Choice.the-variants.{Nothing};
 ghost use Rattle.quorum.specs.Quorum.{isQuorum};
 ghost use Rattle.host.specs.Distances.{distancesOf};
 ghost use Rattle.host.specs.Nearest.{answerOf, nearestAnswer};
+use numbers::EVERY_NODE;
+use numbers::NODES;
 use quorum::Choice;
 use quorum::Kind;
 
@@ -28,12 +30,12 @@ pub struct Chosen {
 }
 
 // Thirteen distances of two bytes each, node 0 first.
-fn distances_of(bytes: &[u8]) -> [u16; 13]
+fn distances_of(bytes: &[u8]) -> [u16; NODES]
     ensures { λ r. ⌜ r ≡ distancesOf (now (bytes .entry)) ⌝ }
 {
-    let mut d = [0u16; 13];
+    let mut d = [0u16; NODES];
     let mut i = 0;
-    while i < 13 {
+    while i < NODES {
         d[i] = octets::get_u16(bytes, 2 * i);
         i += 1;
     }
@@ -58,7 +60,7 @@ fn nearest(kind: Kind, live: u16, distances: &[u8]) -> Chosen
     if distances.len() != DISTANCES {
         return refused(numbers::LENGTH);
     }
-    if 8191 < live {
+    if EVERY_NODE < live {
         return refused(numbers::STRANGER);
     }
     let d = distances_of(distances);

@@ -2,22 +2,25 @@
 ghost use mathlib.Core.Path.{_≡_};
 ghost use Prim.Native.Nat.{min};
 ghost use lib.ListN.{length};
+ghost use Rattle.numbers.specs.Sizes.{mostOpen};
 ghost use Rattle.wire.specs.Decode.{checkOf};
-ghost use Rattle.wire.specs.Write.{writtenOf, bufferAfter, fetchOf, copyOf, askOf, voteOf, outcomeOf, doneOf, yieldOf};
+ghost use Rattle.letters.specs.Write.{writtenOf, bufferAfter, fetchOf, copyOf, askOf, voteOf, outcomeOf, doneOf, yieldOf};
+use letters::Written;
+use numbers::MOST_OPEN;
+use numbers::NODES;
 use wire::Entry;
-use wire::Written;
 
 // Up to eight entries: the first count; a count above 8 counts as 8.
 #[repr(C)]
 pub struct Entries {
-    pub entry: [Entry; 8],
+    pub entry: [Entry; MOST_OPEN],
     pub count: u8,
 }
 
 // A serial for each owner; 0 where it is no rival.
 #[repr(C)]
 pub struct Serials {
-    pub serial: [u32; 13],
+    pub serial: [u32; NODES],
 }
 
 // The number of a received message. Ruled out: 3 for a message of 14 bytes; 0 for one with bytes left over.
@@ -42,7 +45,7 @@ pub extern "C" fn senna_write_fetch(
     ensures { λ r. ⌜ r ≡ writtenOf (length (now (out .entry))) (fetchOf to owner serial stamp object mode) ⌝ }
     ensures { λ r. ⌜ now (out .exit) ≡ bufferAfter (fetchOf to owner serial stamp object mode) (now (out .entry)) ⌝ }
 {
-    wire::write_fetch(out, to, owner, serial, stamp, object, mode)
+    letters::write_fetch(out, to, owner, serial, stamp, object, mode)
 }
 
 #[no_mangle]
@@ -57,7 +60,7 @@ pub extern "C" fn senna_write_copy(
     ensures { λ r. ⌜ r ≡ writtenOf (length (now (out .entry))) (copyOf from owner serial stamp entry) ⌝ }
     ensures { λ r. ⌜ now (out .exit) ≡ bufferAfter (copyOf from owner serial stamp entry) (now (out .entry)) ⌝ }
 {
-    wire::write_copy(out, from, owner, serial, stamp, entry)
+    letters::write_copy(out, from, owner, serial, stamp, entry)
 }
 
 #[no_mangle]
@@ -69,11 +72,11 @@ pub extern "C" fn senna_write_ask(
     stamp: u32,
     entries: Entries,
 ) -> Written
-    ensures { λ r. ⌜ r ≡ writtenOf (length (now (out .entry))) (askOf to owner serial stamp (entries .entry) (min (entries .count) 8)) ⌝ }
-    ensures { λ r. ⌜ now (out .exit) ≡ bufferAfter (askOf to owner serial stamp (entries .entry) (min (entries .count) 8)) (now (out .entry)) ⌝ }
+    ensures { λ r. ⌜ r ≡ writtenOf (length (now (out .entry))) (askOf to owner serial stamp (entries .entry) (min (entries .count) mostOpen)) ⌝ }
+    ensures { λ r. ⌜ now (out .exit) ≡ bufferAfter (askOf to owner serial stamp (entries .entry) (min (entries .count) mostOpen)) (now (out .entry)) ⌝ }
 {
     let list = entries.entry;
-    wire::write_ask(out, to, owner, serial, stamp, list, entries.count as usize)
+    letters::write_ask(out, to, owner, serial, stamp, list, entries.count as usize)
 }
 
 #[no_mangle]
@@ -90,7 +93,7 @@ pub extern "C" fn senna_write_vote(
     ensures { λ r. ⌜ now (out .exit) ≡ bufferAfter (voteOf from owner serial stamp (rivals .serial) word) (now (out .entry)) ⌝ }
 {
     let serials = rivals.serial;
-    wire::write_vote(out, from, owner, serial, stamp, serials, word)
+    letters::write_vote(out, from, owner, serial, stamp, serials, word)
 }
 
 #[no_mangle]
@@ -103,11 +106,12 @@ pub extern "C" fn senna_write_outcome(
     entries: Entries,
     word: u8,
 ) -> Written
-    ensures { λ r. ⌜ r ≡ writtenOf (length (now (out .entry))) (outcomeOf to owner serial stamp (entries .entry) (min (entries .count) 8) word) ⌝ }
-    ensures { λ r. ⌜ now (out .exit) ≡ bufferAfter (outcomeOf to owner serial stamp (entries .entry) (min (entries .count) 8) word) (now (out .entry)) ⌝ }
+    ensures { λ r. ⌜ r ≡ writtenOf (length (now (out .entry))) (outcomeOf to owner serial stamp (entries .entry) (min (entries .count) mostOpen) word) ⌝ }
+    ensures { λ r. ⌜ now (out .exit) ≡ bufferAfter (outcomeOf to owner serial stamp (entries .entry) (min (entries .count) mostOpen) word)
+        (now (out .entry)) ⌝ }
 {
     let list = entries.entry;
-    wire::write_outcome(
+    letters::write_outcome(
         out,
         to,
         owner,
@@ -130,7 +134,7 @@ pub extern "C" fn senna_write_done(
     ensures { λ r. ⌜ r ≡ writtenOf (length (now (out .entry))) (doneOf from owner serial stamp) ⌝ }
     ensures { λ r. ⌜ now (out .exit) ≡ bufferAfter (doneOf from owner serial stamp) (now (out .entry)) ⌝ }
 {
-    wire::write_done(out, from, owner, serial, stamp)
+    letters::write_done(out, from, owner, serial, stamp)
 }
 
 #[no_mangle]
@@ -145,5 +149,5 @@ pub extern "C" fn senna_write_yield(
     ensures { λ r. ⌜ r ≡ writtenOf (length (now (out .entry))) (yieldOf rival owner serial stamp «rival_serial») ⌝ }
     ensures { λ r. ⌜ now (out .exit) ≡ bufferAfter (yieldOf rival owner serial stamp «rival_serial») (now (out .entry)) ⌝ }
 {
-    wire::write_yield(out, owner, serial, stamp, rival, rival_serial)
+    letters::write_yield(out, owner, serial, stamp, rival, rival_serial)
 }

@@ -10,13 +10,15 @@ ghost use Rattle.coordinator.specs.State.{noObject, ready};
 ghost use Rattle.coordinator.specs.Calls.{openOf, setOf, foundOf, requestCommitOf, abortOf};
 ghost use Rattle.arrivals.specs.Receive.{receiveOf};
 ghost use Rattle.record.specs.Record.{check, shown};
-ghost use Rattle.record.specs.Call.{calledOf, recordAfter, receivedOf, blankNumber, blankAfter, recordDue, recordDueBuffer};
+ghost use Rattle.record.specs.Call.{calledOf, recordAfter, blankNumber, blankAfter};
+ghost use Rattle.record_arrive.specs.Call.{receivedOf};
+ghost use Rattle.record_due.specs.Call.{recordDue, recordDueBuffer};
 ghost use Rattle.host.specs.Records.{answerWith, bytesWith, beginStep, reselectStep, valueOf};
 use crate::DISTANCES;
 use crate::distances_of;
 use coordinator::BeginWith;
+use letters::Written;
 use record::Called;
-use wire::Written;
 
 // What a call for a value answers: a number, and where it is 0 the value.
 #[repr(C)]
@@ -73,7 +75,7 @@ pub extern "C" fn senna_coordinator_begin(
         distances: d,
         timestamp,
     };
-    record::begin(bytes, me, w)
+    record_calls::begin(bytes, me, w)
 }
 
 // Takes a fresh live mask and distances; answers the chosen read quorum. Ruled out: 8 for distances of 25 bytes; the old quorum answered.
@@ -91,7 +93,7 @@ pub extern "C" fn senna_coordinator_reselect(
         return wrong_length();
     }
     let d = distances_of(distances);
-    record::reselect(bytes, me, live, d)
+    record_calls::reselect(bytes, me, live, d)
 }
 
 // Opens an object to read it. Ruled out: an open to write; the record written back at a refusal.
@@ -100,7 +102,7 @@ pub extern "C" fn senna_coordinator_open_read(bytes: &mut [u8], me: u8, object: 
     ensures { λ r. ⌜ r ≡ calledOf (λ (c : Coordinator). openOf c me object 0) (now (bytes .entry)) ⌝ }
     ensures { λ r. ⌜ now (bytes .exit) ≡ recordAfter (λ (c : Coordinator). openOf c me object 0) (now (bytes .entry)) ⌝ }
 {
-    record::open_read(bytes, me, object)
+    record_calls::open_read(bytes, me, object)
 }
 
 // Opens an object to write it. Ruled out: an open to read; a ninth object taken.
@@ -109,7 +111,7 @@ pub extern "C" fn senna_coordinator_open_write(bytes: &mut [u8], me: u8, object:
     ensures { λ r. ⌜ r ≡ calledOf (λ (c : Coordinator). openOf c me object 1) (now (bytes .entry)) ⌝ }
     ensures { λ r. ⌜ now (bytes .exit) ≡ recordAfter (λ (c : Coordinator). openOf c me object 1) (now (bytes .entry)) ⌝ }
 {
-    record::open_write(bytes, me, object)
+    record_calls::open_write(bytes, me, object)
 }
 
 // Gives a written object its new value. Ruled out: the value with its sign lost; a value set on a read.
@@ -123,7 +125,7 @@ pub extern "C" fn senna_coordinator_set_value(
     ensures { λ r. ⌜ r ≡ calledOf (λ (c : Coordinator). setOf c me object (bitsOf value)) (now (bytes .entry)) ⌝ }
     ensures { λ r. ⌜ now (bytes .exit) ≡ recordAfter (λ (c : Coordinator). setOf c me object (bitsOf value)) (now (bytes .entry)) ⌝ }
 {
-    record::set_value(bytes, me, object, octets::bits(value))
+    record_calls::set_value(bytes, me, object, octets::bits(value))
 }
 
 // Asks for votes; answers the participants. Ruled out: 8 before 11; a set without the contacted nodes.
@@ -132,7 +134,7 @@ pub extern "C" fn senna_coordinator_request_commit(bytes: &mut [u8], me: u8) -> 
     ensures { λ r. ⌜ r ≡ calledOf (λ (c : Coordinator). requestCommitOf tree c me) (now (bytes .entry)) ⌝ }
     ensures { λ r. ⌜ now (bytes .exit) ≡ recordAfter (λ (c : Coordinator). requestCommitOf tree c me) (now (bytes .entry)) ⌝ }
 {
-    record::request_commit(bytes, me)
+    record_calls::request_commit(bytes, me)
 }
 
 // Gives the transaction up. Ruled out: a finishing one aborted; a damaged record taken.
@@ -141,7 +143,7 @@ pub extern "C" fn senna_coordinator_abort(bytes: &mut [u8], me: u8) -> Called
     ensures { λ r. ⌜ r ≡ calledOf (λ (c : Coordinator). abortOf c me) (now (bytes .entry)) ⌝ }
     ensures { λ r. ⌜ now (bytes .exit) ≡ recordAfter (λ (c : Coordinator). abortOf c me) (now (bytes .entry)) ⌝ }
 {
-    record::abort(bytes, me)
+    record_calls::abort(bytes, me)
 }
 
 // Delivers a message; answers what it brought about. Ruled out: commit by a majority; 2 for a damaged record and a message of 14 bytes.
@@ -150,7 +152,7 @@ pub extern "C" fn senna_coordinator_receive(bytes: &mut [u8], me: u8, message: &
     ensures { λ r. ⌜ r ≡ receivedOf me (now (message .entry)) (now (bytes .entry)) ⌝ }
     ensures { λ r. ⌜ now (bytes .exit) ≡ recordAfter (λ (c : Coordinator). receiveOf tree c me (now (message .entry))) (now (bytes .entry)) ⌝ }
 {
-    record::receive(bytes, me, message)
+    record_arrive::receive(bytes, me, message)
 }
 
 // Answers the value found for a ready object. Ruled out: the new value; a value with its sign lost.
@@ -159,7 +161,7 @@ pub extern "C" fn senna_coordinator_found(bytes: &mut [u8], me: u8, object: u8) 
     ensures { λ r. ⌜ r ≡ valueOf (calledOf (λ (c : Coordinator). foundOf tree c me object) (now (bytes .entry))) ⌝ }
     ensures { λ r. ⌜ now (bytes .exit) ≡ recordAfter (λ (c : Coordinator). foundOf tree c me object) (now (bytes .entry)) ⌝ }
 {
-    let x = record::found(bytes, me, object);
+    let x = record_calls::found(bytes, me, object);
     Value {
         number: x.number,
         value: octets::signed(x.answer),
@@ -178,7 +180,7 @@ pub extern "C" fn senna_coordinator_due(
     ensures { λ r. ⌜ r ≡ recordDue (now (bytes .entry)) me node object (length (now (out .entry))) ⌝ }
     ensures { λ r. ⌜ now (out .exit) ≡ recordDueBuffer (now (bytes .entry)) me node object (now (out .entry)) ⌝ }
 {
-    record::write_due(bytes, me, node, object, out)
+    record_due::write_due(bytes, me, node, object, out)
 }
 
 // What a record says; zeros for bytes that are no record. Each rules out, among others: the field beside it; a damaged record's own bytes.

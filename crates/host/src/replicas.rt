@@ -2,7 +2,7 @@
 ghost use mathlib.Core.Path.{_≡_};
 ghost use mathlib.Core.Bool.{cond};
 ghost use lib.ListN.{length};
-ghost use Rattle.wire.specs.Decode.{longest};
+ghost use Rattle.numbers.specs.Sizes.{longestMessage};
 ghost use Rattle.replica.specs.Receive.{deliver, receivedOf, bufferOf, spoken};
 use replica::Received;
 
@@ -24,7 +24,7 @@ pub extern "C" fn senna_replica_receive(
 // Whether a delivery will have an answer: 1 or 0. Ruled out: 1 for a refused delivery; 0 for a late outcome.
 #[no_mangle]
 pub extern "C" fn senna_replica_answers(image: &[u8], me: u8, message: &[u8]) -> u8
-    ensures { λ r. ⌜ r ≡ cond (spoken (deliver longest (now (image .entry)) me (now (message .entry)) .answer)) 1 0 ⌝ }
+    ensures { λ r. ⌜ r ≡ cond (spoken (deliver longestMessage (now (image .entry)) me (now (message .entry)) .answer)) 1 0 ⌝ }
 {
     if replica::answers(image, me, message) {
         1

@@ -7,13 +7,14 @@ use native.Mathlib.Omega.{arith}
 use lib.Dec.{T, lit<}
 use lib.ListN.{length, getD, replicate, length-replicate}
 use borrow.Author.Tests.{eq-eqb, ne-eqb}
+use Rattle.numbers.specs.Sizes.{nodes, nobody}
 use Rattle.mask.specs.Mask.{contains}
 use Rattle.octets.proofs.Laws.{get-ext, get-out, Bytes}
 use Rattle.image.specs.declared.Field.{Field}
 use Rattle.image.specs.Field.{place, fieldOf, withField}
-use Rattle.image.specs.Layout.{shape, owners, imageSize, objectCount, ownerCount, holderField, readersField, writersField}
+use Rattle.image.specs.Layout.{shape, imageSize, objectCount, ownerCount, holderField, readersField, writersField}
 use Rattle.image.specs.Layout.{serialField, stateField, stampField, holder}
-use Rattle.image.specs.Valid.{nobody, check}
+use Rattle.image.specs.Valid.{check}
 use Rattle.image.specs.Blank.{counted, unheld, blankAs, blank}
 use Rattle.image.proofs.Lens.{apart, length-with, bytes-with, of-with, of-with-apart, length-all, bytes-all, all-apart, all-here}
 use Rattle.image.proofs.Marks.{contains-none}
@@ -46,10 +47,10 @@ abbrev first : List ℕ
 first = withField objectCount zeros 0 (shape .objects)
 
 abbrev both : List ℕ
-both = withField (ownerCount shape) first 0 owners
+both = withField (ownerCount shape) first 0 nodes
 
 length-both : length both ≡ imageSize shape
-length-both = length-with (ownerCount shape) first 0 owners ∙ length-with objectCount zeros 0 (shape .objects) ∙ length-zeros
+length-both = length-with (ownerCount shape) first 0 nodes ∙ length-with objectCount zeros 0 (shape .objects) ∙ length-zeros
 
 -- document 01's 1,207 bytes
 pub image-size : imageSize shape ≡ 1207
@@ -63,7 +64,7 @@ pub bytes-blank : Bytes (blankAs shape)
 unfolding blankAs unheld counted zeros
 bytes-blank =
     bytes-all (holderField shape) (λ h. nobody) (shape .objects) both
-    (bytes-with (ownerCount shape) first 0 owners (bytes-with objectCount zeros 0 (shape .objects)
+    (bytes-with (ownerCount shape) first 0 nodes (bytes-with objectCount zeros 0 (shape .objects)
     (λ j. subst (λ (n : ℕ). n < 256) (sym (getD-zeros (imageSize shape) j)) (lit< tt))))
 
 -- every field but the counts and the holders is 0
@@ -71,7 +72,7 @@ pub blank-zero : (g : Field) (i : ℕ) → T (apart (holderField shape) g) → T
     → fieldOf g (blankAs shape) i ≡ 0
 unfolding blankAs unheld counted zeros
 blank-zero g i a b c =
-    all-apart (holderField shape) (λ h. nobody) g (shape .objects) both i a ∙ of-with-apart (ownerCount shape) g first 0 i owners b
+    all-apart (holderField shape) (λ h. nobody) g (shape .objects) both i a ∙ of-with-apart (ownerCount shape) g first 0 i nodes b
     ∙ of-with-apart objectCount g zeros 0 i (shape .objects) c ∙ of-zeros g i
 
 pub blank-holder : (t : ℕ) → t < shape .objects → holder (blankAs shape) t ≡ nobody
@@ -81,14 +82,14 @@ blank-holder t k = all-here (holderField shape) (λ h. nobody) (shape .objects) 
 blank-first : fieldOf objectCount (blankAs shape) 0 ≡ shape .objects
 unfolding blankAs unheld counted zeros
 blank-first =
-    all-apart (holderField shape) (λ h. nobody) objectCount (shape .objects) both 0 tt ∙ of-with-apart (ownerCount shape) objectCount first 0 0 owners tt
+    all-apart (holderField shape) (λ h. nobody) objectCount (shape .objects) both 0 tt ∙ of-with-apart (ownerCount shape) objectCount first 0 0 nodes tt
     ∙ of-with objectCount zeros 0 (shape .objects) tt (omega (arith, length-zeros)) (lit< tt) (lit< tt)
 
-blank-second : fieldOf (ownerCount shape) (blankAs shape) 0 ≡ owners
+blank-second : fieldOf (ownerCount shape) (blankAs shape) 0 ≡ nodes
 unfolding blankAs unheld counted zeros
 blank-second =
     all-apart (holderField shape) (λ h. nobody) (ownerCount shape) (shape .objects) both 0 tt
-    ∙ of-with (ownerCount shape) first 0 owners tt (omega (arith, length-with objectCount zeros 0 (shape .objects), length-zeros)) (lit< tt) (lit< tt)
+    ∙ of-with (ownerCount shape) first 0 nodes tt (omega (arith, length-with objectCount zeros 0 (shape .objects), length-zeros)) (lit< tt) (lit< tt)
 
 pub blank-sound : Sound (blankAs shape)
 blank-sound =

@@ -6,12 +6,13 @@ use Prim.Native.Nat.{ℕ, _^_, _<_, _≤_}
 use native.Mathlib.Omega.{arith}
 use lib.Dec.{T}
 use lib.ListN.{length}
+use Rattle.numbers.specs.Sizes.{nodes, nobody}
 use Rattle.mask.specs.Mask.{contains}
 use Rattle.image.specs.declared.Field.{Field}
 use Rattle.image.specs.Field.{fieldOf, withField}
-use Rattle.image.specs.Layout.{shape, owners, imageSize, objectCount, ownerCount, holderField, readersField, writersField}
+use Rattle.image.specs.Layout.{shape, imageSize, objectCount, ownerCount, holderField, readersField, writersField}
 use Rattle.image.specs.Layout.{serialField, stateField, stampField, holder, readers, writers, serial, state, stamp}
-use Rattle.image.specs.Valid.{listed, held, nobody}
+use Rattle.image.specs.Valid.{listed, held}
 use Rattle.image.specs.Change.{withSerial, withState, withOwner, free, unlist}
 use Rattle.image.proofs.Each.{same-or-not}
 use Rattle.image.proofs.Lens.{apart, together, length-with, of-with, of-with-item, of-with-apart, bytes-with}
@@ -26,7 +27,7 @@ pub record Idle (l : List ℕ) (o : ℕ) : Type 0 where
   pub writes : (t : ℕ) → t < shape .objects → T (contains (writers l t) o) → ⊥
 
 -- ---- what its state says of an owner
-module _ (l : List ℕ) (o : ℕ) (s : Sound l) (small : o < owners) where
+module _ (l : List ℕ) (o : ℕ) (s : Sound l) (small : o < nodes) where
   pub not-holding : (state l o ≡ held → ⊥) → (t : ℕ) → t < shape .objects → holder l t ≡ o → ⊥
   not-holding ne t k e =
       ⊎-elim (λ (p : holder l t ≡ nobody). omega arith) (λ p. ne (sym (ap (state l) e) ∙ p .1)) (s .clauses .copies-sound t k .holding)
@@ -145,7 +146,7 @@ owner-other l o n st sp =
     (with-other (stampField shape) b o sp tt tt tt tt tt tt tt tt)
 
 -- an owner that was in no list is in none once its serial, state and stamp are new
-pub unlist-new : (l : List ℕ) (o n st sp : ℕ) → Bytes l → o < owners → Idle l o → unlist (withOwner l o n st sp) o ≡ withOwner l o n st sp
+pub unlist-new : (l : List ℕ) (o n st sp : ℕ) → Bytes l → o < nodes → Idle l o → unlist (withOwner l o n st sp) o ≡ withOwner l o n st sp
 unlist-new l o n st sp b h idle =
     let e = owner-other l o n st sp in
     let a = withSerial l o n in
@@ -156,7 +157,7 @@ unlist-new l o n st sp b h idle =
     (λ t k c. idle .writes t k (subst (λ (m : ℕ). T (contains m o)) (e .writings t) c))
 
 -- what is read of the owner then
-module _ (l : List ℕ) (o n st sp : ℕ) (fit : imageSize shape ≤ length l) (small : o < owners) where
+module _ (l : List ℕ) (o n st sp : ℕ) (fit : imageSize shape ≤ length l) (small : o < nodes) where
   abbrev a : List ℕ
   a = withSerial l o n
 
@@ -177,7 +178,7 @@ module _ (l : List ℕ) (o n st sp : ℕ) (fit : imageSize shape ≤ length l) (
   stamp-of h =
       of-with (stampField shape) b o sp tt (omega (arith, length-with (serialField shape) l o n, length-with (stateField shape) a o st)) small h
 
-module _ (l : List ℕ) (o : ℕ) (s : Sound l) (small : o < owners) (idle : Idle l o) where
+module _ (l : List ℕ) (o : ℕ) (s : Sound l) (small : o < nodes) (idle : Idle l o) where
   -- the state alone: over, listed, held or refused, where serial and stamp go with it
   pub keeps-state : (st : ℕ) → OwnerSound (serial l o) st (stamp l o) → Sound (withState l o st)
   keeps-state st ok =

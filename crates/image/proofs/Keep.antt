@@ -9,14 +9,15 @@ use lib.Bits.{or-lt}
 use lib.Pow.{pow-lt}
 use lib.Dec.{T, eqb→eq}
 use lib.ListN.{length}
+use Rattle.numbers.specs.Sizes.{nodes, nobody}
 use Rattle.mask.specs.Mask.{contains, only, minus}
 use Rattle.mask.proofs.Laws.{contains-joined, contains-minus, only-small}
 use Rattle.mask.proofs.Tests.{and-left, and-right, or-cases}
 use Rattle.image.specs.declared.Field.{Field}
 use Rattle.image.specs.Field.{fieldOf, withField, changedAll}
-use Rattle.image.specs.Layout.{shape, owners, objectCount, ownerCount, valueField, versionField, holderField, readersField, writersField}
+use Rattle.image.specs.Layout.{shape, objectCount, ownerCount, valueField, versionField, holderField, readersField, writersField}
 use Rattle.image.specs.Layout.{serialField, stateField, stampField, holder, readers, writers, serial, state, stamp}
-use Rattle.image.specs.Valid.{listed, nobody}
+use Rattle.image.specs.Valid.{listed}
 use Rattle.image.specs.Change.{withValue, withVersion, withHolder, withReaders, withWriters, listing, addReader, addWriter}
 use Rattle.image.proofs.Each.{lt-or-le, same-or-not}
 use Rattle.image.proofs.Lens.{apart, inside, Holds, length-with, of-with, of-with-other, of-with-apart, with-out, length-all, all-apart}
@@ -149,15 +150,15 @@ module _ (l : List ℕ) (t : ℕ) (s : Sound l) where
       })
 
 -- ---- lists: owner o joins one, or leaves it
-list-joined : (states : ℕ → ℕ) (m o : ℕ) → o < owners → states o ≡ listed → ListSound states m → ListSound states (listing o m)
+list-joined : (states : ℕ → ℕ) (m o : ℕ) → o < nodes → states o ≡ listed → ListSound states m → ListSound states (listing o m)
 list-joined states m o k e f i t =
-    or-cases ((i < owners) × (states i ≡ listed)) (contains m i) (contains (only o) i) (f i)
+    or-cases ((i < nodes) × (states i ≡ listed)) (contains m i) (contains (only o) i) (f i)
     (λ c. let d : o ≡ i = eqb→eq o i (subst T (contains-only o i (omega arith)) c) in
-    (subst (λ (n : ℕ). n < owners) d k, subst (λ (n : ℕ). states n ≡ listed) d e))
+    (subst (λ (n : ℕ). n < nodes) d k, subst (λ (n : ℕ). states n ≡ listed) d e))
     (subst T (contains-joined m (only o) i) t)
 
 -- a mask that o joins still fits its two bytes
-pub listing-small : (m o : ℕ) → m < 2 ^ 16 → o < owners → listing o m < 2 ^ 16
+pub listing-small : (m o : ℕ) → m < 2 ^ 16 → o < nodes → listing o m < 2 ^ 16
 listing-small m o h k =
     or-lt 16 m (only o) h (subst (λ (n : ℕ). n < 2 ^ 16) (sym (only-small o (omega arith))) (pow-lt {i = o} {j = 16} (omega arith)))
 
@@ -165,7 +166,7 @@ listing-small m o h k =
 pub list-less : (states : ℕ → ℕ) (m n : ℕ) → ListSound states m → ListSound states (minus m n)
 list-less states m n f i t = f i (and-left (contains m i) (not (contains n i)) (subst T (contains-minus m n i) t))
 
-module _ (l : List ℕ) (t o : ℕ) (s : Sound l) (k : o < owners) (e : state l o ≡ listed) where
+module _ (l : List ℕ) (t o : ℕ) (s : Sound l) (k : o < nodes) (e : state l o ≡ listed) where
   pub keeps-reader : Sound (addReader l t o)
   keeps-reader =
       ⊎-elim (λ (h : t < shape .objects). keeps-readers l t s (listing o (readers l t))

@@ -10,12 +10,13 @@ use lib.Dec.{T, eqb, ltb, leb, eqb→eq, ltb→lt, lt→ltb, leb→le, le→leb,
 use lib.Pow.{pow-mono}
 use lib.ListN.{length}
 use borrow.Author.Tests.{eq-eqb}
+use Rattle.numbers.specs.Sizes.{nodes, everyNode, nobody}
 use Rattle.mask.specs.Mask.{contains, joined, within}
 use Rattle.mask.proofs.Laws.{bit-high, contains-within, within-contains, within-joined}
 use Rattle.mask.proofs.Tests.{same-test, and-both, and-left, and-right, or-left, or-right, or-cases, T-true}
 use Rattle.image.specs.Field.{fieldOf}
-use Rattle.image.specs.Layout.{shape, owners, imageSize, objectCount, ownerCount, holder, readers, writers, serial, state, stamp}
-use Rattle.image.specs.Valid.{over, listed, held, refused, nobody, everyOwner}
+use Rattle.image.specs.Layout.{shape, imageSize, objectCount, ownerCount, holder, readers, writers, serial, state, stamp}
+use Rattle.image.specs.Valid.{over, listed, held, refused}
 use Rattle.image.specs.Valid.{each, holderOk, stateOk, maskOk, serialOk, heldOk, listedOk, countsOk, valid, checkAs, check}
 use Rattle.image.specs.Pass.{holderFits, copyFits, ownerFits}
 use Rattle.image.proofs.Each.{each-at, each-all, lt-or-le}
@@ -31,11 +32,11 @@ pub record OwnerSound (serial state stamp : ℕ) : Type 0 where
 
 -- nobody, or an owner in state 2
 abbrev pub HolderSound : (ℕ → ℕ) → ℕ → Type 0
-HolderSound states h = (h ≡ nobody) ⊎ ((h < owners) × (states h ≡ held))
+HolderSound states h = (h ≡ nobody) ⊎ ((h < nodes) × (states h ≡ held))
 
 -- owners in state 1, and no other bit
 abbrev pub ListSound : (ℕ → ℕ) → ℕ → Type 0
-ListSound states m = (o : ℕ) → T (contains m o) → (o < owners) × (states o ≡ listed)
+ListSound states m = (o : ℕ) → T (contains m o) → (o < nodes) × (states o ≡ listed)
 
 pub record CopySound (states : ℕ → ℕ) (h r w : ℕ) : Type 0 where
   pub holding : HolderSound states h
@@ -44,8 +45,8 @@ pub record CopySound (states : ℕ → ℕ) (h r w : ℕ) : Type 0 where
 
 pub record Clauses (l : List ℕ) : Type 0 where
   pub objects-counted : fieldOf objectCount l 0 ≡ shape .objects
-  pub owners-counted : fieldOf (ownerCount shape) l 0 ≡ owners
-  pub owners-sound : (o : ℕ) → o < owners → OwnerSound (serial l o) (state l o) (stamp l o)
+  pub owners-counted : fieldOf (ownerCount shape) l 0 ≡ nodes
+  pub owners-sound : (o : ℕ) → o < nodes → OwnerSound (serial l o) (state l o) (stamp l o)
   pub copies-sound : (t : ℕ) → t < shape .objects → CopySound (state l) (holder l t) (readers l t) (writers l t)
 
 -- an image: its length, and the clauses
@@ -90,14 +91,14 @@ module _ (states : ℕ → ℕ) (h : ℕ) where
   pub ok-holder : T (holderOk h) → T (heldOk states h) → HolderSound states h
   ok-holder a b =
       or-cases (HolderSound states h) (eqb h nobody) (eqb (states h) held) (λ t. inl (eqb→eq h nobody t))
-      (λ t. or-cases (HolderSound states h) (ltb h owners) (eqb h nobody) (λ s. inr (ltb→lt h owners s, eqb→eq (states h) held t))
+      (λ t. or-cases (HolderSound states h) (ltb h nodes) (eqb h nobody) (λ s. inr (ltb→lt h nodes s, eqb→eq (states h) held t))
       (λ s. inl (eqb→eq h nobody s)) a)
       b
 
   pub holder-ok : HolderSound states h → T (holderOk h)
   holder-ok s =
-      ⊎-elim (λ (e : h ≡ nobody). or-right (ltb h owners) (eqb h nobody) (eq-T h nobody e))
-      (λ e. or-left (ltb h owners) (eqb h nobody) (lt→ltb h owners (e .0))) s
+      ⊎-elim (λ (e : h ≡ nobody). or-right (ltb h nodes) (eqb h nobody) (eq-T h nobody e))
+      (λ e. or-left (ltb h nodes) (eqb h nobody) (lt→ltb h nodes (e .0))) s
 
   pub holder-held : HolderSound states h → T (heldOk states h)
   holder-held s =
@@ -105,35 +106,35 @@ module _ (states : ℕ → ℕ) (h : ℕ) where
       (λ e. or-right (eqb h nobody) (eqb (states h) held) (eq-T (states h) held (e .1))) s
 
 -- ---- one list
-pub no-high-bit : (m o : ℕ) → m ≤ everyOwner → T (contains m o) → o < owners
+pub no-high-bit : (m o : ℕ) → m ≤ everyNode → T (contains m o) → o < nodes
 no-high-bit m o h t =
-    ⊎-elim (λ (a : o < owners). a)
-    (λ a. let z : m < 2 ^ o = omega (arith, pow-mono {i = owners} {j = o} a) in absurd (subst (λ (x : ℕ). T (eqb x 1)) (bit-high m o z) t))
-    (lt-or-le o owners)
+    ⊎-elim (λ (a : o < nodes). a)
+    (λ a. let z : m < 2 ^ o = omega (arith, pow-mono {i = nodes} {j = o} a) in absurd (subst (λ (x : ℕ). T (eqb x 1)) (bit-high m o z) t))
+    (lt-or-le o nodes)
 
 -- owners alone make a small mask
-pub low-bits : (m : ℕ) → ((o : ℕ) → T (contains m o) → o < owners) → m ≤ everyOwner
+pub low-bits : (m : ℕ) → ((o : ℕ) → T (contains m o) → o < nodes) → m ≤ everyNode
 unfolding each
 low-bits m f =
-    let e : bitAnd m everyOwner ≡ m = eqb→eq (bitAnd m everyOwner) m
-    (contains-within m everyOwner (λ o t. each-at (contains everyOwner) owners tt o (f o t))) in
-    omega (arith, and-le-r m everyOwner)
+    let e : bitAnd m everyNode ≡ m = eqb→eq (bitAnd m everyNode) m
+    (contains-within m everyNode (λ o t. each-at (contains everyNode) nodes tt o (f o t))) in
+    omega (arith, and-le-r m everyNode)
 
 module _ (states : ℕ → ℕ) (m : ℕ) where
   pub ok-list : T (maskOk m) → T (listedOk states m) → ListSound states m
   ok-list a b o t =
-      let k : o < owners = no-high-bit m o (leb→le m everyOwner a) t in (
+      let k : o < nodes = no-high-bit m o (leb→le m everyNode a) t in (
         k,
         or-cases (states o ≡ listed) (not (contains m o)) (eqb (states o) listed) (λ n. absurd (T-not (contains m o) n t))
             (λ s. eqb→eq (states o) listed s)
-            (each-at (λ i. not (contains m i) || eqb (states i) listed) owners b o k),
+            (each-at (λ i. not (contains m i) || eqb (states i) listed) nodes b o k),
       )
 
   pub list-ok : ListSound states m → T (maskOk m)
-  list-ok f = le→leb m everyOwner (low-bits m (λ o t. f o t .0))
+  list-ok f = le→leb m everyNode (low-bits m (λ o t. f o t .0))
 
   pub list-listed : ListSound states m → T (listedOk states m)
-  list-listed f = each-all (λ i. not (contains m i) || eqb (states i) listed) owners (λ o k. by o (contains m o) refl)
+  list-listed f = each-all (λ i. not (contains m i) || eqb (states i) listed) nodes (λ o k. by o (contains m o) refl)
     where
       by : (o : ℕ) (b : Bool) → contains m o ≡ b → T (not (contains m o) || eqb (states o) listed)
       by o true e = or-right (not (contains m o)) (eqb (states o) listed) (eq-T (states o) listed (f o (subst T (sym e) tt) .1))
@@ -148,13 +149,13 @@ module _ (l : List ℕ) where
   holders = each (shape .objects) (λ t. holderOk (holder l t))
 
   abbrev states : Bool
-  states = each owners (λ o. stateOk (state l o))
+  states = each nodes (λ o. stateOk (state l o))
 
   abbrev masks : Bool
   masks = each (shape .objects) (λ t. maskOk (readers l t) && maskOk (writers l t))
 
   abbrev names : Bool
-  names = each owners (λ o. serialOk (serial l o) (state l o) (stamp l o))
+  names = each nodes (λ o. serialOk (serial l o) (state l o) (stamp l o))
 
   abbrev holds : Bool
   holds = each (shape .objects) (λ t. heldOk (state l) (holder l t))
@@ -179,10 +180,10 @@ module _ (l : List ℕ) where
       let ls = and-right (counts && holders && states && masks && names && holds) lists v in
       record {
         objects-counted = eqb→eq (fieldOf objectCount l 0) (shape .objects) (and-left (eqb (fieldOf objectCount l 0) (shape .objects)) _ f);
-        owners-counted = eqb→eq (fieldOf (ownerCount shape) l 0) owners (and-right (eqb (fieldOf objectCount l 0) (shape .objects)) _ f);
+        owners-counted = eqb→eq (fieldOf (ownerCount shape) l 0) nodes (and-right (eqb (fieldOf objectCount l 0) (shape .objects)) _ f);
         owners-sound = λ o k. record {
-          small = leb→le (state l o) refused (each-at (λ i. stateOk (state l i)) owners ss o k);
-          named = ok-named (serial l o) (state l o) (stamp l o) (each-at (λ i. serialOk (serial l i) (state l i) (stamp l i)) owners ns o k);
+          small = leb→le (state l o) refused (each-at (λ i. stateOk (state l i)) nodes ss o k);
+          named = ok-named (serial l o) (state l o) (stamp l o) (each-at (λ i. serialOk (serial l i) (state l i) (stamp l i)) nodes ns o k);
         };
         copies-sound = λ t k.
             let m = each-at (λ i. maskOk (readers l i) && maskOk (writers l i)) (shape .objects) ms t k in
@@ -201,18 +202,18 @@ module _ (l : List ℕ) where
   unfolding valid
   clauses-valid s =
       let cs = s .copies-sound in
-      let a = and-both (eqb (fieldOf objectCount l 0) (shape .objects)) (eqb (fieldOf (ownerCount shape) l 0) owners)
-      (eq-T (fieldOf objectCount l 0) (shape .objects) (s .objects-counted)) (eq-T (fieldOf (ownerCount shape) l 0) owners (s .owners-counted)) in
+      let a = and-both (eqb (fieldOf objectCount l 0) (shape .objects)) (eqb (fieldOf (ownerCount shape) l 0) nodes)
+      (eq-T (fieldOf objectCount l 0) (shape .objects) (s .objects-counted)) (eq-T (fieldOf (ownerCount shape) l 0) nodes (s .owners-counted)) in
       let b = and-both counts holders a
       (each-all (λ t. holderOk (holder l t)) (shape .objects) (λ t k. holder-ok (state l) (holder l t) (cs t k .holding))) in
       let c = and-both (counts && holders) states b
-      (each-all (λ o. stateOk (state l o)) owners (λ o k. le→leb (state l o) refused (s .owners-sound o k .small))) in
+      (each-all (λ o. stateOk (state l o)) nodes (λ o k. le→leb (state l o) refused (s .owners-sound o k .small))) in
       let d = and-both (counts && holders && states) masks c
       (each-all (λ t. maskOk (readers l t) && maskOk (writers l t)) (shape .objects)
       (λ t k. and-both (maskOk (readers l t)) (maskOk (writers l t)) (list-ok (state l) (readers l t) (cs t k .reading))
       (list-ok (state l) (writers l t) (cs t k .writing)))) in
       let e = and-both (counts && holders && states && masks) names d
-      (each-all (λ o. serialOk (serial l o) (state l o) (stamp l o)) owners
+      (each-all (λ o. serialOk (serial l o) (state l o) (stamp l o)) nodes
       (λ o k. named-ok (serial l o) (state l o) (stamp l o) (s .owners-sound o k .named))) in
       let f = and-both (counts && holders && states && masks && names) holds e
       (each-all (λ t. heldOk (state l) (holder l t)) (shape .objects) (λ t k. holder-held (state l) (holder l t) (cs t k .holding))) in
@@ -255,15 +256,15 @@ unused (suc state) stamp = simp (eqb·suc-zero state) (by (eqb stamp 0) (leb (su
     by false false = refl
 
 -- a copy within the masks of the owners in states 1 and 2 is a sound one
-module _ (states : ℕ → ℕ) (inListed inHeld : ℕ) (in1 : Marks inListed owners (λ o. eqb (states o) listed))
-    (in2 : Marks inHeld owners (λ o. eqb (states o) held)) where
-  marked : (m s o : ℕ) → Marks m owners (λ i. eqb (states i) s) → T (contains m o) → (o < owners) × (states o ≡ s)
+module _ (states : ℕ → ℕ) (inListed inHeld : ℕ) (in1 : Marks inListed nodes (λ o. eqb (states o) listed))
+    (in2 : Marks inHeld nodes (λ o. eqb (states o) held)) where
+  marked : (m s o : ℕ) → Marks m nodes (λ i. eqb (states i) s) → T (contains m o) → (o < nodes) × (states o ≡ s)
   marked m s o f t =
-      let b : T (ltb o owners && eqb (states o) s) = subst T (f o) t in
-      (ltb→lt o owners (and-left (ltb o owners) (eqb (states o) s) b), eqb→eq (states o) s (and-right (ltb o owners) (eqb (states o) s) b))
+      let b : T (ltb o nodes && eqb (states o) s) = subst T (f o) t in
+      (ltb→lt o nodes (and-left (ltb o nodes) (eqb (states o) s) b), eqb→eq (states o) s (and-right (ltb o nodes) (eqb (states o) s) b))
 
-  mark : (m s o : ℕ) → Marks m owners (λ i. eqb (states i) s) → (o < owners) × (states o ≡ s) → T (contains m o)
-  mark m s o f h = subst T (sym (f o)) (and-both (ltb o owners) (eqb (states o) s) (lt→ltb o owners (h .0)) (eq-T (states o) s (h .1)))
+  mark : (m s o : ℕ) → Marks m nodes (λ i. eqb (states i) s) → (o < nodes) × (states o ≡ s) → T (contains m o)
+  mark m s o f h = subst T (sym (f o)) (and-both (ltb o nodes) (eqb (states o) s) (lt→ltb o nodes (h .0)) (eq-T (states o) s (h .1)))
 
   pub fits-sound : (h r w : ℕ) → T (holderFits inHeld h && within (joined r w) inListed) → CopySound states h r w
   fits-sound h r w t =
@@ -287,21 +288,21 @@ module _ (states : ℕ → ℕ) (inListed inHeld : ℕ) (in1 : Marks inListed ow
       (contains-within w inListed (λ o s. mark inListed listed o in1 (c .writing o s)))))
 
 -- all passes together are the clauses
-pub passes : (l : List ℕ) (inListed inHeld : ℕ) → Marks inListed owners (λ o. eqb (state l o) listed)
-    → Marks inHeld owners (λ o. eqb (state l o) held)
-    → (countsOk shape l && each owners (ownerFits l) && each (shape .objects) (copyFits inListed inHeld l)) ≡ valid shape l
+pub passes : (l : List ℕ) (inListed inHeld : ℕ) → Marks inListed nodes (λ o. eqb (state l o) listed)
+    → Marks inHeld nodes (λ o. eqb (state l o) held)
+    → (countsOk shape l && each nodes (ownerFits l) && each (shape .objects) (copyFits inListed inHeld l)) ≡ valid shape l
 passes l inListed inHeld p q =
-    same-test (C && each owners (ownerFits l) && each (shape .objects) (copyFits inListed inHeld l)) (valid shape l)
+    same-test (C && each nodes (ownerFits l) && each (shape .objects) (copyFits inListed inHeld l)) (valid shape l)
     (λ t.
-    let a = and-left (C && each owners (ownerFits l)) (each (shape .objects) (copyFits inListed inHeld l)) t in
-    let b = and-right (C && each owners (ownerFits l)) (each (shape .objects) (copyFits inListed inHeld l)) t in
-    let c = and-left C (each owners (ownerFits l)) a in
-    let d = and-right C (each owners (ownerFits l)) a in
+    let a = and-left (C && each nodes (ownerFits l)) (each (shape .objects) (copyFits inListed inHeld l)) t in
+    let b = and-right (C && each nodes (ownerFits l)) (each (shape .objects) (copyFits inListed inHeld l)) t in
+    let c = and-left C (each nodes (ownerFits l)) a in
+    let d = and-right C (each nodes (ownerFits l)) a in
     clauses-valid l (record {
       objects-counted = eqb→eq (fieldOf objectCount l 0) (shape .objects) (and-left (eqb (fieldOf objectCount l 0) (shape .objects)) _ c);
-      owners-counted = eqb→eq (fieldOf (ownerCount shape) l 0) owners (and-right (eqb (fieldOf objectCount l 0) (shape .objects)) _ c);
+      owners-counted = eqb→eq (fieldOf (ownerCount shape) l 0) nodes (and-right (eqb (fieldOf objectCount l 0) (shape .objects)) _ c);
       owners-sound = λ o k.
-          let e = each-at (ownerFits l) owners d o k in
+          let e = each-at (ownerFits l) nodes d o k in
           record {
             small = leb→le (state l o) refused (and-left (stateOk (state l o)) (serialOk (serial l o) (state l o) (stamp l o)) e);
             named = ok-named (serial l o) (state l o) (stamp l o) (and-right (stateOk (state l o)) (serialOk (serial l o) (state l o) (stamp l o)) e);
@@ -311,11 +312,11 @@ passes l inListed inHeld p q =
     }))
     (λ t.
     let s = valid-clauses l t in
-    and-both (C && each owners (ownerFits l)) (each (shape .objects) (copyFits inListed inHeld l))
-    (and-both C (each owners (ownerFits l))
-    (and-both (eqb (fieldOf objectCount l 0) (shape .objects)) (eqb (fieldOf (ownerCount shape) l 0) owners)
-    (eq-T (fieldOf objectCount l 0) (shape .objects) (s .objects-counted)) (eq-T (fieldOf (ownerCount shape) l 0) owners (s .owners-counted)))
-    (each-all (ownerFits l) owners (λ o k. and-both (stateOk (state l o)) (serialOk (serial l o) (state l o) (stamp l o))
+    and-both (C && each nodes (ownerFits l)) (each (shape .objects) (copyFits inListed inHeld l))
+    (and-both C (each nodes (ownerFits l))
+    (and-both (eqb (fieldOf objectCount l 0) (shape .objects)) (eqb (fieldOf (ownerCount shape) l 0) nodes)
+    (eq-T (fieldOf objectCount l 0) (shape .objects) (s .objects-counted)) (eq-T (fieldOf (ownerCount shape) l 0) nodes (s .owners-counted)))
+    (each-all (ownerFits l) nodes (λ o k. and-both (stateOk (state l o)) (serialOk (serial l o) (state l o) (stamp l o))
     (le→leb (state l o) refused (s .owners-sound o k .small)) (named-ok (serial l o) (state l o) (stamp l o) (s .owners-sound o k .named)))))
     (each-all (copyFits inListed inHeld l) (shape .objects)
     (λ t k. sound-fits (state l) inListed inHeld p q (holder l t) (readers l t) (writers l t) (s .copies-sound t k))))

@@ -9,15 +9,15 @@ use lib.Bits.{bitAnd, and-le-l, xor-lt}
 use lib.Dec.{T, eqb, eqb-refl, lit<, T-not}
 use lib.ListN.{length}
 use borrow.Author.Tests.{eq-eqb, ne-eqb, eqb-true, eqb-false}
+use Rattle.numbers.specs.Sizes.{nodes, nobody}
 use Rattle.mask.specs.Mask.{bit, contains, only}
 use Rattle.mask.proofs.Laws.{bit-lt, contains-minus, ext}
 use Rattle.mask.proofs.Tests.{and-right}
 use Rattle.octets.proofs.Laws.{Bytes}
 use Rattle.image.specs.declared.Field.{Field}
 use Rattle.image.specs.Field.{fieldOf, changed, changedAll}
-use Rattle.image.specs.Layout.{shape, owners, imageSize, objectCount, ownerCount, holderField, readersField, writersField}
+use Rattle.image.specs.Layout.{shape, imageSize, objectCount, ownerCount, holderField, readersField, writersField}
 use Rattle.image.specs.Layout.{serialField, stateField, stampField, holder, readers, writers, state}
-use Rattle.image.specs.Valid.{nobody}
 use Rattle.image.specs.Change.{freeing, leaving, free, leave, unlist}
 use Rattle.image.specs.Pass.{struck}
 use Rattle.image.proofs.Lens.{apart, inside, Holds, length-all, bytes-all, all-same, all-more, all-comm, all-apart, all-here}
@@ -205,7 +205,7 @@ module _ (l : List ℕ) (o : ℕ) (s : Sound l) where
       })
 
   -- after free no copy has o as its holder
-  pub free-none : o < owners → (t : ℕ) → t < shape .objects → holder (free l o) t ≡ o → ⊥
+  pub free-none : o < nodes → (t : ℕ) → t < shape .objects → holder (free l o) t ≡ o → ⊥
   free-none small t k e = by (eqb (holder l t) o) refl
     where
       by : (b : Bool) → eqb (holder l t) o ≡ b → ⊥
@@ -215,13 +215,13 @@ module _ (l : List ℕ) (o : ℕ) (s : Sound l) where
           subst T (sym (eq-eqb (holder l t) o z) ∙ p) tt
 
   -- after unlist o is in no list
-  has-left : (m : ℕ) → o < owners → T (contains (leaving o m) o) → ⊥
+  has-left : (m : ℕ) → o < nodes → T (contains (leaving o m) o) → ⊥
   has-left m small t =
       T-not (contains (only o) o) (and-right (contains m o) (not (contains (only o) o)) (subst T (contains-minus m (only o) o) t))
       (subst T (sym (contains-only o o (omega arith))) (eqb-refl o))
 
-  pub unlist-no-reader : o < owners → (t : ℕ) → t < shape .objects → T (contains (readers (unlist l o) t) o) → ⊥
+  pub unlist-no-reader : o < nodes → (t : ℕ) → t < shape .objects → T (contains (readers (unlist l o) t) o) → ⊥
   unlist-no-reader small t k c = has-left (readers l t) small (subst (λ (m : ℕ). T (contains m o)) (left-readers t k) c)
 
-  pub unlist-no-writer : o < owners → (t : ℕ) → t < shape .objects → T (contains (writers (unlist l o) t) o) → ⊥
+  pub unlist-no-writer : o < nodes → (t : ℕ) → t < shape .objects → T (contains (writers (unlist l o) t) o) → ⊥
   unlist-no-writer small t k c = has-left (writers l t) small (subst (λ (m : ℕ). T (contains m o)) (left-writers t k) c)

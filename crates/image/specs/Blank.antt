@@ -4,14 +4,14 @@ use mathlib.Core.List.{List}
 use Prim.Native.Nat.{ℕ}
 use lib.Dec.{eqb}
 use lib.ListN.{length, replicate}
+use Rattle.numbers.specs.Sizes.{nodes, nobody}
 use Rattle.numbers.specs.Numbers.{wrongLength}
 use Rattle.image.specs.Field.{withField, changedAll}
-use Rattle.image.specs.Layout.{Shape, shape, owners, imageSize, objectCount, ownerCount, holderField}
-use Rattle.image.specs.Valid.{nobody}
+use Rattle.image.specs.Layout.{Shape, shape, imageSize, objectCount, ownerCount, holderField}
 
 -- l with the counts of a shape
 unfoldable pub counted : Shape → List ℕ → List ℕ
-counted s l = withField (ownerCount s) (withField objectCount l 0 (s .objects)) 0 owners
+counted s l = withField (ownerCount s) (withField objectCount l 0 (s .objects)) 0 nodes
 
 -- l with every holder nobody
 unfoldable pub unheld : Shape → List ℕ → List ℕ

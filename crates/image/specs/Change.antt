@@ -3,11 +3,11 @@ use mathlib.Core.Bool.{cond}
 use mathlib.Core.List.{List}
 use Prim.Native.Nat.{ℕ}
 use lib.Dec.{eqb}
+use Rattle.numbers.specs.Sizes.{nobody}
 use Rattle.mask.specs.Mask.{only, joined, minus}
 use Rattle.image.specs.declared.Field.{Field}
 use Rattle.image.specs.Field.{withField, changed, changedAll}
 use Rattle.image.specs.Layout.{shape, valueField, versionField, holderField, readersField, writersField, serialField, stateField, stampField}
-use Rattle.image.specs.Valid.{nobody}
 
 -- ---- one field of object t, or of owner o
 abbrev pub withValue : List ℕ → ℕ → ℕ → List ℕ

@@ -2,6 +2,7 @@
 -- owners (last serial 4, state 1, stamp 4). An image has a shape, the number of objects and the width of a copy; more fields may follow in a copy.
 use mathlib.Core.List.{List}
 use Prim.Native.Nat.{ℕ, _+_, _*_}
+use Rattle.numbers.specs.Sizes.{nodes, objects}
 use Rattle.image.specs.Field.{fieldOf}
 use Rattle.image.specs.declared.Copy.{Copy}
 use Rattle.image.specs.declared.Field.{Field}
@@ -13,14 +14,11 @@ pub record Shape : Type 0 where
 
 -- the shape of the images here: 64 objects (document 01: tallies), 17 bytes each
 abbrev pub shape : Shape
-shape = record { objects = 64; copySize = 17 }
+shape = record { objects = objects; copySize = 17 }
 
--- ---- sizes in bytes, and the number of owners (document 01: controllers)
+-- ---- sizes in bytes; an owner is a node (document 01: controller)
 abbrev pub countSize : ℕ
 countSize = 1
-
-abbrev pub owners : ℕ
-owners = 13
 
 abbrev pub ownerSize : ℕ
 ownerSize = 9
@@ -36,7 +34,7 @@ abbrev pub ownersPlace : Shape → ℕ
 ownersPlace s = ownerCountPlace s + countSize
 
 abbrev pub imageSize : Shape → ℕ
-imageSize s = ownersPlace s + ownerSize * owners
+imageSize s = ownersPlace s + ownerSize * nodes
 
 -- ---- the fields
 -- a field of a copy, and one of an owner
@@ -44,7 +42,7 @@ abbrev pub copyField : Shape → ℕ → ℕ → Field
 copyField s offset width = record { items = s .objects; base = copiesPlace; stride = s .copySize; offset = offset; width = width }
 
 abbrev pub ownerField : Shape → ℕ → ℕ → Field
-ownerField s offset width = record { items = owners; base = ownersPlace s; stride = ownerSize; offset = offset; width = width }
+ownerField s offset width = record { items = nodes; base = ownersPlace s; stride = ownerSize; offset = offset; width = width }
 
 -- a count, the one item of its kind
 abbrev pub countField : ℕ → Field

@@ -6,12 +6,13 @@ use mathlib.Core.Bool.{Bool, cond, _&&_, _||_}
 use mathlib.Core.List.{List}
 use Prim.Native.Nat.{ℕ, _+_, _*_, _<_, _≤_}
 use lib.Dec.{eqb, ltb}
+use Rattle.numbers.specs.Sizes.{nodes, nobody}
 use Rattle.mask.specs.Mask.{contains, only, joined, minus, within}
 use Rattle.image.specs.declared.Field.{Field}
 use Rattle.image.specs.declared.Walk.{Walk}
 use Rattle.image.specs.Field.{Near, changed}
-use Rattle.image.specs.Layout.{shape, owners, readersField, writersField, holder, readers, writers, serial, state, stamp}
-use Rattle.image.specs.Valid.{listed, held, nobody, each, stateOk, serialOk}
+use Rattle.image.specs.Layout.{shape, readersField, writersField, holder, readers, writers, serial, state, stamp}
+use Rattle.image.specs.Valid.{listed, held, each, stateOk, serialOk}
 
 -- the holder is nobody or in the mask
 abbrev pub holderFits : ℕ → ℕ → Bool
@@ -31,11 +32,11 @@ marked m o here = cond here (joined m (only o)) m
 
 -- the mask has the owners in a state, and no other bit
 abbrev pub InState : List ℕ → ℕ → ℕ → Type 0
-InState l st m = (o : ℕ) → contains m o ≡ (ltb o owners && eqb (state l o) st)
+InState l st m = (o : ℕ) → contains m o ≡ (ltb o nodes && eqb (state l o) st)
 
 -- what a walk over the owners finds
 pub record Walked (l : List ℕ) (w : Walk) : Type 0 where
-  pub each-fits : w .ok ≡ each owners (ownerFits l)
+  pub each-fits : w .ok ≡ each nodes (ownerFits l)
   pub in-listed : InState l listed (w .listed)
   pub in-held : InState l held (w .held)
 

@@ -4,11 +4,12 @@ use mathlib.Core.List.{List, [], _∷_}
 use Prim.Native.Nat.{ℕ, zero, suc}
 use lib.Dec.{eqb, ltb, leb}
 use lib.ListN.{length}
+use Rattle.numbers.specs.Sizes.{nodes, everyNode, nobody}
 use Rattle.mask.specs.Mask.{contains}
 use Rattle.numbers.specs.Numbers.{wrongLength, damaged}
 use Rattle.numbers.specs.Refusal.{refuse, firstOf}
 use Rattle.image.specs.Field.{fieldOf}
-use Rattle.image.specs.Layout.{Shape, shape, owners, imageSize, objectCount, ownerCount, holderField, readersField, writersField}
+use Rattle.image.specs.Layout.{Shape, shape, imageSize, objectCount, ownerCount, holderField, readersField, writersField}
 use Rattle.image.specs.Layout.{serialField, stateField, stampField}
 
 -- the states of an owner
@@ -24,14 +25,6 @@ held = 2
 abbrev pub refused : ℕ
 refused = 3
 
--- a holder that is nobody
-abbrev pub nobody : ℕ
-nobody = 255
-
--- the mask of all owners
-abbrev pub everyOwner : ℕ
-everyOwner = 8191
-
 -- p holds of each number below n
 unfoldable pub each : ℕ → (ℕ → Bool) → Bool
 each zero p = true
@@ -40,7 +33,7 @@ each (suc n) p = each n p && p n
 -- ---- the clauses; `states` gives the state of each owner
 -- a holder is 0 to 12, or 255 for none
 abbrev pub holderOk : ℕ → Bool
-holderOk h = ltb h owners || eqb h nobody
+holderOk h = ltb h nodes || eqb h nobody
 
 -- a state is 0 to 3
 abbrev pub stateOk : ℕ → Bool
@@ -48,7 +41,7 @@ stateOk state = leb state refused
 
 -- a mask is at most 8,191
 abbrev pub maskOk : ℕ → Bool
-maskOk m = leb m everyOwner
+maskOk m = leb m everyNode
 
 -- serial and stamp are both 0, then in state 0, or neither is
 abbrev pub serialOk : ℕ → ℕ → ℕ → Bool
@@ -60,20 +53,20 @@ heldOk states h = eqb h nobody || eqb (states h) held
 
 -- a listed bit's owner has state 1
 abbrev pub listedOk : (ℕ → ℕ) → ℕ → Bool
-listedOk states m = each owners (λ o. not (contains m o) || eqb (states o) listed)
+listedOk states m = each nodes (λ o. not (contains m o) || eqb (states o) listed)
 
 -- ---- all of them, of an image of a shape
 -- the counts are the shape's objects and the owners
 abbrev pub countsOk : Shape → List ℕ → Bool
-countsOk s l = eqb (fieldOf objectCount l 0) (s .objects) && eqb (fieldOf (ownerCount s) l 0) owners
+countsOk s l = eqb (fieldOf objectCount l 0) (s .objects) && eqb (fieldOf (ownerCount s) l 0) nodes
 
 unfoldable pub valid : Shape → List ℕ → Bool
 valid s l =
     countsOk s l
     && each (s .objects) (λ t. holderOk (fieldOf (holderField s) l t))
-    && each owners (λ o. stateOk (fieldOf (stateField s) l o))
+    && each nodes (λ o. stateOk (fieldOf (stateField s) l o))
     && each (s .objects) (λ t. maskOk (fieldOf (readersField s) l t) && maskOk (fieldOf (writersField s) l t))
-    && each owners (λ o. serialOk (fieldOf (serialField s) l o) (fieldOf (stateField s) l o) (fieldOf (stampField s) l o))
+    && each nodes (λ o. serialOk (fieldOf (serialField s) l o) (fieldOf (stateField s) l o) (fieldOf (stampField s) l o))
     && each (s .objects) (λ t. heldOk (fieldOf (stateField s) l) (fieldOf (holderField s) l t))
     && each (s .objects)
     (λ t. listedOk (fieldOf (stateField s) l) (fieldOf (readersField s) l t) && listedOk (fieldOf (stateField s) l) (fieldOf (writersField s) l t))

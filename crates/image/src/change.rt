@@ -9,11 +9,8 @@ ghost use Rattle.image.specs.Change.{listing, addReader, addWriter, free
 ghost use Rattle.image.specs.Pass.{struck};
 use crate::Field;
 use crate::HOLDER;
-use crate::NOBODY;
 use crate::OBJECT_COUNT;
-use crate::OBJECTS;
 use crate::OWNER_COUNT;
-use crate::OWNERS;
 use crate::READERS;
 use crate::SIZE;
 use crate::WRITERS;
@@ -30,6 +27,9 @@ use crate::read::writers;
 use crate::write::set_holder;
 use crate::write::set_readers;
 use crate::write::set_writers;
+use numbers::NOBODY;
+use numbers::NODES_END;
+use numbers::OBJECTS_END;
 
 // Every byte becomes 0.
 fn zero(image: &mut [u8])
@@ -46,8 +46,8 @@ fn zero(image: &mut [u8])
 fn count(image: &mut [u8])
     ensures { λ r. ⌜ now (image .exit) ≡ counted shape (now (image .entry)) ⌝ }
 {
-    put_u8(image, OBJECT_COUNT, 0, OBJECTS);
-    put_u8(image, OWNER_COUNT, 0, OWNERS);
+    put_u8(image, OBJECT_COUNT, 0, OBJECTS_END);
+    put_u8(image, OWNER_COUNT, 0, NODES_END);
 }
 
 // Nobody holds a copy.
@@ -55,7 +55,7 @@ fn unhold(image: &mut [u8])
     ensures { λ r. ⌜ now (image .exit) ≡ unheld shape (now (image .entry)) ⌝ }
 {
     let mut t: u8 = 0;
-    while t < OBJECTS {
+    while t < OBJECTS_END {
         set_holder(image, t, NOBODY);
         t = t + 1;
     }
@@ -113,7 +113,7 @@ fn free_any(image: &mut [u8], o: u8)
     ensures { λ r. ⌜ now (image .exit) ≡ free (now (image .entry)) o ⌝ }
 {
     let mut t: u8 = 0;
-    while t < OBJECTS {
+    while t < OBJECTS_END {
         free_one(image, t, o);
         t = t + 1;
     }
@@ -134,7 +134,7 @@ fn free_all(image: &mut [u8], o: u8)
     ensures { λ r. ⌜ now (image .exit) ≡ free (now (image .entry)) o ⌝ }
 {
     let mut t: u8 = 0;
-    while t < OBJECTS {
+    while t < OBJECTS_END {
         free_here(image, t, o);
         t = t + 1;
     }
@@ -167,7 +167,7 @@ fn strike_any(image: &mut [u8], o: u8)
 {
     let own = mask::single(o);
     let mut t: u8 = 0;
-    while t < OBJECTS {
+    while t < OBJECTS_END {
         strike_one(image, t, own);
         t = t + 1;
     }
@@ -190,7 +190,7 @@ fn strike_all(image: &mut [u8], o: u8)
 {
     let own = mask::single(o);
     let mut t: u8 = 0;
-    while t < OBJECTS {
+    while t < OBJECTS_END {
         strike_here(image, t, own);
         t = t + 1;
     }

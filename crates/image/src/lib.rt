@@ -11,6 +11,10 @@ pub use change::add_writer;
 pub use change::blank;
 pub use change::free;
 pub use change::unlist;
+use numbers::NODES;
+use numbers::NODES_END;
+use numbers::OBJECTS;
+use numbers::OBJECTS_END;
 pub use read::holder;
 pub use read::owner_of;
 pub use read::readers;
@@ -53,11 +57,6 @@ struct Walk {
     held: u16,
 }
 
-// How many objects and owners there are.
-pub const OBJECTS: u8 = 64;
-
-pub const OWNERS: u8 = 13;
-
 // Sizes in bytes: a count, a copy, an owner.
 const COUNT_SIZE: usize = 1;
 
@@ -68,14 +67,11 @@ const OWNER_SIZE: usize = 9;
 // Where the first copy, the second count and the first owner stand, and the size of an image.
 const COPIES_PLACE: usize = COUNT_SIZE;
 
-const OWNER_COUNT_PLACE: usize = COPIES_PLACE + COPY_SIZE * (OBJECTS as usize);
+const OWNER_COUNT_PLACE: usize = COPIES_PLACE + COPY_SIZE * OBJECTS;
 
 const OWNERS_PLACE: usize = OWNER_COUNT_PLACE + COUNT_SIZE;
 
-pub const SIZE: usize = OWNERS_PLACE + OWNER_SIZE * (OWNERS as usize);
-
-// A holder that is nobody.
-pub const NOBODY: u8 = 255;
+pub const SIZE: usize = OWNERS_PLACE + OWNER_SIZE * NODES;
 
 // The states of an owner.
 pub const OVER: u8 = 0;
@@ -104,7 +100,7 @@ const OBJECT_COUNT: Field = Field {
 };
 
 const VALUE: Field = Field {
-    items: OBJECTS,
+    items: OBJECTS_END,
     base: COPIES_PLACE,
     stride: COPY_SIZE,
     offset: 0,
@@ -112,7 +108,7 @@ const VALUE: Field = Field {
 };
 
 const VERSION: Field = Field {
-    items: OBJECTS,
+    items: OBJECTS_END,
     base: COPIES_PLACE,
     stride: COPY_SIZE,
     offset: 8,
@@ -120,7 +116,7 @@ const VERSION: Field = Field {
 };
 
 const HOLDER: Field = Field {
-    items: OBJECTS,
+    items: OBJECTS_END,
     base: COPIES_PLACE,
     stride: COPY_SIZE,
     offset: 12,
@@ -128,7 +124,7 @@ const HOLDER: Field = Field {
 };
 
 const READERS: Field = Field {
-    items: OBJECTS,
+    items: OBJECTS_END,
     base: COPIES_PLACE,
     stride: COPY_SIZE,
     offset: 13,
@@ -136,7 +132,7 @@ const READERS: Field = Field {
 };
 
 const WRITERS: Field = Field {
-    items: OBJECTS,
+    items: OBJECTS_END,
     base: COPIES_PLACE,
     stride: COPY_SIZE,
     offset: 15,
@@ -152,7 +148,7 @@ const OWNER_COUNT: Field = Field {
 };
 
 const SERIAL: Field = Field {
-    items: OWNERS,
+    items: NODES_END,
     base: OWNERS_PLACE,
     stride: OWNER_SIZE,
     offset: 0,
@@ -160,7 +156,7 @@ const SERIAL: Field = Field {
 };
 
 const STATE: Field = Field {
-    items: OWNERS,
+    items: NODES_END,
     base: OWNERS_PLACE,
     stride: OWNER_SIZE,
     offset: 4,
@@ -168,7 +164,7 @@ const STATE: Field = Field {
 };
 
 const STAMP: Field = Field {
-    items: OWNERS,
+    items: NODES_END,
     base: OWNERS_PLACE,
     stride: OWNER_SIZE,
     offset: 5,

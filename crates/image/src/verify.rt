@@ -8,12 +8,9 @@ ghost use Rattle.image.specs.Pass.{holderFits, copyFits, marked, Walked}
 use crate::HELD;
 use crate::HOLDER;
 use crate::LISTED;
-use crate::NOBODY;
 use crate::OBJECT_COUNT;
-use crate::OBJECTS;
 use crate::OVER;
 use crate::OWNER_COUNT;
-use crate::OWNERS;
 use crate::Owner;
 use crate::READERS;
 use crate::REFUSED;
@@ -24,6 +21,9 @@ use crate::fields::get_u8;
 use crate::fields::here_u8;
 use crate::fields::here_u16;
 use crate::read::owner_of;
+use numbers::NOBODY;
+use numbers::NODES_END;
+use numbers::OBJECTS_END;
 use numbers::both;
 
 // The two counts are 64 and 13.
@@ -31,8 +31,8 @@ fn counts_ok(image: &[u8]) -> bool
     ensures { λ r. ⌜ r ≡ countsOk shape (now (image .entry)) ⌝ }
 {
     both(
-        get_u8(image, OBJECT_COUNT, 0) == OBJECTS,
-        get_u8(image, OWNER_COUNT, 0) == OWNERS,
+        get_u8(image, OBJECT_COUNT, 0) == OBJECTS_END,
+        get_u8(image, OWNER_COUNT, 0) == NODES_END,
     )
 }
 
@@ -66,7 +66,7 @@ fn walk(image: &[u8]) -> Walk
     let mut listed: u16 = 0;
     let mut held: u16 = 0;
     let mut o: u8 = 0;
-    while o < OWNERS {
+    while o < NODES_END {
         let w = owner_of(image, o);
         ok = both(ok, owner_ok(w));
         listed = mark(listed, o, w.state == LISTED);
@@ -94,7 +94,7 @@ fn copies_ok(image: &[u8], listed: u16, held: u16) -> bool
 {
     let mut lists: u16 = 0;
     let mut t: u8 = 0;
-    while t < OBJECTS {
+    while t < OBJECTS_END {
         if !holder_ok(held, here_u8(image, HOLDER, t)) {
             return false;
         }

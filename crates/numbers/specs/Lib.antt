@@ -1,3 +1,4 @@
--- The numbers of refusals, and how a call's number is found from its list of refusals.
+-- The numbers of refusals, how a call's number is found from its list of refusals, and the sizes that everything is built to.
 pub mod Numbers
 pub mod Refusal
+pub mod Sizes

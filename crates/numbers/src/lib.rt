@@ -1,6 +1,20 @@
-// Document 01's numbers, by their words, and how a call's number is found. 0 is no refusal.
+// Document 01's numbers, by their words, and how a call's number is found; 0 is no refusal. The sizes that everything is built to.
 ghost use mathlib.Core.Path.{_≡_};
 ghost use mathlib.Core.Bool.{cond, _&&_, _||_};
+
+mod sizes;
+
+pub use sizes::EVERY_NODE;
+pub use sizes::HIGHEST;
+pub use sizes::LONGEST_MESSAGE;
+pub use sizes::MOST_OPEN;
+pub use sizes::MOST_WAITING;
+pub use sizes::NOBODY;
+pub use sizes::NODES;
+pub use sizes::NODES_END;
+pub use sizes::OBJECTS;
+pub use sizes::OBJECTS_END;
+pub use sizes::SHORTEST_MESSAGE;
 
 pub const LENGTH: u8 = 1;
 

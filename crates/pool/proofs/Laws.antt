@@ -11,10 +11,11 @@ use lib.ListN.{length, getD, set, take, drop, replicate}
 use lib.ListN.{length-append, length-take, length-drop, length-set, length-replicate, getD-replicate, List·getD-append}
 use lib.Seq.{getD-set-same, getD-set-other, getD-take, getD-drop, getD-append-add, getD-at, length-take-le, length-paste, ext-getD, paste}
 use borrow.Author.Tests.{leb-true, le-leb}
+use Rattle.numbers.specs.Sizes.{longestMessage, mostWaiting}
 use Rattle.octets.proofs.Laws.{lt-or-le}
 use Rattle.parts.specs.Parts.{part}
 use Rattle.parts.proofs.Laws.{length-part, getD-part, part-ext, getD-paste-in, getD-paste-out}
-use Rattle.pool.specs.Pool.{longest, slotSize, slots, poolSize, slotPlace, messagePlace, count, lengthAt, messageAt, listed, waiting, check}
+use Rattle.pool.specs.Pool.{slotSize, poolSize, slotPlace, messagePlace, count, lengthAt, messageAt, listed, waiting, check}
 use Rattle.pool.specs.Change.{stored, added, moved, removed, blank}
 use Rattle.pool.proofs.Numbers.{Fine, fine-check, Room, There}
 
@@ -54,20 +55,20 @@ pub getD-waiting : (l : List ℕ) (k : ℕ) → k < count l → getD (waiting l)
 unfolding waiting
 getD-waiting l k h = getD-listed (count l) (messageAt l) k [] h
 
-pub length-fits : (l : List ℕ) (k : ℕ) → lengthAt l k ≤ longest
+pub length-fits : (l : List ℕ) (k : ℕ) → lengthAt l k ≤ longestMessage
 unfolding lengthAt
-length-fits l k = by (getD l (slotPlace k) 0) (leb (getD l (slotPlace k) 0) longest) refl
+length-fits l k = by (getD l (slotPlace k) 0) (leb (getD l (slotPlace k) 0) longestMessage) refl
   where
-    by : (n : ℕ) (b : Bool) → leb n longest ≡ b → cond b n 0 ≤ longest
-    by n true e = leb-true n longest e
+    by : (n : ℕ) (b : Bool) → leb n longestMessage ≡ b → cond b n 0 ≤ longestMessage
+    by n true e = leb-true n longestMessage e
     by n false e = omega arith
 
-pub length-message : (l : List ℕ) (k : ℕ) → length l ≡ poolSize → k < slots → length (messageAt l k) ≡ lengthAt l k
+pub length-message : (l : List ℕ) (k : ℕ) → length l ≡ poolSize → k < mostWaiting → length (messageAt l k) ≡ lengthAt l k
 unfolding messageAt
 length-message l k e h = let f = length-fits l k in length-part (lengthAt l k) (messagePlace k) l (omega arith)
 
 -- two slots with the same bytes hold the same message
-slot-ext : (l m : List ℕ) (i k : ℕ) → length l ≡ poolSize → length m ≡ poolSize → i < slots → k < slots
+slot-ext : (l m : List ℕ) (i k : ℕ) → length l ≡ poolSize → length m ≡ poolSize → i < mostWaiting → k < mostWaiting
     → ((j : ℕ) → j < slotSize → getD l (slotPlace i + j) 0 ≡ getD m (slotPlace k + j) 0) → messageAt l i ≡ messageAt m k
 unfolding messageAt lengthAt
 slot-ext l m i k u v p q h =
@@ -75,7 +76,7 @@ slot-ext l m i k u v p q h =
     let b : slotPlace k + 0 ≡ slotPlace k = omega arith in
     let e : getD l (slotPlace i) 0 ≡ getD m (slotPlace k) 0 =
     ap (λ (n : ℕ). getD l n 0) (sym a) ∙ h 0 (omega arith) ∙ ap (λ (n : ℕ). getD m n 0) b in
-    let s : lengthAt l i ≡ lengthAt m k = ap (λ (n : ℕ). cond (leb n longest) n 0) e in
+    let s : lengthAt l i ≡ lengthAt m k = ap (λ (n : ℕ). cond (leb n longestMessage) n 0) e in
     let f = length-fits m k in
     ap (λ (n : ℕ). part n (messagePlace i) l) s
     ∙ part-ext (lengthAt m k) (messagePlace i) (messagePlace k) l m (omega arith) (omega arith)
@@ -133,7 +134,7 @@ module _ (l m : List ℕ) (r : Room l (length m)) where
       getD-set-other (stored l at m) 0 at (count l + 1) 0 (λ e. omega arith)
       ∙ getD-paste-out (set l at (length m)) (at + 1) m (length m) (omega arith) (omega arith) at (inl (omega arith))
       ∙ getD-set-same l at (length m) 0 (omega arith) in
-      ap (λ (n : ℕ). cond (leb n longest) n 0) e ∙ ap (λ (t : Bool). cond t (length m) 0) (le-leb (length m) longest b)
+      ap (λ (n : ℕ). cond (leb n longestMessage) n 0) e ∙ ap (λ (t : Bool). cond t (length m) 0) (le-leb (length m) longestMessage b)
 
   slot-message : messageAt (added l m) (count l) ≡ m
   unfolding messageAt added stored at

@@ -7,7 +7,8 @@ use native.Mathlib.Omega.{arith}
 use lib.Dec.{eqb, ltb, leb}
 use lib.ListN.{length}
 use borrow.Author.Tests.{eqb-true, eqb-false, ltb-false, leb-false, not-false, eq-eqb, le-ltb, lt-leb}
-use Rattle.pool.specs.Pool.{longest, slots, poolSize, count, check}
+use Rattle.numbers.specs.Sizes.{longestMessage, mostWaiting}
+use Rattle.pool.specs.Pool.{poolSize, count, check}
 use Rattle.pool.specs.Change.{added, addRefusals, addNumber, addAfter, removed, removeRefusals, removeNumber, removeAfter}
 
 -- one refusal does not fit, and the rest are passed
@@ -25,23 +26,23 @@ passed-number n rest e = by (eqb n 0) refl e
 
 pub record Fine (l : List ℕ) : Type 0 where
   pub long : length l ≡ poolSize
-  pub room : count l ≤ slots
+  pub room : count l ≤ mostWaiting
 
 pub fine : (l : List ℕ) → check l ≡ 0 → Fine l
 unfolding check
 fine l e =
     let a = passed (not (eqb (length l) poolSize)) 1 _ (omega arith) e in
-    let b = passed (ltb slots (count l)) 2 0 (omega arith) (a .1) in
-    record { long = eqb-true (length l) poolSize (not-false (eqb (length l) poolSize) (a .0)); room = ltb-false slots (count l) (b .0) }
+    let b = passed (ltb mostWaiting (count l)) 2 0 (omega arith) (a .1) in
+    record { long = eqb-true (length l) poolSize (not-false (eqb (length l) poolSize) (a .0)); room = ltb-false mostWaiting (count l) (b .0) }
 
 pub fine-check : (l : List ℕ) → Fine l → check l ≡ 0
 unfolding check
-fine-check l f = simp (eq-eqb (length l) poolSize (f .long), le-ltb slots (count l) (f .room))
+fine-check l f = simp (eq-eqb (length l) poolSize (f .long), le-ltb mostWaiting (count l) (f .room))
 
 -- the number of a pool is 0, 1 or 2
 neither : (l : List ℕ) → eqb (check l) 1 ≡ false → eqb (check l) 2 ≡ false → check l ≡ 0
 unfolding check
-neither l = by (not (eqb (length l) poolSize)) (ltb slots (count l))
+neither l = by (not (eqb (length l) poolSize)) (ltb mostWaiting (count l))
   where
     by : (a b : Bool) → eqb (cond a 1 (cond b 2 0)) 1 ≡ false → eqb (cond a 1 (cond b 2 0)) 2 ≡ false → _≡_ {A = ℕ} (cond a 1 (cond b 2 0)) 0
     by true b p q = absurd (eqb-false 1 1 p refl)
@@ -50,21 +51,21 @@ neither l = by (not (eqb (length l) poolSize)) (ltb slots (count l))
 
 pub record Room (l : List ℕ) (n : ℕ) : Type 0 where
   pub pool : Fine l
-  pub size : n ≤ longest
-  pub slot : count l < slots
+  pub size : n ≤ longestMessage
+  pub slot : count l < mostWaiting
 
 pub room : (l : List ℕ) (size : ℕ) → addNumber l size ≡ 0 → Room l size
 unfolding addNumber addRefusals
 room l size e =
     let a = passed (eqb (check l) 1) 1 _ (omega arith) e in
-    let b = passed (ltb longest size) 1 _ (omega arith) (a .1) in
+    let b = passed (ltb longestMessage size) 1 _ (omega arith) (a .1) in
     let d = passed (eqb (check l) 2) 2 _ (omega arith) (b .1) in
-    let f = passed (leb slots (count l)) 12 0 (omega arith) (d .1) in
-    record { pool = fine l (neither l (a .0) (d .0)); size = ltb-false longest size (b .0); slot = leb-false slots (count l) (f .0) }
+    let f = passed (leb mostWaiting (count l)) 12 0 (omega arith) (d .1) in
+    record { pool = fine l (neither l (a .0) (d .0)); size = ltb-false longestMessage size (b .0); slot = leb-false mostWaiting (count l) (f .0) }
 
 pub room-number : (l : List ℕ) (size : ℕ) → Room l size → addNumber l size ≡ 0
 unfolding addNumber addRefusals
-room-number l size r = simp (fine-check l (r .pool), le-ltb longest size (r .size), lt-leb slots (count l) (r .slot))
+room-number l size r = simp (fine-check l (r .pool), le-ltb longestMessage size (r .size), lt-leb mostWaiting (count l) (r .slot))
 
 pub add-after : (l m : List ℕ) → Room l (length m) → addAfter l m ≡ added l m
 unfolding addAfter

@@ -6,8 +6,9 @@ use lib.Dec.{eqb, ltb, leb}
 use lib.ListN.{length, set, drop, replicate}
 use lib.Seq.{paste}
 use Rattle.numbers.specs.Numbers.{wrongLength, damaged, outOfTurn, poolFull}
+use Rattle.numbers.specs.Sizes.{longestMessage, mostWaiting}
 use Rattle.numbers.specs.Refusal.{Refusal, refuse, firstOf}
-use Rattle.pool.specs.Pool.{longest, slotSize, slots, poolSize, slotPlace, count, check}
+use Rattle.pool.specs.Pool.{slotSize, poolSize, slotPlace, count, check}
 
 -- ---- a message at the pool's end
 -- its length and its bytes in the slot that starts at `at`; the rest of the slot is untouched
@@ -21,8 +22,8 @@ added l m = set (stored l (slotPlace (count l)) m) 0 (count l + 1)
 -- 1 for a pool of another length or a message above 128 bytes, 2 damaged, 12 for a pool with 128 messages
 unfoldable pub addRefusals : List ℕ → ℕ → List Refusal
 addRefusals l size =
-    refuse wrongLength (eqb (check l) wrongLength) ∷ refuse wrongLength (ltb longest size)
-    ∷ refuse damaged (eqb (check l) damaged) ∷ refuse poolFull (leb slots (count l)) ∷ []
+    refuse wrongLength (eqb (check l) wrongLength) ∷ refuse wrongLength (ltb longestMessage size)
+    ∷ refuse damaged (eqb (check l) damaged) ∷ refuse poolFull (leb mostWaiting (count l)) ∷ []
 
 unfoldable pub addNumber : List ℕ → ℕ → ℕ
 addNumber l size = firstOf (addRefusals l size)

@@ -5,24 +5,19 @@ use Prim.Native.Nat.{ℕ, zero, suc, _+_, _*_}
 use lib.Dec.{eqb, ltb, leb}
 use lib.ListN.{length, getD}
 use Rattle.numbers.specs.Numbers.{wrongLength, damaged}
+use Rattle.numbers.specs.Sizes.{longestMessage, mostWaiting}
 use Rattle.numbers.specs.Refusal.{refuse, firstOf}
 use Rattle.parts.specs.Parts.{part}
 
--- ---- sizes in bytes: the count, the longest message, a slot; how many slots there are
+-- ---- sizes in bytes: the count, a slot, the pool
 abbrev pub countSize : ℕ
 countSize = 1
 
-abbrev pub longest : ℕ
-longest = 128
-
 abbrev pub slotSize : ℕ
-slotSize = 1 + longest
-
-abbrev pub slots : ℕ
-slots = 128
+slotSize = 1 + longestMessage
 
 abbrev pub poolSize : ℕ
-poolSize = countSize + slotSize * slots
+poolSize = countSize + slotSize * mostWaiting
 
 -- where slot k starts, and where its message starts
 abbrev pub slotPlace : ℕ → ℕ
@@ -37,7 +32,7 @@ count l = getD l 0 0
 
 -- the length of slot k's message; a length above 128 is none, and the message is empty
 unfoldable pub lengthAt : List ℕ → ℕ → ℕ
-lengthAt l k = cond (leb (getD l (slotPlace k) 0) longest) (getD l (slotPlace k) 0) 0
+lengthAt l k = cond (leb (getD l (slotPlace k) 0) longestMessage) (getD l (slotPlace k) 0) 0
 
 unfoldable pub messageAt : List ℕ → ℕ → List ℕ
 messageAt l k = part (lengthAt l k) (messagePlace k) l
@@ -53,4 +48,4 @@ waiting l = listed (count l) (messageAt l)
 
 -- the number of a pool: 1 another length, 2 an impossible count, 0 neither
 unfoldable pub check : List ℕ → ℕ
-check l = firstOf (refuse wrongLength (not (eqb (length l) poolSize)) ∷ refuse damaged (ltb slots (count l)) ∷ [])
+check l = firstOf (refuse wrongLength (not (eqb (length l) poolSize)) ∷ refuse damaged (ltb mostWaiting (count l)) ∷ [])

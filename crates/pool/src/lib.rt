@@ -2,18 +2,17 @@
 ghost use mathlib.Core.Path.{_≡_};
 ghost use Prim.Native.Nat.{_+_, _≤_, _<_};
 ghost use lib.ListN.{length, replicate};
+ghost use Rattle.numbers.specs.Sizes.{longestMessage};
 ghost use Rattle.pool.specs.Pool.{messagePlace, count, lengthAt, check, slotPlace, slotSize};
 ghost use Rattle.pool.specs.Change.{stored, addNumber, addAfter, moved, removeNumber, removeAfter, blankNumber, blankAfter};
+use numbers::LONGEST_MESSAGE;
+use numbers::MOST_WAITING;
 use numbers::refuse;
 
-// How many messages there is room for, and sizes in bytes: the longest message, a slot, the whole pool.
-pub const SLOTS: usize = 128;
+// Sizes in bytes: a slot, the whole pool.
+const SLOT: usize = 1 + LONGEST_MESSAGE;
 
-const LONGEST: usize = 128;
-
-const SLOT: usize = 1 + LONGEST;
-
-pub const SIZE: usize = 1 + SLOT * SLOTS;
+pub const SIZE: usize = 1 + SLOT * MOST_WAITING;
 
 // A byte as a count.
 fn wide(x: u8) -> usize
@@ -49,20 +48,20 @@ pub fn length(pool: &[u8], k: u8) -> usize
     ensures { λ r. ⌜ r ≡ lengthAt (now (pool .entry)) k ⌝ }
 {
     let n = wide(octets::get_u8(pool, slot_place(wide(k))));
-    if n <= LONGEST { n } else { 0 }
+    if n <= LONGEST_MESSAGE { n } else { 0 }
 }
 
 // The number of a pool: 1 another length, 2 an impossible count, 0 neither. Ruled out: 2 for bytes of another length; 2 for a full pool.
 pub fn check(pool: &[u8]) -> u8
     ensures { λ r. ⌜ r ≡ check (now (pool .entry)) ⌝ }
 {
-    let bad = refuse(numbers::DAMAGED, SLOTS < count(pool), 0);
+    let bad = refuse(numbers::DAMAGED, MOST_WAITING < count(pool), 0);
     refuse(numbers::LENGTH, pool.len() != SIZE, bad)
 }
 
 // Stores a message's length and bytes in the slot that starts at a place.
 fn store(pool: &mut [u8], at: usize, message: &[u8])
-    requires { ⌜ (length (now message) ≤ 128) × (at + 129 ≤ length (now pool)) ⌝ }
+    requires { ⌜ (length (now message) ≤ longestMessage) × (at + slotSize ≤ length (now pool)) ⌝ }
     ensures { λ r. ⌜ now (pool .exit) ≡ stored (now (pool .entry)) at (now (message .entry)) ⌝ }
 {
     let n = message.len();
@@ -80,9 +79,9 @@ fn add_number(pool: &[u8], size: usize) -> u8
     ensures { λ r. ⌜ r ≡ addNumber (now (pool .entry)) size ⌝ }
 {
     let c = check(pool);
-    let room = refuse(numbers::POOL_FULL, SLOTS <= count(pool), 0);
+    let room = refuse(numbers::POOL_FULL, MOST_WAITING <= count(pool), 0);
     let bad = refuse(numbers::DAMAGED, c == numbers::DAMAGED, room);
-    let long = refuse(numbers::LENGTH, LONGEST < size, bad);
+    let long = refuse(numbers::LENGTH, LONGEST_MESSAGE < size, bad);
     refuse(numbers::LENGTH, c == numbers::LENGTH, long)
 }
 
@@ -103,7 +102,7 @@ pub fn add(pool: &mut [u8], message: &[u8]) -> u8
 
 // Moves n bytes one slot down, to a place.
 fn move_down(pool: &mut [u8], at: usize, n: usize)
-    requires { ⌜ at + n + 129 ≤ length (now pool) ⌝ }
+    requires { ⌜ at + n + slotSize ≤ length (now pool) ⌝ }
     ensures { λ r. ⌜ now (pool .exit) ≡ moved (now (pool .entry)) at n ⌝ }
 {
     let from = at + SLOT;

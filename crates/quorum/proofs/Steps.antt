@@ -4,6 +4,7 @@ use mathlib.Core.List.{List}
 use Prim.Native.Nat.{ℕ, zero, suc, _+_, _-_, _*_, _^_, _≤_, _<_}
 use native.Mathlib.Nat.{pow-suc}
 use native.Mathlib.Omega.{arith}
+use Rattle.numbers.specs.Sizes.{nodes}
 use Rattle.quorum.specs.declared.Kind.{Kind}
 use Rattle.quorum.specs.Tree.{last}
 use Rattle.quorum.specs.Levels.{aloneOf, leavesOf, withRoot, bestOf, pairOf}
@@ -26,10 +27,10 @@ last-step zero r f = absurd (f refl)
 last-step (suc h) r f = ap (λ (k : ℕ). last k (3 * r + 3)) (sym (less-one h))
 
 -- what a call one level down asks of its root
-pub child-last : (h r i : ℕ) → i ≤ 3 → last h (3 * r + 3) < 13 → last h (3 * r + i) < 13
+pub child-last : (h r i : ℕ) → i ≤ 3 → last h (3 * r + 3) < nodes → last h (3 * r + i) < nodes
 child-last h r i e b = omega (arith, last-mono h {r = 3 * r + i} {s = 3 * r + 3} (omega arith))
 
-pub child-small : (h r : ℕ) → last h (3 * r + 3) < 13 → 3 * r + 3 < 13
+pub child-small : (h r : ℕ) → last h (3 * r + 3) < nodes → 3 * r + 3 < nodes
 child-small h r b = omega (arith, root-le-last h (3 * r + 3))
 
 -- ---- one level of the choice

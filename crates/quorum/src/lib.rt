@@ -1,6 +1,7 @@
 // The tree of thirteen nodes, its read and write quorums, and the nearest of them within the live nodes.
 ghost use mathlib.Core.Path.{_≡_};
 ghost use Prim.Native.Nat.{_+_, _*_, _^_, _<_, _≤_};
+ghost use Rattle.numbers.specs.Sizes.{nodes};
 ghost use Rattle.mask.specs.Mask.{contains};
 ghost use Rattle.quorum.specs.Tree.{last};
 ghost use Rattle.quorum.specs.Quorum.{twoOf, rootedBy, inSubtree, isQuorum};
@@ -8,9 +9,7 @@ ghost use Rattle.quorum.specs.Smallest.{smallest};
 ghost use Rattle.quorum.specs.Nearest.{nearestOf};
 ghost use Rattle.quorum.specs.Levels.{aloneOf, leavesOf, bestOf, pairOf};
 ghost use Rattle.quorum.specs.Key.{Means, bound, lesserOf, pairKey, rootKey};
-
-// How many nodes there are.
-pub const NODES: usize = 13;
+use numbers::NODES;
 
 // Which quorums are meant.
 pub enum Kind {
@@ -95,7 +94,7 @@ fn wide(x: u16) -> u64
 
 // One node by itself, if it is live.
 fn alone(live: u16, distances: &[u16; NODES], node: u8) -> u64
-    requires { ⌜ node < 13 ⌝ }
+    requires { ⌜ node < nodes ⌝ }
     ensures { λ r. ⌜ Means 65535 r (aloneOf live (now (distances .entry)) node) ⌝ }
     ensures { λ r. ⌜ r ≤ 72057594037927936 ⌝ }
 {
@@ -117,7 +116,7 @@ fn choose_pair(a: u64, b: u64, c: u64) -> u64
 
 // The key of the nearest pair of the three leaves that follow a node number: the last level, without a call of `best` for each leaf.
 fn leaf_pair(live: u16, distances: &[u16; NODES], at: u8) -> u64
-    requires { ⌜ at + 3 < 13 ⌝ }
+    requires { ⌜ at + 3 < nodes ⌝ }
     ensures { λ r. ⌜ Means 393210 r (leavesOf live (now (distances .entry)) at) ⌝ }
     ensures { λ r. ⌜ r ≤ 144115188075855872 ⌝ }
 {
@@ -140,7 +139,7 @@ fn with_root(kind: Kind, own: u64, pair: u64) -> u64
 
 // The key of the nearest quorum of the subtree of this height at this root.
 fn best(kind: Kind, live: u16, distances: &[u16; NODES], root: u8, height: u8) -> u64
-    requires { ⌜ (last height root < 13) × (height ≤ 2) ⌝ }
+    requires { ⌜ (last height root < nodes) × (height ≤ 2) ⌝ }
     ensures { λ r. ⌜ Means (bound height) r (bestOf kind live (now (distances .entry)) height root) ⌝ }
     ensures { λ r. ⌜ r ≤ 72057594037927936 * 3 ^ height ⌝ }
 {
@@ -154,7 +153,7 @@ fn best(kind: Kind, live: u16, distances: &[u16; NODES], root: u8, height: u8) -
 
 // The key of the nearest pair of quorums of two of a root's child subtrees, which have this height.
 fn best_pair(kind: Kind, live: u16, distances: &[u16; NODES], root: u8, height: u8) -> u64
-    requires { ⌜ (last height (3 * root + 3) < 13) × (height ≤ 1) ⌝ }
+    requires { ⌜ (last height (3 * root + 3) < nodes) × (height ≤ 1) ⌝ }
     ensures { λ r. ⌜ Means (6 * bound height) r (pairOf kind live (now (distances .entry)) height root) ⌝ }
     ensures { λ r. ⌜ r ≤ 2 * (72057594037927936 * 3 ^ height) ⌝ }
 {

@@ -6,10 +6,11 @@ use mathlib.Core.Bool.{Bool, true, false, cond, not, _&&_}
 use mathlib.Core.List.{List, [], _∷_, _++_, append-assoc}
 use lib.ListN.{length}
 use borrow.Author.Tests.{eqb-true, eq-eqb, ne-eqb, lt-ltb, le-ltb}
+use Rattle.numbers.specs.Sizes.{nodes}
 use Rattle.quorum_lines.specs.declared.Line.{Line}
 use Rattle.quorum_lines.specs.Line.{Good, Bad, fresh, step, keep, isGood, ended, begun}
 use Rattle.quorum_lines.specs.Reply.{row, reply}
-use Rattle.quorum_lines.specs.Output.{nextLine, replyAt, after, repliesIn, lastReply, longest, piece, lastIn}
+use Rattle.quorum_lines.specs.Output.{nextLine, replyAt, after, repliesIn, lastReply, longestRow, piece, lastIn}
 
 -- a test that holds does not fail
 pub true-false : true ≡ false → ⊥
@@ -25,9 +26,9 @@ and-right true b e = e
 and-right false b e = absurd (true-false (sym e))
 
 -- a good line has thirteen numbers complete
-pub good-count : (s : Line) → isGood s ≡ true → s .count ≡ 13
+pub good-count : (s : Line) → isGood s ≡ true → s .count ≡ nodes
 unfolding isGood
-good-count s e = eqb-true (s .count) 13 (and-right (s .digits) _ (and-right (not (s .spoilt)) _ e))
+good-count s e = eqb-true (s .count) nodes (and-right (s .digits) _ (and-right (not (s .spoilt)) _ e))
 
 -- the reply to a line that ends
 pub reply-good : (s : Line) → isGood s ≡ true → reply (ended s) ≡ row (keep s .live) (keep s .distances)
@@ -57,11 +58,11 @@ next-other s b e = ap (λ (t : Bool). cond t fresh (step s b)) (ne-eqb b 10 e)
 
 -- the last reply, by the room and by whether a line is begun
 pub last-over : (room : ℕ) (s : Line) → room < 40 → lastIn room s ≡ []
-unfolding lastIn longest
+unfolding lastIn longestRow
 last-over room s h = ap (λ (t : Bool). cond t [] (lastReply s)) (lt-ltb room 40 h)
 
 pub last-fits : (room : ℕ) (s : Line) (t : Bool) → 40 ≤ room → begun s ≡ t → lastIn room s ≡ cond t (reply (ended s)) []
-unfolding lastIn longest lastReply
+unfolding lastIn longestRow lastReply
 last-fits room s t h e =
     ap (λ (u : Bool). cond u [] (lastReply s)) (le-ltb room 40 h) ∙ ap (λ (u : Bool). cond u (reply (ended s)) []) e
 
@@ -80,11 +81,11 @@ replies-append s (x ∷ a) b =
 
 -- the part that is taken: one byte more, while there is room; nothing where there is none, and nothing of nothing
 pub piece-more : (room : ℕ) (s : Line) (b : ℕ) (bs : List ℕ) → 40 ≤ room → piece room s (b ∷ bs) ≡ b ∷ piece (room - length (replyAt s b)) (nextLine s b) bs
-unfolding piece longest
+unfolding piece longestRow
 piece-more room s b bs h = ap (λ (t : Bool). cond t [] (b ∷ piece (room - length (replyAt s b)) (nextLine s b) bs)) (le-ltb room 40 h)
 
 pub piece-full : (room : ℕ) (s : Line) (bs : List ℕ) → room < 40 → piece room s bs ≡ []
-unfolding piece longest
+unfolding piece longestRow
 piece-full room s [] h = refl
 piece-full room s (b ∷ bs) h = ap (λ (t : Bool). cond t [] (b ∷ piece (room - length (replyAt s b)) (nextLine s b) bs)) (lt-ltb room 40 h)
 

@@ -5,15 +5,16 @@ use mathlib.Core.Bool.{Bool, true, false, cond, not, _&&_, _||_}
 use mathlib.Core.List.{List, [], _∷_}
 use lib.Dec.{ltb, leb, eqb}
 use lib.ListN.{set, replicate}
+use Rattle.numbers.specs.Sizes.{nodes, everyNode}
 use Rattle.quorum_lines.specs.declared.Line.{Line}
 
 -- a line of which nothing is read
 unfoldable pub fresh : Line
-fresh = record { count = 0; digits = false; value = 0; spoilt = false; live = 0; distances = replicate 13 0 }
+fresh = record { count = 0; digits = false; value = 0; spoilt = false; live = 0; distances = replicate nodes 0 }
 
 -- the largest that a number may be, after k others: the mask is the first, then come the distances
 unfoldable pub most : ℕ → ℕ
-most k = cond (eqb k 0) 8191 65535
+most k = cond (eqb k 0) everyNode 65535
 
 -- a line that is bad, whatever comes
 unfoldable pub spoil : Line → Line
@@ -34,7 +35,7 @@ keep s =
 
 -- a space: it stands behind the digits of a number, and another number follows
 unfoldable pub space : Line → Line
-space s = cond (s .digits && ltb (s .count) 13) (keep s) (spoil s)
+space s = cond (s .digits && ltb (s .count) nodes) (keep s) (spoil s)
 
 -- whether a digit d may follow: the number is not too large with it, and does not begin with the digit 0
 unfoldable pub mayFollow : Line → ℕ → Bool
@@ -76,7 +77,7 @@ pub data Reading : Type 0 where
 
 -- good: nothing spoilt it, and it ends behind the digits of the fourteenth number
 unfoldable pub isGood : Line → Bool
-isGood s = not (s .spoilt) && (s .digits && eqb (s .count) 13)
+isGood s = not (s .spoilt) && (s .digits && eqb (s .count) nodes)
 
 unfoldable pub ended : Line → Reading
 ended s = cond (isGood s) (Good (keep s .live) (keep s .distances)) Bad

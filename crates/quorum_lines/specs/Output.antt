@@ -58,14 +58,14 @@ joined [] = []
 joined (part ∷ rest) = part ++ joined rest
 
 -- no reply is longer
-unfoldable pub longest : ℕ
-longest = 40
+unfoldable pub longestRow : ℕ
+longestRow = 40
 
 -- the front part of an input that is taken where there is room for so many bytes of replies: all of it, or what comes before a reply might not fit
 unfoldable pub piece : ℕ → Line → List ℕ → List ℕ
 piece room s [] = []
-piece room s (b ∷ bs) = cond (ltb room longest) [] (b ∷ piece (room - length (replyAt s b)) (nextLine s b) bs)
+piece room s (b ∷ bs) = cond (ltb room longestRow) [] (b ∷ piece (room - length (replyAt s b)) (nextLine s b) bs)
 
 -- the last reply where there is room for it
 unfoldable pub lastIn : ℕ → Line → List ℕ
-lastIn room s = cond (ltb room longest) [] (lastReply s)
+lastIn room s = cond (ltb room longestRow) [] (lastReply s)

@@ -8,11 +8,12 @@ use mathlib.Core.List.{List, [], _∷_, _++_, append-assoc, append-nil}
 use lib.Dec.{eqb, ltb, leb}
 use lib.ListN.{length, drop}
 use borrow.Author.Tests.{lt-ltb}
+use Rattle.numbers.specs.Sizes.{nodes}
 use Rattle.quorum_lines.specs.declared.Line.{Line}
 use Rattle.quorum_lines.specs.Line.{fresh, spoil, keep, space, mayFollow, more, digit, stepOn, step, readFrom, ended, reading, begun}
 use Rattle.quorum_lines.specs.Reply.{reply, headerText}
 use Rattle.quorum_lines.specs.Output.{lastLine, linesFrom, replies, output, nextLine, replyAt, after, repliesIn, lastReply}
-use Rattle.quorum_lines.specs.Output.{inPieces, joined, longest, piece}
+use Rattle.quorum_lines.specs.Output.{inPieces, joined, longestRow, piece}
 use Rattle.quorum_lines.specs.Laws.{after-append, replies-append, piece-more}
 
 -- a line is begun once a byte of it is read
@@ -43,7 +44,7 @@ begun-step s b = from (s .spoilt) refl
     on : begun (stepOn s b) ≡ true
     on =
         begun-cond (eqb b 32) (space s) _
-        (begun-cond (s .digits && ltb (s .count) 13) (keep s) (spoil s) (begun-keep s) (begun-spoil s))
+        (begun-cond (s .digits && ltb (s .count) nodes) (keep s) (spoil s) (begun-keep s) (begun-spoil s))
         (begun-cond (leb 48 b && leb b 57) (digit s (b - 48)) (spoil s)
         (begun-cond (mayFollow s (b - 48)) (more s (b - 48)) (spoil s) (begun-more s (b - 48)) (begun-spoil s))
         (begun-spoil s))
@@ -106,7 +107,7 @@ pieces ps = ap (λ (l : List ℕ). headerText ++ l) (in-one fresh ps ∙ by-line
 pub piece-front : (room : ℕ) (s : Line) (bs : List ℕ) → piece room s bs ++ drop (length (piece room s bs)) bs ≡ bs
 unfolding piece
 piece-front room s [] = refl
-piece-front room s (b ∷ bs) = from (ltb room longest) (piece-front (room - length (replyAt s b)) (nextLine s b) bs)
+piece-front room s (b ∷ bs) = from (ltb room longestRow) (piece-front (room - length (replyAt s b)) (nextLine s b) bs)
   where
     rest : List ℕ
     rest = piece (room - length (replyAt s b)) (nextLine s b) bs

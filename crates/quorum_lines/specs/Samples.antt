@@ -4,6 +4,7 @@ use mathlib.Core.Path.{_≡_, refl}
 use mathlib.Core.Bool.{Bool, true, false, _&&_}
 use mathlib.Core.List.{List, [], _∷_, _++_}
 use lib.ListN.{replicate}
+use Rattle.numbers.specs.Sizes.{nodes}
 use Rattle.decimal.specs.Decimal.{digits, decimal}
 use Rattle.quorum.specs.Smallest.{smallest}
 use Rattle.quorum_lines.specs.Line.{
@@ -31,7 +32,7 @@ use Rattle.quorum_lines.specs.Text.{spaced, lineText}
 
 -- thirteen distances of 1
 abbrev ones : List ℕ
-ones = replicate 13 1
+ones = replicate nodes 1
 
 -- the lines `8191 1 1 ..` and `8190 1 1 ..`, and the rows `8191 1 1 439 7` and `8190 6 2 - -`
 unfoldable pub marked : List ℕ

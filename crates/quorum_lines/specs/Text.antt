@@ -11,6 +11,7 @@ use lib.Dec.{eqb, ltb, leb}
 use lib.ListN.{length, take, set, replicate, length-append, length-set}
 use lib.Seq.{set-at, append-snoc, take-suc-set, take-all}
 use borrow.Author.Tests.{eq-eqb, ne-eqb, lt-ltb, le-leb, eqb-true, eqb-false, ltb-true, leb-true, not-true}
+use Rattle.numbers.specs.Sizes.{nodes, everyNode}
 use Rattle.decimal.specs.Decimal.{digits, decimal}
 use Rattle.decimal.specs.Laws.{digits-one, digits-more, tenth, one-more, less-or-not, decimal-digit, decimal-more}
 use Rattle.quorum_lines.specs.declared.Line.{Line}
@@ -34,8 +35,8 @@ Small (d ∷ ds) = (d ≤ 65535) × Small ds
 
 -- a mask and distances in range
 pub record InRange (live : ℕ) (ds : List ℕ) : Type 0 where
-  pub mask : live ≤ 8191
-  pub thirteen : length ds ≡ 13
+  pub mask : live ≤ everyNode
+  pub thirteen : length ds ≡ nodes
   pub small : Small ds
 
 -- a line after k numbers: before the next, and within it at v
@@ -83,26 +84,26 @@ most-small : (c : ℕ) → most c ≤ 65535
 unfolding most
 most-small c = from (eqb c 0)
   where
-    from : (t : Bool) → cond t 8191 65535 ≤ 65535
+    from : (t : Bool) → cond t everyNode 65535 ≤ 65535
     from true = omega arith
     from false = omega arith
 
-most-first : most 0 ≡ 8191
+most-first : most 0 ≡ everyNode
 unfolding most
 most-first = refl
 
 most-later : (j : ℕ) → most (j + 1) ≡ 65535
 unfolding most
-most-later j = ap (λ (t : Bool). cond t 8191 65535) (ne-eqb (j + 1) 0 (λ z. omega arith))
+most-later j = ap (λ (t : Bool). cond t everyNode 65535) (ne-eqb (j + 1) 0 (λ z. omega arith))
 
 read-decimal : (n c live : ℕ) (ds : List ℕ) → n ≤ most c → readFrom (blank c live ds) (decimal n) ≡ number c n live ds
 unfolding decimal
 read-decimal n c live ds m = read-digits 20 n c live ds (omega arith) (omega (arith, most-small c)) m
 
 -- a space behind a number that is not the last
-step-space : (k v live : ℕ) (ds : List ℕ) → k < 13 → step (number k v live ds) 32 ≡ keep (number k v live ds)
+step-space : (k v live : ℕ) (ds : List ℕ) → k < nodes → step (number k v live ds) 32 ≡ keep (number k v live ds)
 unfolding step stepOn space
-step-space k v live ds h = ap (λ (t : Bool). cond t (keep (number k v live ds)) (spoil (number k v live ds))) (lt-ltb k 13 h)
+step-space k v live ds h = ap (λ (t : Bool). cond t (keep (number k v live ds)) (spoil (number k v live ds))) (lt-ltb k nodes h)
 
 keep-first : (v live : ℕ) (ds : List ℕ) → keep (number 0 v live ds) ≡ blank 1 v ds
 unfolding keep
@@ -132,7 +133,7 @@ read-rest ds p [] v live h i m = absurd (omega arith)
 read-rest [] p (y ∷ y₂ ∷ q) v live h i m = absurd (omega arith)
 read-rest [] p (y ∷ []) v live h i m =
     let s = number (length p + 1) v live (p ++ (y ∷ [])) in
-    ap (λ (t : Bool). cond t (Good (keep s .live) (keep s .distances)) Bad) (eq-eqb (length p + 1) 13 (omega arith))
+    ap (λ (t : Bool). cond t (Good (keep s .live) (keep s .distances)) Bad) (eq-eqb (length p + 1) nodes (omega arith))
     ∙ ap (λ (u : Line). Good (u .live) (u .distances)) (keep-later (length p + 1) (length p) v live (p ++ (y ∷ [])) refl)
     ∙ ap (Good live) (set-at p y [] v (length p) refl)
 read-rest (d ∷ ds) p (y ∷ q) v live h i m =
@@ -152,11 +153,11 @@ read-text live [] r = absurd (omega (arith, r .thirteen))
 read-text live (d ∷ ds) r =
     ap ended
     (read-append fresh (decimal live) (spaced (d ∷ ds))
-    ∙ ap (λ (s : Line). readFrom s (spaced (d ∷ ds))) (read-decimal live 0 0 (replicate 13 0) (omega (arith, most-first, r .mask)))
-    ∙ read-next (number 0 live 0 (replicate 13 0)) 1 live d (replicate 13 0) (spaced ds)
-    (step-space 0 live 0 (replicate 13 0) (omega arith) ∙ keep-first live 0 (replicate 13 0))
+    ∙ ap (λ (s : Line). readFrom s (spaced (d ∷ ds))) (read-decimal live 0 0 (replicate nodes 0) (omega (arith, most-first, r .mask)))
+    ∙ read-next (number 0 live 0 (replicate nodes 0)) 1 live d (replicate nodes 0) (spaced ds)
+    (step-space 0 live 0 (replicate nodes 0) (omega arith) ∙ keep-first live 0 (replicate nodes 0))
     (omega (arith, most-later 0, r .small .0)))
-    ∙ read-rest ds [] (replicate 13 0) d live (omega (arith, r .thirteen)) (omega (arith, r .thirteen)) (r .small .1)
+    ∙ read-rest ds [] (replicate nodes 0) d live (omega (arith, r .thirteen)) (omega (arith, r .thirteen)) (r .small .1)
 
 -- What is known of the bytes l behind a line that is not spoilt: k complete numbers, each with a space behind it, and the digits so far of the next.
 abbrev front : ℕ → ℕ → List ℕ → List ℕ
@@ -165,11 +166,11 @@ front (suc j) live ds = lineText live (take j ds) ++ (32 ∷ [])
 
 abbrev Kept : ℕ → ℕ → List ℕ → Type 0
 Kept zero live ds = Unit {0}
-Kept (suc j) live ds = (live ≤ 8191) × Small (take j ds)
+Kept (suc j) live ds = (live ≤ everyNode) × Small (take j ds)
 
 record Seen (l : List ℕ) (k : ℕ) (t : Bool) (v live : ℕ) (ds : List ℕ) : Type 0 where
   text : l ≡ front k live ds ++ cond t (decimal v) []
-  size : length ds ≡ 13
+  size : length ds ≡ nodes
   small : v ≤ most k
   none : t ≡ false → v ≡ 0
   kept : Kept k live ds
@@ -208,7 +209,7 @@ seen-first l v live ds g =
       kept = (omega (arith, most-first, g .small), tt);
     }
 
-seen-later : (j : ℕ) (l : List ℕ) (v live : ℕ) (ds : List ℕ) → j < 13
+seen-later : (j : ℕ) (l : List ℕ) (v live : ℕ) (ds : List ℕ) → j < nodes
     → Seen l (suc j) true v live ds
     → Seen (l ++ (32 ∷ [])) (suc (suc j)) false 0 live (set ds j v)
 seen-later j l v live ds h g =
@@ -223,11 +224,11 @@ seen-later j l v live ds h g =
       kept = (g .kept .0, rw (take-suc-set ds j v i) (small-more (take j ds) v (g .kept .1) (omega (arith, g .small, most-small (suc j)))));
     }
 
-seen-keep : (s : Line) (l : List ℕ) → s .digits ≡ true → s .count < 13 → SeenLine l s → SeenLine (l ++ (32 ∷ [])) (keep s)
+seen-keep : (s : Line) (l : List ℕ) → s .digits ≡ true → s .count < nodes → SeenLine l s → SeenLine (l ++ (32 ∷ [])) (keep s)
 unfolding keep
 seen-keep s l e h g = from (s .count) h (subst (λ (t : Bool). Seen l (s .count) t (s .value) (s .live) (s .distances)) e g)
   where
-    from : (k : ℕ) → k < 13 → Seen l k true (s .value) (s .live) (s .distances)
+    from : (k : ℕ) → k < nodes → Seen l k true (s .value) (s .live) (s .distances)
         → Seen (l ++ (32 ∷ [])) (k + 1) false 0 (cond (eqb k 0) (s .value) (s .live)) (cond (eqb k 0) (s .distances) (set (s .distances) (k - 1) (s .value)))
     from zero h g = seen-first l (s .value) (s .live) (s .distances) g
     from (suc j) h g =
@@ -266,12 +267,12 @@ seen-more s l d h e g =
 -- a space, and a digit, that do not spoil the line
 seen-space : (s : Line) (l : List ℕ) → space s .spoilt ≡ false → SeenLine l s → SeenLine (l ++ (32 ∷ [])) (space s)
 unfolding space spoil
-seen-space s l f g = from (s .digits && ltb (s .count) 13) refl f
+seen-space s l f g = from (s .digits && ltb (s .count) nodes) refl f
   where
-    from : (t : Bool) → (s .digits && ltb (s .count) 13) ≡ t → cond t (keep s) (spoil s) .spoilt ≡ false
+    from : (t : Bool) → (s .digits && ltb (s .count) nodes) ≡ t → cond t (keep s) (spoil s) .spoilt ≡ false
         → SeenLine (l ++ (32 ∷ [])) (cond t (keep s) (spoil s))
     from true e f =
-        seen-keep s l (and-left (s .digits) (ltb (s .count) 13) e) (ltb-true (s .count) 13 (and-right (s .digits) (ltb (s .count) 13) e)) g
+        seen-keep s l (and-left (s .digits) (ltb (s .count) nodes) e) (ltb-true (s .count) nodes (and-right (s .digits) (ltb (s .count) nodes) e)) g
     from false e f = absurd (true-false f)
 
 seen-digit : (s : Line) (l : List ℕ) (d : ℕ) → d < 10 → digit s d .spoilt ≡ false → SeenLine l s → SeenLine (l ++ ((48 + d) ∷ [])) (digit s d)
@@ -338,16 +339,16 @@ unfolding fresh
 seen-start = record { text = refl; size = refl; small = omega arith; none = λ e. refl; kept = tt }
 
 -- the whole of a good line
-seen-last : (l : List ℕ) (v live : ℕ) (ds : List ℕ) → Seen l 13 true v live ds → (l ≡ lineText live (set ds 12 v)) × InRange live (set ds 12 v)
+seen-last : (l : List ℕ) (v live : ℕ) (ds : List ℕ) → Seen l nodes true v live ds → (l ≡ lineText live (set ds 12 v)) × InRange live (set ds 12 v)
 seen-last l v live ds g =
     let i : 12 < length ds = omega (arith, g .size) in
-    let n : length (set ds 12 v) ≡ 13 = length-set ds 12 v ∙ g .size in
-    let e : take 13 (set ds 12 v) ≡ set ds 12 v = take-all 13 (set ds 12 v) (omega arith) in (
+    let n : length (set ds 12 v) ≡ nodes = length-set ds 12 v ∙ g .size in
+    let e : take nodes (set ds 12 v) ≡ set ds 12 v = take-all nodes (set ds 12 v) (omega arith) in (
       g .text ∙ text-more 12 v live ds i ∙ ap (lineText live) e,
       record {
         mask = g .kept .0;
         thirteen = n;
-        small = subst Small (sym (take-suc-set ds 12 v i) ∙ e) (small-more (take 12 ds) v (g .kept .1) (omega (arith, g .small, most-small 13)));
+        small = subst Small (sym (take-suc-set ds 12 v i) ∙ e) (small-more (take 12 ds) v (g .kept .1) (omega (arith, g .small, most-small nodes)));
       },
     )
 
@@ -366,18 +367,18 @@ unfolding reading ended isGood keep
 text-read line live ds e =
     let s = readFrom fresh line in
     let good : isGood s ≡ true = good-line s live ds e in
-    let rest = s .digits && eqb (s .count) 13 in
+    let rest = s .digits && eqb (s .count) nodes in
     let spoilt : s .spoilt ≡ false = not-true (s .spoilt) (and-left (not (s .spoilt)) rest good) in
     let ends : rest ≡ true = and-right (not (s .spoilt)) rest good in
-    let count : s .count ≡ 13 = eqb-true (s .count) 13 (and-right (s .digits) (eqb (s .count) 13) ends) in
+    let count : s .count ≡ nodes = eqb-true (s .count) nodes (and-right (s .digits) (eqb (s .count) nodes) ends) in
     let both : Good (keep s .live) (keep s .distances) ≡ Good live ds =
     sym (ap (λ (t : Bool). cond t (Good (keep s .live) (keep s .distances)) Bad) good) ∙ e in
     let a : s .live ≡ live = sym (ap (λ (k : ℕ). cond (eqb k 0) (s .value) (s .live)) count) ∙ mask-of both in
     let b : set (s .distances) 12 (s .value) ≡ ds =
     sym (ap (λ (k : ℕ). cond (eqb k 0) (s .distances) (set (s .distances) (k - 1) (s .value))) count) ∙ distances-of both in
-    let g : Seen line 13 true (s .value) (s .live) (s .distances) =
+    let g : Seen line nodes true (s .value) (s .live) (s .distances) =
     subst (λ (k : ℕ). Seen line k true (s .value) (s .live) (s .distances)) count
-    (subst (λ (t : Bool). Seen line (s .count) t (s .value) (s .live) (s .distances)) (and-left (s .digits) (eqb (s .count) 13) ends)
+    (subst (λ (t : Bool). Seen line (s .count) t (s .value) (s .live) (s .distances)) (and-left (s .digits) (eqb (s .count) nodes) ends)
     (seen-read line [] fresh spoilt seen-start)) in
     let r = seen-last line (s .value) (s .live) (s .distances) g in (
       r .0 ∙ (λ j. lineText (a j) (b j)),

@@ -2,16 +2,22 @@
 ghost use mathlib.Core.Path.{_≡_};
 ghost use Prim.Native.Nat.{_+_, _≤_, _<_};
 ghost use lib.ListN.{length};
+ghost use Rattle.numbers.specs.Sizes.{nodes};
 ghost use Rattle.decimal.specs.Decimal.{putAt, nextAt};
 ghost use Rattle.quorum_lines.specs.Line.{fresh as freshLine, most, spoil, keep, space, digit, isGood, begun, ended};
 ghost use Rattle.quorum_lines.specs.Line.{step as stepLine};
 ghost use Rattle.quorum_lines.specs.Reply.{choiceText, column, row, reply, headerText};
 ghost use Rattle.quorum_lines.specs.Output.{nextLine, replyAt, after, repliesIn, piece, lastIn};
+use numbers::EVERY_NODE;
+use numbers::NODES;
 use quorum::Choice;
 use quorum::Kind;
 
 // No reply is longer.
-pub const LONGEST: usize = 40;
+pub const LONGEST_ROW: usize = 40;
+
+// The largest live mask.
+const MOST_LIVE: u32 = EVERY_NODE as u32;
 
 // A line that is being read, byte by byte.
 pub struct Line {
@@ -24,7 +30,7 @@ pub struct Line {
     pub spoilt: bool,
     // The complete numbers: the live mask, then the distances.
     pub live: u16,
-    pub distances: [u16; 13],
+    pub distances: [u16; NODES],
 }
 
 // A line of which nothing is read. Ruled out: a line that begins with numbers of the line before; one that is bad at once.
@@ -37,7 +43,7 @@ pub fn fresh() -> Line
         value: 0,
         spoilt: false,
         live: 0,
-        distances: [0; 13],
+        distances: [0; NODES],
     }
 }
 
@@ -45,7 +51,7 @@ pub fn fresh() -> Line
 fn largest(k: usize) -> u32
     ensures { λ r. ⌜ (r ≡ most k) × (r < 65536) ⌝ }
 {
-    if k == 0 { 8191 } else { 65535 }
+    if k == 0 { MOST_LIVE } else { 65535 }
 }
 
 // The line is bad, whatever comes.
@@ -59,7 +65,7 @@ fn spoilt(line: Line) -> Line
 
 // The number that was read is complete.
 fn kept(line: Line) -> Line
-    requires { ⌜ line .count ≤ 13 ⌝ }
+    requires { ⌜ line .count ≤ nodes ⌝ }
     ensures { λ r. ⌜ r ≡ keep line ⌝ }
 {
     let mut l = line;
@@ -81,7 +87,7 @@ fn spaced(line: Line) -> Line
     ensures { λ r. ⌜ r ≡ space line ⌝ }
 {
     if line.digits {
-        if line.count < 13 {
+        if line.count < NODES {
             return kept(line);
         }
     }
@@ -137,7 +143,7 @@ fn is_good(line: Line) -> bool
         return false;
     }
     if line.digits {
-        return line.count == 13;
+        return line.count == NODES;
     }
     false
 }
@@ -173,7 +179,7 @@ fn put_choice(out: &mut [u8], at: usize, choice: Choice) -> usize
 }
 
 // A column of a row: a space, and the quorum of a kind that is chosen.
-fn put_column(out: &mut [u8], at: usize, kind: Kind, live: u16, distances: &[u16; 13]) -> usize
+fn put_column(out: &mut [u8], at: usize, kind: Kind, live: u16, distances: &[u16; NODES]) -> usize
     requires { ⌜ at + 17 ≤ length (now out) ⌝ }
     ensures next { λ r. ⌜ r ≡ at + length (column kind live (now (distances .entry))) ⌝ }
     ensures buffer { λ r. ⌜ now (out .exit) ≡ putAt (now (out .entry)) at (column kind live (now (distances .entry))) ⌝ }
@@ -185,7 +191,7 @@ fn put_column(out: &mut [u8], at: usize, kind: Kind, live: u16, distances: &[u16
 }
 
 // The row of a good line.
-fn put_row(out: &mut [u8], at: usize, live: u16, distances: &[u16; 13]) -> usize
+fn put_row(out: &mut [u8], at: usize, live: u16, distances: &[u16; NODES]) -> usize
     requires { ⌜ at + 40 ≤ length (now out) ⌝ }
     ensures next { λ r. ⌜ r ≡ at + length (row live (now (distances .entry))) ⌝ }
     ensures buffer { λ r. ⌜ now (out .exit) ≡ putAt (now (out .entry)) at (row live (now (distances .entry))) ⌝ }
@@ -257,7 +263,7 @@ pub fn feed(line: Line, input: &[u8], out: &mut [u8]) -> Fed
     let mut l = line;
     let mut i = 0;
     let mut at = 0;
-    while i < input.len() && LONGEST <= out.len() - at {
+    while i < input.len() && LONGEST_ROW <= out.len() - at {
         let t = take_byte(l, input[i], out, at);
         l = t.line;
         at = t.at;
@@ -277,7 +283,7 @@ pub fn finish(line: Line, out: &mut [u8]) -> usize
     ensures buffer { λ r. ⌜ now (out .exit) ≡ putAt (now (out .entry)) 0 (lastIn (length (now (out .entry))) line) ⌝ }
     ensures within { λ r. ⌜ r ≤ length (now (out .exit)) ⌝ }
 {
-    if out.len() < LONGEST {
+    if out.len() < LONGEST_ROW {
         return 0;
     }
     if is_begun(line) {

@@ -6,6 +6,7 @@ use native.Mathlib.Nat.{mul-suc}
 use native.Mathlib.Omega.{arith}
 use lib.ListN.{length, set, drop, length-append, length-set}
 use lib.Seq.{sets, sets-eq, drop-append-seam}
+use Rattle.numbers.specs.Sizes.{nodes, mostOpen}
 use Rattle.octets.specs.Octets.{put, le}
 use Rattle.octets.proofs.Laws.{put-le, length-le}
 use Rattle.wire.specs.Encode.{together}
@@ -84,7 +85,7 @@ withFront c serial timestamp outcome phase live =
 abbrev pub tailBytes : Coordinator → List ℕ
 tailBytes c = together objectBytes (c .objects) ++ (voteBytes c ++ together (le 4) (c .rivals))
 
-module _ (c : Coordinator) (d13 : length (c .distances) ≡ 13) (o8 : length (c .objects) ≡ 8) (r13 : length (c .rivals) ≡ 13) where
+module _ (c : Coordinator) (d13 : length (c .distances) ≡ nodes) (o8 : length (c .objects) ≡ mostOpen) (r13 : length (c .rivals) ≡ nodes) where
   abbrev F : List ℕ
   F = frontOf (c .serial) (c .timestamp) (c .outcome) (c .phase) (c .live)
 
@@ -171,7 +172,7 @@ module _ (c : Coordinator) (d13 : length (c .distances) ≡ 13) (o8 : length (c 
       ∙ ap (_++_ t10) (all-over (le 2 (c .live)) (le 2 v) 2 (length-le 2 (c .live)) (length-le 2 v)))))
 
   -- the distances and the quorum, to those of a record with the same front and the same bytes behind
-  pub nodes-changed : (d : Coordinator) → length (d .distances) ≡ 13 → frontBytes c ≡ frontBytes d → tailBytes c ≡ tailBytes d
+  pub nodes-changed : (d : Coordinator) → length (d .distances) ≡ nodes → frontBytes c ≡ frontBytes d → tailBytes c ≡ tailBytes d
       → sets (sets (bytesOf c) 12 (together (le 2) (d .distances))) 38 (quorumBytes d) ≡ bytesOf d
   unfolding bytesOf
   nodes-changed d n e f =
@@ -194,7 +195,7 @@ module _ (c : Coordinator) (d13 : length (c .distances) ≡ 13) (o8 : length (c 
       past-distances (quorumOf (c .quorum) contacted count) 0 38 refl
       ∙ ap (λ (l : List ℕ). F ++ (D ++ l)) (over Q (O ++ (W ++ R)) (quorumOf (c .quorum) contacted count) 5 (length-quorum c) (length-quorum d))
 
-  pub object-changed : (p : ℕ) (x : Object) → p < 8
+  pub object-changed : (p : ℕ) (x : Object) → p < mostOpen
       → sets (bytesOf c) (43 + 25 * p) (objectBytes x) ≡ bytesOf (withObjects c (c .contacted) (c .count) (set (c .objects) p x))
   unfolding bytesOf
   object-changed p x h =
@@ -246,7 +247,7 @@ module _ (c : Coordinator) (d13 : length (c .distances) ≡ 13) (o8 : length (c 
   done-put v = votes-put 4 247 v (votesOf (c .participants) (c .yes) v) refl (third-put v) (omega arith)
 
   -- the rivals' serials
-  pub rivals-changed : (rivals : List ℕ) → length rivals ≡ 13
+  pub rivals-changed : (rivals : List ℕ) → length rivals ≡ nodes
       → sets (bytesOf c) 249 (together (le 4) rivals) ≡ bytesOf (withPhase c (c .phase) (c .outcome) (c .participants) (c .yes) (c .done) rivals)
   unfolding bytesOf
   rivals-changed rivals n =

@@ -7,6 +7,7 @@ use native.Mathlib.Omega.{arith}
 use lib.Dec.{eqb, ltb}
 use lib.ListN.{getD}
 use borrow.Author.Tests.{le-ltb, lt-ltb, eq-eqb, ne-eqb}
+use Rattle.numbers.specs.Sizes.{mostOpen}
 use Rattle.wire.specs.Decode.{itemsFrom}
 use Rattle.coordinator.specs.declared.Object.{Object}
 use Rattle.coordinator.specs.System.{tree}
@@ -17,15 +18,15 @@ use Rattle.record.specs.Valid.{lastWritten}
 -- ---- one place, then those behind it
 module _ {A : Type 0} (f : ℕ → Object → A → A) (z : A) where
   abbrev pub acrossFrom : List ℕ → ℕ → A
-  acrossFrom l i = across f z i (itemsFrom objectOf 25 (8 - i) l (43 + 25 * i))
+  acrossFrom l i = across f z i (itemsFrom objectOf 25 (mostOpen - i) l (43 + 25 * i))
 
-  across-next : (l : List ℕ) (i : ℕ) → i < 8 → acrossFrom l i ≡ f i (objectOf l (43 + 25 * i)) (acrossFrom l (i + 1))
+  across-next : (l : List ℕ) (i : ℕ) → i < mostOpen → acrossFrom l i ≡ f i (objectOf l (43 + 25 * i)) (acrossFrom l (i + 1))
   unfolding itemsFrom
   across-next l i h =
-      let e : 8 - i ≡ suc (8 - (i + 1)) = omega arith in
+      let e : mostOpen - i ≡ suc (mostOpen - (i + 1)) = omega arith in
       let w : 43 + 25 * i + 25 ≡ 43 + 25 * (i + 1) = omega arith in
       ap (λ (n : ℕ). across f z i (itemsFrom objectOf 25 n l (43 + 25 * i))) e
-      ∙ ap (λ (b : ℕ). f i (objectOf l (43 + 25 * i)) (across f z (i + 1) (itemsFrom objectOf 25 (8 - (i + 1)) l b))) w
+      ∙ ap (λ (b : ℕ). f i (objectOf l (43 + 25 * i)) (across f z (i + 1) (itemsFrom objectOf 25 (mostOpen - (i + 1)) l b))) w
 
   -- past the count no place matters
   module _ (count : ℕ) (skip : (i : ℕ) (x : Object) (r : A) → count ≤ i → f i x r ≡ r) where
@@ -34,11 +35,11 @@ module _ {A : Type 0} (f : ℕ → Object → A → A) (z : A) where
     none-past (x ∷ xs) i h = skip i x (across f z (i + 1) xs) h ∙ none-past xs (i + 1) (omega arith)
 
     across-past : (l : List ℕ) (i : ℕ) → count ≤ i → acrossFrom l i ≡ z
-    across-past l i h = none-past (itemsFrom objectOf 25 (8 - i) l (43 + 25 * i)) i h
+    across-past l i h = none-past (itemsFrom objectOf 25 (mostOpen - i) l (43 + 25 * i)) i h
 
 -- ---- the place of an object
 abbrev pub placeFrom : List ℕ → ℕ → ℕ → ℕ → ℕ
-placeFrom l count object i = acrossFrom (hereElse object count) 8 l i
+placeFrom l count object i = acrossFrom (hereElse object count) mostOpen l i
 
 pub place-start : (l : List ℕ) (count object : ℕ) → placeFrom l count object 0 ≡ placeIn (objectsOf l) count object
 unfolding placeIn objectsOf
@@ -47,21 +48,21 @@ place-start l count object = refl
 skip-here : (count object i : ℕ) (x : Object) (r : ℕ) → count ≤ i → hereElse object count i x r ≡ r
 skip-here count object i x r h = simp (le-ltb i count h)
 
-pub place-past : (l : List ℕ) (count object i : ℕ) → count ≤ i → placeFrom l count object i ≡ 8
-place-past l count object i h = across-past (hereElse object count) 8 count (skip-here count object) l i h
+pub place-past : (l : List ℕ) (count object i : ℕ) → count ≤ i → placeFrom l count object i ≡ mostOpen
+place-past l count object i h = across-past (hereElse object count) mostOpen count (skip-here count object) l i h
 
-module _ (l : List ℕ) (count object i : ℕ) (h : i < 8) where
+module _ (l : List ℕ) (count object i : ℕ) (h : i < mostOpen) where
   pub place-here : i < count → getD l (43 + 25 * i) 0 ≡ object → i ≡ placeFrom l count object i
   unfolding objectOf
   place-here k e =
       let t : eqb (getD l (43 + 25 * i) 0) object ≡ true = eq-eqb _ object e in
-      sym (across-next (hereElse object count) 8 l i h ∙ simp (lt-ltb i count k, t))
+      sym (across-next (hereElse object count) mostOpen l i h ∙ simp (lt-ltb i count k, t))
 
   pub place-not-here : i < count → (getD l (43 + 25 * i) 0 ≡ object → ⊥) → placeFrom l count object (i + 1) ≡ placeFrom l count object i
   unfolding objectOf
   place-not-here k f =
       let t : eqb (getD l (43 + 25 * i) 0) object ≡ false = ne-eqb _ object f in
-      sym (across-next (hereElse object count) 8 l i h ∙ simp (lt-ltb i count k, t))
+      sym (across-next (hereElse object count) mostOpen l i h ∙ simp (lt-ltb i count k, t))
 
 -- ---- every opened object is settled: one that is not decides it
 abbrev pub settledFrom : List ℕ → ℕ → ℕ → Bool
@@ -103,7 +104,7 @@ or-go a t r p q = simp (p, q)
 or-stop : (a t r : Bool) → a ≡ true → t ≡ true → ((a && t) || r) ≡ true
 or-stop a t r p q = simp (p, q)
 
-module _ (l : List ℕ) (count i : ℕ) (h : i < 8) (k : i < count) where
+module _ (l : List ℕ) (count i : ℕ) (h : i < mostOpen) (k : i < count) where
   abbrev x : Object
   x = objectOf l (43 + 25 * i)
 

@@ -9,6 +9,8 @@ use lib.Dec.{eqb, leb, lit<, lit≤, leb→le}
 use borrow.Author.Tests.{eqb-true, eqb-false, le-leb}
 use lib.ListN.{length, getD, drop, drop-of-length-le}
 use lib.Seq.{getD-drop}
+use Rattle.record.specs.Layout.{recordSize}
+use Rattle.numbers.specs.Sizes.{nodes, mostOpen}
 use Rattle.mask.proofs.Tests.{and-left, and-right, T-true, compared}
 use Rattle.octets.specs.Octets.{get, le}
 use Rattle.octets.proofs.Laws.{Bytes, length-le}
@@ -137,8 +139,8 @@ module _ (c : Coordinator) (f : Fits c) where
   at43 : drop 43 l ≡ objects
   at43 = after-piece l 5 38 43 (quorumBytes c) objects (length-quorum c) refl at38
 
-  pub given-bytes : givenOk 8 (bytesOf c) ≡ true
-  given-bytes = given-all 8 l (λ j k. given-in l (c .objects) 43 votes at43 j (omega (arith, f .objects-8)))
+  pub given-bytes : givenOk mostOpen (bytesOf c) ≡ true
+  given-bytes = given-all mostOpen l (λ j k. given-in l (c .objects) 43 votes at43 j (omega (arith, f .objects-8)))
 
   at243 : drop 243 l ≡ votes
   at243 =
@@ -282,22 +284,23 @@ given-each (suc n) l e j h =
     less j n h f = compared (j < n) j n (λ z. z) (λ z. absurd (f z)) (λ z. absurd (let w : ⊥ = omega arith in w))
 
 -- the record that bytes are has these bytes
-pub bytes-record : (l : List ℕ) → Bytes l → length l ≡ 301 → givenOk 8 l ≡ true → bytesOf (recordOf l) ≡ l
+pub bytes-record : (l : List ℕ) → Bytes l → length l ≡ recordSize → givenOk mostOpen l ≡ true → bytesOf (recordOf l) ≡ l
 unfolding bytesOf frontOf quorumOf votesOf recordOf distancesOf objectsOf rivalsOf
 bytes-record l b n g =
-    let end : drop 301 l ≡ [] = drop-of-length-le l (let z : length l ≤ 301 = omega arith in z) in
-    let rivals : drop 249 l ≡ together (le 4) (itemsFrom (get 4) 4 13 l 249) =
-    peel-items l b (get 4) (le 4) 4 (λ i h. peel-number l b 4 i h) 13 249 (omega arith)
-    ∙ ap (_++_ (together (le 4) (itemsFrom (get 4) 4 13 l 249))) end ∙ append-nil (together (le 4) (itemsFrom (get 4) 4 13 l 249)) in
+    let end : drop recordSize l ≡ [] = drop-of-length-le l (let z : length l ≤ recordSize = omega arith in z) in
+    let rivals : drop 249 l ≡ together (le 4) (itemsFrom (get 4) 4 nodes l 249) =
+    peel-items l b (get 4) (le 4) 4 (λ i h. peel-number l b 4 i h) nodes 249 (omega arith)
+    ∙ ap (_++_ (together (le 4) (itemsFrom (get 4) 4 nodes l 249))) end ∙ append-nil (together (le 4) (itemsFrom (get 4) 4 nodes l 249)) in
     let h247 = number-then l b 2 247 249 _ refl (omega arith) rivals in
     let h245 = number-then l b 2 245 247 _ refl (omega arith) h247 in
     let h243 = number-then l b 2 243 245 _ refl (omega arith) h245 in
-    let h43 = peel-objects l b 8 43 (given-each 8 l g) (omega arith) ∙ ap (_++_ (together objectBytes (itemsFrom objectOf 25 8 l 43))) h243 in
+    let h43 = peel-objects l b mostOpen 43 (given-each mostOpen l g) (omega arith)
+    ∙ ap (_++_ (together objectBytes (itemsFrom objectOf 25 mostOpen l 43))) h243 in
     let h42 = byte-then l b 42 43 _ refl (omega arith) h43 in
     let h40 = number-then l b 2 40 42 _ refl (omega arith) h42 in
     let h38 = number-then l b 2 38 40 _ refl (omega arith) h40 in
-    let h12 = peel-items l b (get 2) (le 2) 2 (λ i h. peel-number l b 2 i h) 13 12 (omega arith)
-    ∙ ap (_++_ (together (le 2) (itemsFrom (get 2) 2 13 l 12))) h38 in
+    let h12 = peel-items l b (get 2) (le 2) 2 (λ i h. peel-number l b 2 i h) nodes 12 (omega arith)
+    ∙ ap (_++_ (together (le 2) (itemsFrom (get 2) 2 nodes l 12))) h38 in
     let h10 = number-then l b 2 10 12 _ refl (omega arith) h12 in
     let h9 = byte-then l b 9 10 _ refl (omega arith) h10 in
     let h8 = byte-then l b 8 9 _ refl (omega arith) h9 in

@@ -7,6 +7,8 @@ use native.Mathlib.Numerals.{add-one}
 use native.Mathlib.Omega.{arith}
 use lib.ListN.{length, set, drop, length-append, drop-of-length-le}
 use lib.Seq.{sets, sets-eq}
+use Rattle.record.specs.Layout.{recordSize}
+use Rattle.numbers.specs.Sizes.{nodes, mostOpen}
 use Rattle.octets.specs.Octets.{put, le}
 use Rattle.octets.proofs.Laws.{put-le, length-le}
 use Rattle.wire.specs.Encode.{together}
@@ -115,7 +117,7 @@ pub length-votes : (c : Coordinator) → length (voteBytes c) ≡ 6
 unfolding votesOf
 length-votes c = simp length-append (omega (arith, length-le 2 (c .participants), length-le 2 (c .yes), length-le 2 (c .done)))
 
-module _ (c : Coordinator) (d13 : length (c .distances) ≡ 13) (o8 : length (c .objects) ≡ 8) (r13 : length (c .rivals) ≡ 13) where
+module _ (c : Coordinator) (d13 : length (c .distances) ≡ nodes) (o8 : length (c .objects) ≡ mostOpen) (r13 : length (c .rivals) ≡ nodes) where
   length-distances : length (together (le 2) (c .distances)) ≡ 26
   length-distances = omega (arith, length-together (le 2) 2 (length-le 2) (c .distances))
 
@@ -126,7 +128,7 @@ module _ (c : Coordinator) (d13 : length (c .distances) ≡ 13) (o8 : length (c 
   length-rivals = omega (arith, length-together (le 4) 4 (length-le 4) (c .rivals))
 
   -- a record has 301 bytes
-  pub length-bytes : length (bytesOf c) ≡ 301
+  pub length-bytes : length (bytesOf c) ≡ recordSize
   unfolding bytesOf
   length-bytes =
       simp length-append
@@ -156,7 +158,7 @@ module _ (c : Coordinator) (d13 : length (c .distances) ≡ 13) (o8 : length (c 
       ∙ piece-to (voteBytes c) t5 l4 243 6 249 (length-votes c) refl)
 
 -- bytes stored over all of as many
-pub stored-over : (vs l : List ℕ) → length vs ≡ 301 → length l ≡ 301 → sets l 0 vs ≡ vs
+pub stored-over : (vs l : List ℕ) → length vs ≡ recordSize → length l ≡ recordSize → sets l 0 vs ≡ vs
 stored-over vs l e f =
     let gone : drop (0 + length vs) l ≡ [] = drop-of-length-le l (let z : length l ≤ 0 + length vs = omega arith in z) in
     sets-eq vs l 0 (omega arith) ∙ ap (λ (x : List ℕ). vs ++ x) gone ∙ append-nil vs

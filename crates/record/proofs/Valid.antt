@@ -10,6 +10,7 @@ use borrow.Author.Tests.{ne-eqb, ltb-false, eqb-false}
 use lib.Dec.{T, eqb, ltb, leb, eqb→eq, ltb→lt, lt→ltb, leb→le, le→leb, nltb→le, T-not, not-T}
 use lib.ListN.{length, getD, take, drop}
 use lib.Seq.{getD-take, getD-drop}
+use Rattle.numbers.specs.Sizes.{nodes, everyNode, mostOpen, highest}
 use Rattle.mask.specs.Mask.{within}
 use Rattle.mask.proofs.Tests.{same-test, and-both, and-left, and-right, or-left, or-right, or-cases, compared}
 use Rattle.octets.specs.Octets.{get}
@@ -18,7 +19,7 @@ use Rattle.wire.proofs.Accepted.{length-items}
 use Rattle.coordinator.specs.declared.Object.{Object}
 use Rattle.coordinator.specs.declared.Coordinator.{Coordinator}
 use Rattle.coordinator.specs.System.{tree}
-use Rattle.coordinator.specs.State.{highest, everyNode, noObject, across, placeIn, settled, allSettled, anyUsedUp}
+use Rattle.coordinator.specs.State.{noObject, across, placeIn, settled, allSettled, anyUsedUp}
 use Rattle.clauses.specs.Clauses.{zeros, objectMeets, objectBlank, placeMeets, andMeets, objectsMeet, numbersMeet, nodesMeet}
 use Rattle.clauses.specs.Clauses.{partyFull, partyMeets, votesMeet, donesMeet, meets}
 use Rattle.clauses.proofs.Parts.{eq-T, true-T, T-false, false-T, cond-first, cond-second, cond-in, by-test, neither-left, neither-right}
@@ -162,17 +163,17 @@ module _ (l : List ℕ) where
   nobody = eqb (C .participants) 0
 
   -- the i-th object, its number, and how many there are
-  the-object : (i : ℕ) → i < 8 → at (C .objects) i ≡ X i
+  the-object : (i : ℕ) → i < mostOpen → at (C .objects) i ≡ X i
   unfolding recordOf objectsOf
-  the-object i h = getD-items objectOf 25 l noObject 8 43 i h
+  the-object i h = getD-items objectOf 25 l noObject mostOpen 43 i h
 
   its-number : (i : ℕ) → X i .object ≡ getD l (43 + 25 * i) 0
   unfolding objectOf
   its-number i = refl
 
-  eights : length (C .objects) ≡ 8
+  eights : length (C .objects) ≡ mostOpen
   unfolding recordOf objectsOf
-  eights = length-items objectOf 25 l 8 43
+  eights = length-items objectOf 25 l mostOpen 43
 
   -- a place below the count
   abbrev Place : ℕ → Type 0
@@ -195,16 +196,16 @@ module _ (l : List ℕ) where
       (not-T (standsBefore i l (X i .object)) (false-T (standsBefore i l (X i .object)) (p .1 .1 .0))) (p .1 .1 .1))
 
   -- no object at two places, either way
-  same-number : (i j : ℕ) → i < 8 → j < 8 → at (C .objects) i .object ≡ at (C .objects) j .object → getD l (43 + 25 * i) 0 ≡ X j .object
+  same-number : (i j : ℕ) → i < mostOpen → j < mostOpen → at (C .objects) i .object ≡ at (C .objects) j .object → getD l (43 + 25 * i) 0 ≡ X j .object
   same-number i j h k e =
       sym (its-number i) ∙ sym (ap (λ (x : Object). x .object) (the-object i h)) ∙ e ∙ ap (λ (x : Object). x .object) (the-object j k)
 
-  once-in : C .count ≤ 8 → ((i : ℕ) → i < C .count → standsBefore i l (X i .object) ≡ false) → Once (C .objects) (C .count)
+  once-in : C .count ≤ mostOpen → ((i : ℕ) → i < C .count → standsBefore i l (X i .object) ≡ false) → Once (C .objects) (C .count)
   once-in n f i j h k e =
       compared (i ≡ j) i j (λ p. absurd (before-out l (X j .object) j (f j k) i p (same-number i j (omega arith) (omega arith) e))) (λ p. p)
       (λ p. absurd (before-out l (X i .object) i (f i h) j p (same-number j i (omega arith) (omega arith) (sym e))))
 
-  once-out : C .count ≤ 8 → Once (C .objects) (C .count) → (i : ℕ) → i < C .count → standsBefore i l (X i .object) ≡ false
+  once-out : C .count ≤ mostOpen → Once (C .objects) (C .count) → (i : ℕ) → i < C .count → standsBefore i l (X i .object) ≡ false
   once-out n o i h =
       before-in l (X i .object) i (λ j k e.
       let s : at (C .objects) j .object ≡ at (C .objects) i .object =
@@ -215,25 +216,25 @@ module _ (l : List ℕ) where
   abbrev Votables : Type 0
   Votables = (i : ℕ) → i < C .count → T (nobody || votable (X i))
 
-  objects-out : T (objectsOk l) → T (givenOk 8 l) × (T (objectsMeet C) × Votables)
+  objects-out : T (objectsOk l) → T (givenOk mostOpen l) × (T (objectsMeet C) × Votables)
   unfolding objectsOk objectsMeet
   objects-out t =
-      let a = two-in (leb (C .count) 8) _ t in
+      let a = two-in (leb (C .count) mostOpen) _ t in
       let b = two-in (below (placeOk l) (C .count)) (zeros (pastBytes (C .count) l)) (a .1) in
-      let n : C .count ≤ 8 = leb→le (C .count) 8 (a .0) in
+      let n : C .count ≤ mostOpen = leb→le (C .count) mostOpen (a .0) in
       let each : (i : ℕ) → i < C .count → Place i = λ i h. place-out i (below-each (placeOk l) (C .count) (b .0) i h) in
       let past = range-out l (43 + 25 * C .count) (243 - (43 + 25 * C .count)) (b .1) in
-      let blank : (i : ℕ) → C .count ≤ i → i < 8 → Zero l (43 + 25 * i) (43 + 25 * i + 25) = λ i h k j p q. past j (omega arith) (omega arith) in
-      let given : (i : ℕ) → i < 8 → T (givenAt l i) = λ i k.
+      let blank : (i : ℕ) → C .count ≤ i → i < mostOpen → Zero l (43 + 25 * i) (43 + 25 * i + 25) = λ i h k j p q. past j (omega arith) (omega arith) in
+      let given : (i : ℕ) → i < mostOpen → T (givenAt l i) = λ i k.
       by-test (T (givenAt l i)) (ltb i (C .count)) (λ e. each i (ltb→lt i (C .count) (true-T (ltb i (C .count)) e)) .0)
       (λ e. let z = blank i (ltb-false i (C .count) e) k (43 + 25 * i + 16) (omega arith) (omega arith) in
       le→leb (getD l (43 + 25 * i + 16) 0) 1 (omega arith)) in
       let once = once-in n (λ i h. each i h .1 .1 .0) in (
-        subst T (sym (given-below 8 l)) (below-all (givenAt l) 8 given),
+        subst T (sym (given-below mostOpen l)) (below-all (givenAt l) mostOpen given),
         (
-          and-both (leb (C .count) 8) (across (andMeets C) true 0 (C .objects)) (a .0)
+          and-both (leb (C .count) mostOpen) (across (andMeets C) true 0 (C .objects)) (a .0)
               (across-all (placeMeets C) (C .objects) (λ i h.
-              let k : i < 8 = omega (arith, eights) in
+              let k : i < mostOpen = omega (arith, eights) in
               subst (λ (x : Object). T (placeMeets C i x)) (sym (the-object i k))
               (cond-in (ltb i (C .count)) (objectMeets (C .contacted) (X i) && eqb (placeIn (C .objects) (C .count) (X i .object)) i) (objectBlank (X i))
               (λ s. let m = ltb→lt i (C .count) s in
@@ -245,27 +246,27 @@ module _ (l : List ℕ) where
         ),
       )
 
-  objects-in : T (givenOk 8 l) → T (objectsMeet C) → Votables → T (objectsOk l)
+  objects-in : T (givenOk mostOpen l) → T (objectsMeet C) → Votables → T (objectsOk l)
   unfolding objectsOk objectsMeet
   objects-in g t v =
-      let a = two-in (leb (C .count) 8) (across (andMeets C) true 0 (C .objects)) t in
-      let n : C .count ≤ 8 = leb→le (C .count) 8 (a .0) in
-      let given = below-each (givenAt l) 8 (subst T (given-below 8 l) g) in
+      let a = two-in (leb (C .count) mostOpen) (across (andMeets C) true 0 (C .objects)) t in
+      let n : C .count ≤ mostOpen = leb→le (C .count) mostOpen (a .0) in
+      let given = below-each (givenAt l) mostOpen (subst T (given-below mostOpen l) g) in
       let placeAt : ℕ → Bool = λ i. eqb (placeIn (C .objects) (C .count) (X i .object)) i in
-      let each : (i : ℕ) → i < 8 → T (placeMeets C i (X i)) = λ i h.
+      let each : (i : ℕ) → i < mostOpen → T (placeMeets C i (X i)) = λ i h.
       subst (λ (x : Object). T (placeMeets C i x)) (the-object i h) (across-at (placeMeets C) (C .objects) (a .1) i (omega (arith, eights))) in
       let here : (i : ℕ) → i < C .count → T (objectMeets (C .contacted) (X i) && placeAt i) = λ i h.
       cond-first (ltb i (C .count)) _ (objectBlank (X i)) (each i (omega arith)) (lt→ltb i (C .count) h) in
       let once = at-place (C .objects) (C .count) eights n (λ i h.
       subst (λ (x : Object). placeIn (C .objects) (C .count) (x .object) ≡ i) (sym (the-object i (omega arith)))
       (eqb→eq _ i (and-right (objectMeets (C .contacted) (X i)) (placeAt i) (here i h)))) in
-      and-both (leb (C .count) 8) _ (a .0)
+      and-both (leb (C .count) mostOpen) _ (a .0)
       (and-both (below (placeOk l) (C .count)) (zeros (pastBytes (C .count) l))
       (below-all (placeOk l) (C .count) (λ i h.
       place-in i (given i (omega arith), (and-left (objectMeets (C .contacted) (X i)) (placeAt i) (here i h), (once-out n once i h, v i h)))))
       (range-in l (43 + 25 * C .count) (243 - (43 + 25 * C .count)) (λ j p q.
       let i : ℕ = (j - 43) / 25 in
-      let k : i < 8 = omega arith in
+      let k : i < mostOpen = omega arith in
       let s : C .count ≤ i = omega arith in
       blank-bytes l (43 + 25 * i)
       (cond-second (ltb i (C .count)) (objectMeets (C .contacted) (X i) && placeAt i) (objectBlank (X i)) (each i k)
@@ -307,7 +308,7 @@ module _ (l : List ℕ) where
       (not-T usedUpAny (false-T usedUpAny (none-used-up (C .objects) (C .count) f))))))))
       (b .1))
 
-  party-out : C .count ≤ 8 → T (partyMeets tree C) → T (partyOk C) × Votables
+  party-out : C .count ≤ mostOpen → T (partyMeets tree C) → T (partyOk C) × Votables
   unfolding partyOk partyIs partyMeets partyFull
   party-out n t =
       let a = two-in (leb (C .participants) everyNode) _ t in
@@ -334,25 +335,25 @@ module _ (l : List ℕ) where
 
   sized : meets tree C ≡ (numbersMeet C && (objectsMeet C && (nodesMeet tree C && (partyMeets tree C && ended))))
   unfolding recordOf distancesOf rivalsOf
-  sized = sized-meets tree C (length-items (get 2) 2 l 13 12) eights (length-items (get 4) 4 l 13 249)
+  sized = sized-meets tree C (length-items (get 2) 2 l nodes 12) eights (length-items (get 4) 4 l nodes 249)
 
-  counted : T (objectsMeet C) → C .count ≤ 8
+  counted : T (objectsMeet C) → C .count ≤ mostOpen
   unfolding objectsMeet
-  counted t = leb→le (C .count) 8 (and-left (leb (C .count) 8) (across (andMeets C) true 0 (C .objects)) t)
+  counted t = leb→le (C .count) mostOpen (and-left (leb (C .count) mostOpen) (across (andMeets C) true 0 (C .objects)) t)
 
   -- the check tests what the clauses ask
-  pub valid-meets : validOf l ≡ (givenOk 8 l && meets tree C)
+  pub valid-meets : validOf l ≡ (givenOk mostOpen l && meets tree C)
   unfolding validOf
   valid-meets =
-      rw sized (same-test (validOf l) (givenOk 8 l && (numbersMeet C && (objectsMeet C && (nodesMeet tree C && (partyMeets tree C && ended)))))
+      rw sized (same-test (validOf l) (givenOk mostOpen l && (numbersMeet C && (objectsMeet C && (nodesMeet tree C && (partyMeets tree C && ended)))))
       (λ t. let a = two-in (numbersMeet C) _ t in
       let b = two-in (nodesMeet tree C) _ (a .1) in
       let p = two-in (partyOk C) _ (b .1) in
       let e = two-in ended (objectsOk l) (p .1) in
       let o = objects-out (e .1) in
-      and-both (givenOk 8 l) _ (o .0) (and-both (numbersMeet C) _ (a .0) (and-both (objectsMeet C) _ (o .1 .0)
+      and-both (givenOk mostOpen l) _ (o .0) (and-both (numbersMeet C) _ (a .0) (and-both (objectsMeet C) _ (o .1 .0)
       (and-both (nodesMeet tree C) _ (b .0) (and-both (partyMeets tree C) ended (party-in (o .1 .1) (p .0)) (e .0))))))
-      (λ t. let g = two-in (givenOk 8 l) _ t in
+      (λ t. let g = two-in (givenOk mostOpen l) _ t in
       let a = two-in (numbersMeet C) _ (g .1) in
       let o = two-in (objectsMeet C) _ (a .1) in
       let b = two-in (nodesMeet tree C) _ (o .1) in

@@ -1,6 +1,6 @@
 -- Where each field of a record stands, in the order of the struct. Little-endian; thirteen distances of 2 bytes, eight objects of 25, thirteen serials of 4.
 use Prim.Native.Nat.{ℕ, _+_, _*_}
-use Rattle.coordinator.specs.State.{eight, thirteen}
+use Rattle.numbers.specs.Sizes.{nodes, mostOpen}
 
 -- ---- sizes in bytes: a distance, an object, a rival's serial
 abbrev pub distanceSize : ℕ
@@ -32,7 +32,7 @@ abbrev pub distancesPlace : ℕ
 distancesPlace = livePlace + 2
 
 abbrev pub quorumPlace : ℕ
-quorumPlace = distancesPlace + distanceSize * thirteen
+quorumPlace = distancesPlace + distanceSize * nodes
 
 abbrev pub contactedPlace : ℕ
 contactedPlace = quorumPlace + 2
@@ -44,7 +44,7 @@ abbrev pub objectsPlace : ℕ
 objectsPlace = countPlace + 1
 
 abbrev pub participantsPlace : ℕ
-participantsPlace = objectsPlace + objectSize * eight
+participantsPlace = objectsPlace + objectSize * mostOpen
 
 abbrev pub yesPlace : ℕ
 yesPlace = participantsPlace + 2
@@ -56,7 +56,7 @@ abbrev pub rivalsPlace : ℕ
 rivalsPlace = donePlace + 2
 
 abbrev pub recordSize : ℕ
-recordSize = rivalsPlace + rivalSize * thirteen
+recordSize = rivalsPlace + rivalSize * nodes
 
 -- ---- the fields of an object that starts at i
 abbrev pub modeAt : ℕ → ℕ

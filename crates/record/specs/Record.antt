@@ -4,6 +4,7 @@ use mathlib.Core.List.{List, [], _∷_, _++_}
 use Prim.Native.Nat.{ℕ, zero, suc, _+_, _*_, _%_}
 use lib.Dec.{eqb, leb}
 use lib.ListN.{length, getD}
+use Rattle.numbers.specs.Sizes.{nodes, mostOpen}
 use Rattle.numbers.specs.Numbers.{wrongLength, damaged}
 use Rattle.octets.specs.Octets.{get, le}
 use Rattle.wire.specs.Encode.{together}
@@ -11,7 +12,7 @@ use Rattle.wire.specs.Decode.{itemsFrom}
 use Rattle.coordinator.specs.declared.Object.{Object}
 use Rattle.coordinator.specs.declared.Coordinator.{Coordinator}
 use Rattle.coordinator.specs.System.{tree}
-use Rattle.coordinator.specs.State.{eight, thirteen, blankRecord}
+use Rattle.coordinator.specs.State.{blankRecord}
 use Rattle.clauses.specs.Clauses.{meets}
 use Rattle.record.specs.Layout.{distanceSize, objectSize, rivalSize, serialPlace, timestampPlace, outcomePlace, phasePlace, livePlace, distancesPlace}
 use Rattle.record.specs.Layout.{quorumPlace, contactedPlace, countPlace, objectsPlace, participantsPlace, yesPlace, donePlace, rivalsPlace, recordSize}
@@ -31,13 +32,13 @@ objectOf l i =
     }
 
 unfoldable pub distancesOf : List ℕ → List ℕ
-distancesOf l = itemsFrom (get 2) distanceSize thirteen l distancesPlace
+distancesOf l = itemsFrom (get 2) distanceSize nodes l distancesPlace
 
 unfoldable pub objectsOf : List ℕ → List Object
-objectsOf l = itemsFrom objectOf objectSize eight l objectsPlace
+objectsOf l = itemsFrom objectOf objectSize mostOpen l objectsPlace
 
 unfoldable pub rivalsOf : List ℕ → List ℕ
-rivalsOf l = itemsFrom (get 4) rivalSize thirteen l rivalsPlace
+rivalsOf l = itemsFrom (get 4) rivalSize nodes l rivalsPlace
 
 unfoldable pub recordOf : List ℕ → Coordinator
 recordOf l =
@@ -101,7 +102,7 @@ givenOk (suc n) l = givenOk n l && leb (getD l (givenAt (objectsPlace + objectSi
 
 -- 1: another length, 2: damaged, 0: neither
 unfoldable pub check : List ℕ → ℕ
-check l = cond (eqb (length l) recordSize) (cond (givenOk eight l && meets tree (recordOf l)) 0 damaged) wrongLength
+check l = cond (eqb (length l) recordSize) (cond (givenOk mostOpen l && meets tree (recordOf l)) 0 damaged) wrongLength
 
 -- what the accessors read: the record, or a blank one where the bytes are none
 unfoldable pub shown : List ℕ → Coordinator

@@ -5,11 +5,12 @@ use mathlib.Core.List.{List}
 use Prim.Native.Nat.{ℕ, zero, suc, _+_, _*_, _-_}
 use lib.Dec.{eqb, leb}
 use lib.ListN.{getD, take, drop}
+use Rattle.numbers.specs.Sizes.{everyNode, mostOpen, highest}
 use Rattle.mask.specs.Mask.{within}
 use Rattle.coordinator.specs.declared.Object.{Object}
 use Rattle.coordinator.specs.declared.Coordinator.{Coordinator}
 use Rattle.coordinator.specs.System.{tree}
-use Rattle.coordinator.specs.State.{eight, highest, everyNode, idlePhase, openPhase, votingPhase, settled}
+use Rattle.coordinator.specs.State.{idlePhase, openPhase, votingPhase, settled}
 use Rattle.clauses.specs.Clauses.{implies, zeros, objectMeets, numbersMeet, noNodes, nodesMeet, votesMeet, donesMeet}
 use Rattle.record.specs.Layout.{objectSize, objectsPlace, participantsPlace, givenAt}
 use Rattle.record.specs.Record.{objectOf, recordOf}
@@ -60,7 +61,7 @@ abbrev pub pastBytes : ℕ → List ℕ → List ℕ
 pastBytes n l = take (participantsPlace - placeStart n) (drop (placeStart n) l)
 
 unfoldable pub objectsOk : List ℕ → Bool
-objectsOk l = leb (recordOf l .count) eight && (placesOk (recordOf l .count) l && zeros (pastBytes (recordOf l .count) l))
+objectsOk l = leb (recordOf l .count) mostOpen && (placesOk (recordOf l .count) l && zeros (pastBytes (recordOf l .count) l))
 
 -- ---- the participants, but for what each object must be
 unfoldable pub partyIs : Coordinator → Bool

@@ -26,9 +26,9 @@ use crate::VALUE_IN;
 use crate::VERSION_IN;
 use crate::YES;
 use coordinator::Coordinator;
-use coordinator::NODES;
-use coordinator::OBJECTS;
 use coordinator::Object;
+use numbers::MOST_OPEN;
+use numbers::NODES;
 
 // The object whose bytes these are.
 fn object_in(x: &[u8]) -> Object
@@ -60,8 +60,8 @@ pub(crate) fn object_of(bytes: &[u8], at: usize) -> Object
     object_in(&bytes[..0])
 }
 
-// The distances, the objects and the rivals' serials.
-pub(crate) fn distances_of(bytes: &[u8]) -> [u16; NODES]
+// The distances. Ruled out: the quorum taken for the first of them; the bytes of one in the other order.
+pub fn distances_of(bytes: &[u8]) -> [u16; NODES]
     ensures { λ r. ⌜ r ≡ distancesOf (now (bytes .entry)) ⌝ }
 {
     let mut a = [0u16; NODES];
@@ -73,7 +73,8 @@ pub(crate) fn distances_of(bytes: &[u8]) -> [u16; NODES]
     a
 }
 
-pub(crate) fn objects_of(bytes: &[u8]) -> [Object; OBJECTS]
+// The objects.
+fn objects_of(bytes: &[u8]) -> [Object; MOST_OPEN]
     ensures { λ r. ⌜ r ≡ objectsOf (now (bytes .entry)) ⌝ }
 {
     let none = Object {
@@ -85,9 +86,9 @@ pub(crate) fn objects_of(bytes: &[u8]) -> [Object; OBJECTS]
         given: false,
         new: 0,
     };
-    let mut a = [none; OBJECTS];
+    let mut a = [none; MOST_OPEN];
     let mut i = 0;
-    while i < OBJECTS {
+    while i < MOST_OPEN {
         let x = object_of(bytes, OBJECTS_PLACE + OBJECT_SIZE * i);
         a[i] = x;
         i += 1;
@@ -95,7 +96,8 @@ pub(crate) fn objects_of(bytes: &[u8]) -> [Object; OBJECTS]
     a
 }
 
-pub(crate) fn rivals_of(bytes: &[u8]) -> [u32; NODES]
+// The rivals' serials. Ruled out: another owner's at a place; the last one left out.
+pub fn rivals_of(bytes: &[u8]) -> [u32; NODES]
     ensures { λ r. ⌜ r ≡ rivalsOf (now (bytes .entry)) ⌝ }
 {
     let mut a = [0u32; NODES];
@@ -107,8 +109,8 @@ pub(crate) fn rivals_of(bytes: &[u8]) -> [u32; NODES]
     a
 }
 
-// A byte as a count.
-pub(crate) fn wide(x: u8) -> usize
+// A byte as a count. Ruled out: a count of another byte; a byte above 127 taken for one below 0.
+pub fn wide(x: u8) -> usize
     ensures { λ r. ⌜ r ≡ x ⌝ }
 {
     x as usize

@@ -2,12 +2,15 @@
 ghost use mathlib.Core.Path.{_≡_};
 ghost use mathlib.Core.Bool.{cond};
 ghost use Prim.Native.Nat.{_<_, _%_};
-ghost use lib.ListN.{length};
+ghost use lib.ListN.{length, set};
 ghost use lib.Seq.{sets};
+ghost use Rattle.numbers.specs.Sizes.{nodes, mostOpen};
 ghost use Rattle.octets.specs.Octets.{le};
 ghost use Rattle.wire.specs.Encode.{together};
-ghost use Rattle.record.specs.Layout.{distancesPlace, quorumPlace, objectsPlace, participantsPlace, rivalsPlace};
-ghost use Rattle.record.specs.Record.{objectBytes, frontOf, quorumOf, votesOf, bytesOf, written};
+ghost use Rattle.coordinator.specs.State.{idleAfter};
+ghost use Rattle.coordinator.specs.Calls.{endedAborted};
+ghost use Rattle.record.specs.Layout.{outcomePlace, phasePlace, distancesPlace, quorumPlace, objectsPlace, participantsPlace, rivalsPlace, recordSize};
+ghost use Rattle.record.specs.Record.{objectBytes, frontOf, quorumOf, votesOf, recordOf, bytesOf, written, check};
 ghost use Rattle.record.specs.Call.{blankNumber, blankAfter};
 use crate::CAME_IN;
 use crate::CONTACTED;
@@ -33,10 +36,13 @@ use crate::TIMESTAMP;
 use crate::VALUE_IN;
 use crate::VERSION_IN;
 use crate::YES;
+use crate::look::awaited_in;
+use coordinator::ABORTED;
 use coordinator::Coordinator;
-use coordinator::NODES;
-use coordinator::OBJECTS;
+use coordinator::FINISHING;
 use coordinator::Object;
+use numbers::MOST_OPEN;
+use numbers::NODES;
 
 // 1 for yes, 0 for no.
 fn bit(b: bool) -> u8
@@ -52,8 +58,8 @@ fn low(n: usize) -> u8
     (n % 256) as u8
 }
 
-// An object at a place.
-pub(crate) fn put_object(bytes: &mut [u8], at: usize, x: Object)
+// An object at a place. Ruled out: a byte of the object behind it altered; value and new value the other way round.
+pub fn put_object(bytes: &mut [u8], at: usize, x: Object)
     requires { ⌜ at < 8192 ⌝ }
     ensures { λ r. ⌜ now (bytes .exit) ≡ sets (now (bytes .entry)) at (objectBytes x) ⌝ }
 {
@@ -66,10 +72,10 @@ pub(crate) fn put_object(bytes: &mut [u8], at: usize, x: Object)
     octets::put_u64(bytes, at + NEW_IN, x.new);
 }
 
-// The distances, the objects and the rivals' serials.
-pub(crate) fn put_distances(bytes: &mut [u8], list: [u16; NODES])
+// The distances. Ruled out: the last one left as it was; the quorum behind them altered.
+pub fn put_distances(bytes: &mut [u8], list: [u16; NODES])
     ensures { λ r. ⌜ now (bytes .exit) ≡ sets (now (bytes .entry)) distancesPlace (together (le 2) list) ⌝ }
-    ensures { λ r. ⌜ length list ≡ 13 ⌝ }
+    ensures { λ r. ⌜ length list ≡ nodes ⌝ }
 {
     let mut i = 0;
     while i < NODES {
@@ -78,21 +84,23 @@ pub(crate) fn put_distances(bytes: &mut [u8], list: [u16; NODES])
     }
 }
 
-fn put_objects(bytes: &mut [u8], list: [Object; OBJECTS])
+// The objects.
+fn put_objects(bytes: &mut [u8], list: [Object; MOST_OPEN])
     ensures { λ r. ⌜ now (bytes .exit) ≡ sets (now (bytes .entry)) objectsPlace (together objectBytes list) ⌝ }
-    ensures { λ r. ⌜ length list ≡ 8 ⌝ }
+    ensures { λ r. ⌜ length list ≡ mostOpen ⌝ }
 {
     let mut i = 0;
-    while i < OBJECTS {
+    while i < MOST_OPEN {
         let x = list[i];
         put_object(bytes, OBJECTS_PLACE + OBJECT_SIZE * i, x);
         i += 1;
     }
 }
 
-pub(crate) fn put_rivals(bytes: &mut [u8], list: [u32; NODES])
+// The rivals' serials. Ruled out: one left as it was; who said done altered.
+pub fn put_rivals(bytes: &mut [u8], list: [u32; NODES])
     ensures { λ r. ⌜ now (bytes .exit) ≡ sets (now (bytes .entry)) rivalsPlace (together (le 4) list) ⌝ }
-    ensures { λ r. ⌜ length list ≡ 13 ⌝ }
+    ensures { λ r. ⌜ length list ≡ nodes ⌝ }
 {
     let mut i = 0;
     while i < NODES {
@@ -101,15 +109,8 @@ pub(crate) fn put_rivals(bytes: &mut [u8], list: [u32; NODES])
     }
 }
 
-// The numbers between them.
-pub(crate) fn put_front(
-    bytes: &mut [u8],
-    serial: u32,
-    timestamp: u32,
-    outcome: u8,
-    phase: u8,
-    live: u16,
-)
+// The numbers in front of the distances. Ruled out: serial and timestamp the other way round; a distance altered.
+pub fn put_front(bytes: &mut [u8], serial: u32, timestamp: u32, outcome: u8, phase: u8, live: u16)
     ensures { λ r. ⌜ now (bytes .exit) ≡ sets (now (bytes .entry)) 0 (frontOf serial timestamp outcome phase live) ⌝ }
 {
     octets::put_u32(bytes, SERIAL, serial);
@@ -119,7 +120,8 @@ pub(crate) fn put_front(
     octets::put_u16(bytes, LIVE, live);
 }
 
-pub(crate) fn put_quorum(bytes: &mut [u8], quorum: u16, contacted: u16, count: usize)
+// The numbers between the distances and the objects. Ruled out: quorum and contacted nodes the other way round; an object altered.
+pub fn put_quorum(bytes: &mut [u8], quorum: u16, contacted: u16, count: usize)
     ensures { λ r. ⌜ now (bytes .exit) ≡ sets (now (bytes .entry)) quorumPlace (quorumOf quorum contacted count) ⌝ }
 {
     octets::put_u16(bytes, QUORUM, quorum);
@@ -127,7 +129,8 @@ pub(crate) fn put_quorum(bytes: &mut [u8], quorum: u16, contacted: u16, count: u
     octets::put_u8(bytes, COUNT, low(count));
 }
 
-pub(crate) fn put_votes(bytes: &mut [u8], participants: u16, yes: u16, done: u16)
+// The numbers behind the objects.
+fn put_votes(bytes: &mut [u8], participants: u16, yes: u16, done: u16)
     ensures { λ r. ⌜ now (bytes .exit) ≡ sets (now (bytes .entry)) participantsPlace (votesOf participants yes done) ⌝ }
 {
     octets::put_u16(bytes, PARTICIPANTS, participants);
@@ -138,7 +141,7 @@ pub(crate) fn put_votes(bytes: &mut [u8], participants: u16, yes: u16, done: u16
 // The whole record from the front on.
 fn fill(bytes: &mut [u8], c: Coordinator)
     ensures { λ r. ⌜ now (bytes .exit) ≡ sets (now (bytes .entry)) 0 (bytesOf c) ⌝ }
-    ensures { λ r. ⌜ length (bytesOf c) ≡ 301 ⌝ }
+    ensures { λ r. ⌜ length (bytesOf c) ≡ recordSize ⌝ }
 {
     let distances = c.distances;
     let objects = c.objects;
@@ -170,4 +173,37 @@ pub fn blank(bytes: &mut [u8]) -> u8
     }
     write(bytes, coordinator::blank());
     0
+}
+
+// Another outcome and phase. Ruled out: the two the other way round; the live nodes behind them altered.
+pub fn turn(bytes: &mut [u8], outcome: u8, at: u8)
+    ensures { λ r. ⌜ now (bytes .exit) ≡ set (set (now (bytes .entry)) outcomePlace outcome) phasePlace at ⌝ }
+{
+    octets::put_u8(bytes, OUTCOME, outcome);
+    octets::put_u8(bytes, PHASE, at);
+}
+
+// The transaction is over: only serial, timestamp and outcome stay. Ruled out: the objects kept; the serial back at 0.
+pub fn become_idle(bytes: &mut [u8], outcome: u8)
+    requires { ⌜ length (now bytes) ≡ recordSize ⌝ }
+    ensures { λ r. ⌜ now (bytes .exit) ≡ bytesOf (idleAfter ((recordOf (now (bytes .entry))) .serial) ((recordOf (now (bytes .entry))) .timestamp) outcome) ⌝ }
+{
+    let mut c = coordinator::blank();
+    c.serial = octets::get_u32(bytes, SERIAL);
+    c.timestamp = octets::get_u32(bytes, TIMESTAMP);
+    c.outcome = outcome;
+    write(bytes, c);
+}
+
+// The transaction ends aborted: finishing until every awaited node says done; with nobody awaited, idle at once.
+// Ruled out: idle while a node is awaited; a commit.
+pub fn end_aborted(bytes: &mut [u8])
+    requires { ⌜ check (now bytes) ≡ 0 ⌝ }
+    ensures { λ r. ⌜ now (bytes .exit) ≡ bytesOf (endedAborted (recordOf (now (bytes .entry)))) ⌝ }
+{
+    if awaited_in(bytes) == 0 {
+        become_idle(bytes, ABORTED);
+    } else {
+        turn(bytes, ABORTED, FINISHING);
+    }
 }

@@ -3,8 +3,10 @@ ghost use mathlib.Core.Path.{_≡_};
 ghost use mathlib.Core.Bool.{cond};
 ghost use Prim.Native.Nat.{_≤_, _<_};
 ghost use lib.ListN.{length};
+ghost use Rattle.record.specs.Layout.{recordSize};
+ghost use Rattle.numbers.specs.Sizes.{mostOpen};
 ghost use Rattle.coordinator.specs.System.{tree};
-ghost use Rattle.coordinator.specs.State.{settled, awaited};
+ghost use Rattle.coordinator.specs.State.{settled};
 ghost use Rattle.clauses.specs.Clauses.{implies, zeros, numbersMeet, noNodes, nodesMeet, agreed, votesMeet, donesMeet};
 ghost use Rattle.record.specs.Record.{objectOf, recordOf, check};
 ghost use Rattle.record.specs.Valid.{presentOk, foundIn, openedIn, lastWritten, votable, standsBefore, placeOk, placesOk};
@@ -31,17 +33,19 @@ use crate::TIMESTAMP;
 use crate::VALUE_IN;
 use crate::VERSION_IN;
 use crate::YES;
+use crate::load::wide;
+use crate::look::awaited_in;
 use coordinator::ABORTED;
 use coordinator::COMMITTED;
-use coordinator::EVERY_NODE;
 use coordinator::FINISHING;
-use coordinator::HIGHEST;
 use coordinator::IDLE;
-use coordinator::OBJECTS;
-use coordinator::OBJECTS_END;
 use coordinator::OPEN;
 use coordinator::VOTING;
 use mask::subset;
+use numbers::EVERY_NODE;
+use numbers::HIGHEST;
+use numbers::MOST_OPEN;
+use numbers::OBJECTS_END;
 use numbers::both;
 use numbers::either;
 use quorum::Kind;
@@ -58,13 +62,6 @@ fn implied(a: bool, b: bool) -> bool
     ensures { λ r. ⌜ r ≡ implies a b ⌝ }
 {
     either(!a, b)
-}
-
-// A byte as a count.
-fn wide(x: u8) -> usize
-    ensures { λ r. ⌜ r ≡ x ⌝ }
-{
-    x as usize
 }
 
 // Every byte is 0: the bytes are joined and looked at once, which a compiler does for many bytes at a time.
@@ -102,7 +99,7 @@ fn numbers_meet(bytes: &[u8]) -> bool
 
 // No live node, no quorum, no distance, no object.
 fn no_nodes(bytes: &[u8]) -> bool
-    requires { ⌜ length (now bytes) ≡ 301 ⌝ }
+    requires { ⌜ length (now bytes) ≡ recordSize ⌝ }
     ensures { λ r. ⌜ r ≡ noNodes (recordOf (now (bytes .entry))) ⌝ }
 {
     let none = both(
@@ -117,7 +114,7 @@ fn no_nodes(bytes: &[u8]) -> bool
 
 // While idle there are none, else a present read quorum.
 fn are_present(bytes: &[u8]) -> bool
-    requires { ⌜ length (now bytes) ≡ 301 ⌝ }
+    requires { ⌜ length (now bytes) ≡ recordSize ⌝ }
     ensures { λ r. ⌜ r ≡ presentOk (recordOf (now (bytes .entry))) ⌝ }
 {
     if octets::get_u8(bytes, PHASE) == IDLE {
@@ -129,7 +126,7 @@ fn are_present(bytes: &[u8]) -> bool
 
 // The live nodes, the present read quorum, the contacted nodes.
 fn nodes_meet(bytes: &[u8]) -> bool
-    requires { ⌜ length (now bytes) ≡ 301 ⌝ }
+    requires { ⌜ length (now bytes) ≡ recordSize ⌝ }
     ensures { λ r. ⌜ r ≡ nodesMeet tree (recordOf (now (bytes .entry))) ⌝ }
 {
     let quorum = octets::get_u16(bytes, QUORUM);
@@ -212,8 +209,8 @@ fn is_votable(x: &[u8]) -> bool
 
 // Whether an object stands at one of the first n places.
 fn stands_before(bytes: &[u8], n: usize, object: u8) -> bool
-    requires { ⌜ length (now bytes) ≡ 301 ⌝ }
-    requires { ⌜ n ≤ 8 ⌝ }
+    requires { ⌜ length (now bytes) ≡ recordSize ⌝ }
+    requires { ⌜ n ≤ mostOpen ⌝ }
     ensures { λ r. ⌜ r ≡ standsBefore n (now (bytes .entry)) object ⌝ }
 {
     let mut found = false;
@@ -228,8 +225,8 @@ fn stands_before(bytes: &[u8], n: usize, object: u8) -> bool
 
 // One place below the count.
 fn place_meets(bytes: &[u8], i: usize) -> bool
-    requires { ⌜ length (now bytes) ≡ 301 ⌝ }
-    requires { ⌜ i < 8 ⌝ }
+    requires { ⌜ length (now bytes) ≡ recordSize ⌝ }
+    requires { ⌜ i < mostOpen ⌝ }
     ensures { λ r. ⌜ r ≡ placeOk (now (bytes .entry)) i ⌝ }
 {
     let at = OBJECTS_PLACE + OBJECT_SIZE * i;
@@ -249,8 +246,8 @@ fn place_meets(bytes: &[u8], i: usize) -> bool
 
 // All of them.
 fn places_meet(bytes: &[u8], count: usize) -> bool
-    requires { ⌜ length (now bytes) ≡ 301 ⌝ }
-    requires { ⌜ count ≤ 8 ⌝ }
+    requires { ⌜ length (now bytes) ≡ recordSize ⌝ }
+    requires { ⌜ count ≤ mostOpen ⌝ }
     ensures { λ r. ⌜ r ≡ placesOk count (now (bytes .entry)) ⌝ }
 {
     let mut i = 0;
@@ -265,11 +262,11 @@ fn places_meet(bytes: &[u8], count: usize) -> bool
 
 // The objects of a record, and no byte past them that is not 0.
 fn objects_meet(bytes: &[u8]) -> bool
-    requires { ⌜ length (now bytes) ≡ 301 ⌝ }
+    requires { ⌜ length (now bytes) ≡ recordSize ⌝ }
     ensures { λ r. ⌜ r ≡ objectsOk (now (bytes .entry)) ⌝ }
 {
     let count = wide(octets::get_u8(bytes, COUNT));
-    if OBJECTS < count {
+    if MOST_OPEN < count {
         return false;
     }
     if !places_meet(bytes, count) {
@@ -281,7 +278,7 @@ fn objects_meet(bytes: &[u8]) -> bool
 
 // A write quorum with every contacted node, and an object; while there are no participants no rival is named.
 fn is_party(bytes: &[u8]) -> bool
-    requires { ⌜ length (now bytes) ≡ 301 ⌝ }
+    requires { ⌜ length (now bytes) ≡ recordSize ⌝ }
     ensures { λ r. ⌜ r ≡ partyIs (recordOf (now (bytes .entry))) ⌝ }
 {
     let participants = octets::get_u16(bytes, PARTICIPANTS);
@@ -299,7 +296,7 @@ fn is_party(bytes: &[u8]) -> bool
 
 // The participants.
 fn party_meets(bytes: &[u8]) -> bool
-    requires { ⌜ length (now bytes) ≡ 301 ⌝ }
+    requires { ⌜ length (now bytes) ≡ recordSize ⌝ }
     ensures { λ r. ⌜ r ≡ partyOk (recordOf (now (bytes .entry))) ⌝ }
 {
     let participants = octets::get_u16(bytes, PARTICIPANTS);
@@ -347,25 +344,13 @@ fn votes_meet(bytes: &[u8]) -> bool
     }
 }
 
-// Who must say done.
-fn awaited_by(bytes: &[u8]) -> u16
-    ensures { λ r. ⌜ r ≡ awaited (recordOf (now (bytes .entry))) ⌝ }
-{
-    let participants = octets::get_u16(bytes, PARTICIPANTS);
-    if participants == 0 {
-        octets::get_u16(bytes, CONTACTED)
-    } else {
-        participants
-    }
-}
-
 // The dones.
 fn dones_meet(bytes: &[u8]) -> bool
     ensures { λ r. ⌜ r ≡ donesMeet (recordOf (now (bytes .entry))) ⌝ }
 {
     let done = octets::get_u16(bytes, DONE);
     if octets::get_u8(bytes, PHASE) == FINISHING {
-        let nodes = awaited_by(bytes);
+        let nodes = awaited_in(bytes);
         both(subset(done, nodes), !subset(nodes, done))
     } else {
         done == 0
@@ -374,7 +359,7 @@ fn dones_meet(bytes: &[u8]) -> bool
 
 // All the clauses, the cheap ones first.
 fn is_valid(bytes: &[u8]) -> bool
-    requires { ⌜ length (now bytes) ≡ 301 ⌝ }
+    requires { ⌜ length (now bytes) ≡ recordSize ⌝ }
     ensures { λ r. ⌜ r ≡ validOf (now (bytes .entry)) ⌝ }
 {
     if !numbers_meet(bytes) {

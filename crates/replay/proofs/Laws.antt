@@ -9,12 +9,13 @@ use native.Mathlib.Omega.{arith}
 use lib.Dec.{T, eqb, ltb, leb}
 use lib.ListN.{length, set, replicate, length-set, length-replicate, getD-replicate}
 use borrow.Author.Tests.{eq-eqb, ne-eqb, eqb-true, ltb-true, lt-ltb, le-leb, lt-leb}
+use Rattle.numbers.specs.Sizes.{nodes, objects}
 use Rattle.wire.specs.Formed.{countsOk, namesOk, directionOk, entriesOk, rivalsOk, wellFormed, wordOf}
 use Rattle.wire.specs.Encode.{sizeOf}
 use Rattle.wire.specs.Decode.{ownerOf, decode, accepted, checkOf}
 use Rattle.wire.proofs.Theorems.{accepted-of-check}
 use Rattle.replay.specs.Digest.{Digest, blankDigest, next, at, at2, zeroRow, begun, opened, valued, firstYes, placed, put, takes, committed}
-use Rattle.replay.specs.Layout.{owners, objects, size, rowSize, countCell, serialCell, placeCell, lastPlaceCell, lastValueCell, rowCell, writesCell}
+use Rattle.replay.specs.Layout.{size, rowSize, countCell, serialCell, placeCell, lastPlaceCell, lastValueCell, rowCell, writesCell}
 use Rattle.replay.specs.Layout.{newCell, cell}
 use Rattle.replay.specs.Sheet.{sheetNumber, ownerNumber, objectNumber, unless, blankAfter, zeroed, withBegun, begunAfter, openedAfter}
 use Rattle.replay.specs.Sheet.{valuedAfter, withPlace, withPut, putAfter, withTaken, allTaken, committedAfter, valueOf}
@@ -25,10 +26,10 @@ use Rattle.replay.proofs.Cells.{same?, below?, set-there, set-else, zer
 pub record Reads (l : List ℕ) (d : Digest) : Type 0 where
   pub long : length l ≡ size
   pub places-as : cell l countCell ≡ d .places
-  pub serial-as : (o : ℕ) → o < owners → cell l (serialCell o) ≡ d .serial o
-  pub place-as : (o : ℕ) → o < owners → cell l (placeCell o) ≡ d .place o
-  pub writes-as : (o t : ℕ) → o < owners → t < objects → cell l (writesCell o t) ≡ d .writes o t
-  pub new-as : (o t : ℕ) → o < owners → t < objects → cell l (newCell o t) ≡ d .new o t
+  pub serial-as : (o : ℕ) → o < nodes → cell l (serialCell o) ≡ d .serial o
+  pub place-as : (o : ℕ) → o < nodes → cell l (placeCell o) ≡ d .place o
+  pub writes-as : (o t : ℕ) → o < nodes → t < objects → cell l (writesCell o t) ≡ d .writes o t
+  pub new-as : (o t : ℕ) → o < nodes → t < objects → cell l (newCell o t) ≡ d .new o t
   pub last-place-as : (t : ℕ) → t < objects → cell l (lastPlaceCell t) ≡ d .lastPlace t
   pub last-value-as : (t : ℕ) → t < objects → cell l (lastValueCell t) ≡ d .lastValue t
 
@@ -121,7 +122,7 @@ module _ (l : List ℕ) (d : Digest) (r : Reads l d) where
     last-value-as = λ j g. still (countCell) v (lastValueCell j) (d .lastValue j) (λ e. let z : ⊥ = omega (arith, e, g) in z) (r .last-value-as j g);
   }
 
-  serial-set : (o v : ℕ) → o < owners → Reads (set l (serialCell o) v) (withSerial d o v)
+  serial-set : (o v : ℕ) → o < nodes → Reads (set l (serialCell o) v) (withSerial d o v)
   serial-set o v m = record {
     long = stored-long (serialCell o) v;
     places-as = still (serialCell o) v (countCell) (d .places) (λ e. let z : ⊥ = omega (arith, e, m) in z) (r .places-as);
@@ -133,7 +134,7 @@ module _ (l : List ℕ) (d : Digest) (r : Reads l d) where
     last-value-as = λ j g. still (serialCell o) v (lastValueCell j) (d .lastValue j) (λ e. let z : ⊥ = omega (arith, e, g, m) in z) (r .last-value-as j g);
   }
 
-  place-set : (o v : ℕ) → o < owners → Reads (set l (placeCell o) v) (withRank d o v)
+  place-set : (o v : ℕ) → o < nodes → Reads (set l (placeCell o) v) (withRank d o v)
   place-set o v m = record {
     long = stored-long (placeCell o) v;
     places-as = still (placeCell o) v (countCell) (d .places) (λ e. let z : ⊥ = omega (arith, e, m) in z) (r .places-as);
@@ -145,7 +146,7 @@ module _ (l : List ℕ) (d : Digest) (r : Reads l d) where
     last-value-as = λ j g. still (placeCell o) v (lastValueCell j) (d .lastValue j) (λ e. let z : ⊥ = omega (arith, e, g, m) in z) (r .last-value-as j g);
   }
 
-  writes-set : (o t v : ℕ) → o < owners → t < objects → Reads (set l (writesCell o t) v) (opened d o t v)
+  writes-set : (o t v : ℕ) → o < nodes → t < objects → Reads (set l (writesCell o t) v) (opened d o t v)
   writes-set o t v m s = record {
     long = stored-long (writesCell o t) v;
     places-as = still (writesCell o t) v (countCell) (d .places) (λ e. let z : ⊥ = omega (arith, e, m, s) in z) (r .places-as);
@@ -159,7 +160,7 @@ module _ (l : List ℕ) (d : Digest) (r : Reads l d) where
         (r .last-value-as j g);
   }
 
-  new-set : (o t v : ℕ) → o < owners → t < objects → Reads (set l (newCell o t) v) (valued d o t v)
+  new-set : (o t v : ℕ) → o < nodes → t < objects → Reads (set l (newCell o t) v) (valued d o t v)
   new-set o t v m s = record {
     long = stored-long (newCell o t) v;
     places-as = still (newCell o t) v (countCell) (d .places) (λ e. let z : ⊥ = omega (arith, e, m, s) in z) (r .places-as);
@@ -184,7 +185,7 @@ withoutRow d o =
       lastValue = d .lastValue;
     }
 
-module _ (l : List ℕ) (d : Digest) (r : Reads l d) (o : ℕ) (m : o < owners) where
+module _ (l : List ℕ) (d : Digest) (r : Reads l d) (o : ℕ) (m : o < nodes) where
   -- a cell before the row, or behind it
   outside : (j a : ℕ) → (j < rowCell o) ⊎ (rowCell o + rowSize ≤ j) → cell l j ≡ a → cell (zeroed rowSize l (rowCell o)) j ≡ a
   outside j a h e = zeroed-else rowSize l (rowCell o) j h ∙ e
@@ -211,7 +212,7 @@ module _ (l : List ℕ) (d : Digest) (r : Reads l d) (o : ℕ) (m : o < owners) 
   }
 
 -- ---- a commit: the cells of one object, then of all
-module _ (o : ℕ) (m : o < owners) where
+module _ (o : ℕ) (m : o < nodes) where
   abbrev taking : List ℕ → ℕ → Bool
   taking l t = takes (cell l (writesCell o t)) (cell l (placeCell o)) (cell l (lastPlaceCell t))
 
@@ -296,7 +297,7 @@ module _ (o : ℕ) (m : o < owners) where
 
 -- ---- what each deed leaves reads as what the thing told leaves
 module _ (l : List ℕ) (d : Digest) (r : Reads l d) where
-  begun-reads : (o : ℕ) → o < owners → Reads (withBegun l o) (begun d o)
+  begun-reads : (o : ℕ) → o < nodes → Reads (withBegun l o) (begun d o)
   unfolding withBegun
   begun-reads o m =
       let v = next (cell l (serialCell o)) in
@@ -306,14 +307,14 @@ module _ (l : List ℕ) (d : Digest) (r : Reads l d) where
       (ap next (r .serial-as o m))
       (row-zeroed (set (set l (serialCell o) v) (placeCell o) 0) (withRank (withSerial d o v) o 0) b o m)
 
-  placed-reads : (o : ℕ) → o < owners → Reads (withPlace l o) (placed d o)
+  placed-reads : (o : ℕ) → o < nodes → Reads (withPlace l o) (placed d o)
   unfolding withPlace
   placed-reads o m =
       let v = next (cell l countCell) in
       subst (λ (s : ℕ). Reads (set (set l countCell v) (placeCell o) v) (withRank (withCount d s) o s)) (ap next (r .places-as))
       (place-set (set l countCell v) (withCount d v) (count-set l d r v) o v m)
 
-  committed-reads : (o : ℕ) → o < owners → Reads (allTaken objects l o 0) (committed d o)
+  committed-reads : (o : ℕ) → o < nodes → Reads (allTaken objects l o 0) (committed d o)
   committed-reads o m = record {
     long = all-long o m objects l 0 ∙ r .long;
     places-as = same countCell (λ u b. (λ z. let y : ⊥ = omega arith in y, λ z. let y : ⊥ = omega arith in y)) ∙ r .places-as;
@@ -345,7 +346,7 @@ both-right : (a b : Bool) → (a && b) ≡ true → b ≡ true
 both-right true b e = e
 both-right false b e = absurd (subst T (sym e) tt)
 
-pub owner-below : (b : List ℕ) → checkOf b ≡ 0 → ownerOf b < owners
+pub owner-below : (b : List ℕ) → checkOf b ≡ 0 → ownerOf b < nodes
 unfolding accepted wellFormed decode
 owner-below b e =
     let m = decode b in
@@ -353,9 +354,9 @@ owner-below b e =
     let g = both-right (countsOk (m .kind) (length (m .entries)) (length (m .rivals)) (length (m .words)) (wordOf m))
     (namesOk m && (directionOk m && (entriesOk m && rivalsOk m))) f in
     let n = both-left (namesOk m) (directionOk m && (entriesOk m && rivalsOk m)) g in
-    let k = both-right (ltb (m .to) 13) (ltb (m .owner) 13 && (leb 1 (m .serial) && leb 1 (m .stamp)))
-    (both-right (ltb (m .from) 13) (ltb (m .to) 13 && (ltb (m .owner) 13 && (leb 1 (m .serial) && leb 1 (m .stamp)))) n) in
-    ltb-true (ownerOf b) 13 (both-left (ltb (m .owner) 13) (leb 1 (m .serial) && leb 1 (m .stamp)) k)
+    let k = both-right (ltb (m .to) nodes) (ltb (m .owner) nodes && (leb 1 (m .serial) && leb 1 (m .stamp)))
+    (both-right (ltb (m .from) nodes) (ltb (m .to) nodes && (ltb (m .owner) nodes && (leb 1 (m .serial) && leb 1 (m .stamp)))) n) in
+    ltb-true (ownerOf b) nodes (both-left (ltb (m .owner) nodes) (leb 1 (m .serial) && leb 1 (m .stamp)) k)
 
 unformed : (b : List ℕ) (serial place : ℕ) → eqb (checkOf b) 0 ≡ false → firstYes serial place b ≡ false
 unfolding firstYes
@@ -366,25 +367,25 @@ sheet-fine : (l : List ℕ) → length l ≡ size → sheetNumber (length l) ≡
 unfolding sheetNumber
 sheet-fine l e = simp (eq-eqb (length l) size e)
 
-owner-fine : (l : List ℕ) (o : ℕ) → length l ≡ size → o < owners → ownerNumber (length l) o ≡ 0
+owner-fine : (l : List ℕ) (o : ℕ) → length l ≡ size → o < nodes → ownerNumber (length l) o ≡ 0
 unfolding ownerNumber
-owner-fine l o e m = simp (eq-eqb (length l) size e, lt-leb owners o m)
+owner-fine l o e m = simp (eq-eqb (length l) size e, lt-leb nodes o m)
 
-owner-strange : (l : List ℕ) (o : ℕ) → length l ≡ size → owners ≤ o → ownerNumber (length l) o ≡ 0 → ⊥
+owner-strange : (l : List ℕ) (o : ℕ) → length l ≡ size → nodes ≤ o → ownerNumber (length l) o ≡ 0 → ⊥
 unfolding ownerNumber
-owner-strange l o e m z = let y : _≡_ {A = ℕ} 4 0 = simp (eq-eqb (length l) size e, le-leb owners o m) at z in let n : ⊥ = omega (arith, y) in n
+owner-strange l o e m z = let y : _≡_ {A = ℕ} 4 0 = simp (eq-eqb (length l) size e, le-leb nodes o m) at z in let n : ⊥ = omega (arith, y) in n
 
-object-fine : (l : List ℕ) (o t : ℕ) → length l ≡ size → o < owners → t < objects → objectNumber (length l) o t ≡ 0
+object-fine : (l : List ℕ) (o t : ℕ) → length l ≡ size → o < nodes → t < objects → objectNumber (length l) o t ≡ 0
 unfolding objectNumber
-object-fine l o t e m s = simp (eq-eqb (length l) size e, lt-leb owners o m, lt-leb objects t s)
+object-fine l o t e m s = simp (eq-eqb (length l) size e, lt-leb nodes o m, lt-leb objects t s)
 
-object-strange : (l : List ℕ) (o t : ℕ) → length l ≡ size → owners ≤ o → objectNumber (length l) o t ≡ 0 → ⊥
+object-strange : (l : List ℕ) (o t : ℕ) → length l ≡ size → nodes ≤ o → objectNumber (length l) o t ≡ 0 → ⊥
 unfolding objectNumber
-object-strange l o t e m z = let y : _≡_ {A = ℕ} 4 0 = simp (eq-eqb (length l) size e, le-leb owners o m) at z in let n : ⊥ = omega (arith, y) in n
+object-strange l o t e m z = let y : _≡_ {A = ℕ} 4 0 = simp (eq-eqb (length l) size e, le-leb nodes o m) at z in let n : ⊥ = omega (arith, y) in n
 
-object-unknown : (l : List ℕ) (o t : ℕ) → length l ≡ size → o < owners → objects ≤ t → objectNumber (length l) o t ≡ 0 → ⊥
+object-unknown : (l : List ℕ) (o t : ℕ) → length l ≡ size → o < nodes → objects ≤ t → objectNumber (length l) o t ≡ 0 → ⊥
 unfolding objectNumber
-object-unknown l o t e m s z = let y : _≡_ {A = ℕ} 6 0 = simp (eq-eqb (length l) size e, lt-leb owners o m, le-leb objects t s) at z in
+object-unknown l o t e m s z = let y : _≡_ {A = ℕ} 6 0 = simp (eq-eqb (length l) size e, lt-leb nodes o m, le-leb objects t s) at z in
     let n : ⊥ = omega (arith, y) in n
 
 -- places of a table that are not asked for
@@ -431,7 +432,7 @@ module _ (l : List ℕ) (d : Digest) (r : Reads l d) where
 
   pub begun-law : (o : ℕ) → Reads (begunAfter l o) (begun d o)
   unfolding begunAfter
-  begun-law o = below? o owners
+  begun-law o = below? o nodes
       (λ m. done (ownerNumber (length l) o) (withBegun l o) (begun d o) (owner-fine l o (r .long) m) (begun-reads l d r o m))
       (λ m. refused (ownerNumber (length l) o) (withBegun l o) (begun d o) (owner-strange l o (r .long) m) (record {
         long = r .long;
@@ -446,11 +447,11 @@ module _ (l : List ℕ) (d : Digest) (r : Reads l d) where
 
   -- an owner or an object that is not there
   abbrev Absent : ℕ → ℕ → Type 0
-  Absent o t = (i j : ℕ) → i < owners → j < objects → (i ≢ o) ⊎ (j ≢ t)
+  Absent o t = (i j : ℕ) → i < nodes → j < objects → (i ≢ o) ⊎ (j ≢ t)
 
-  by-object : (o t : ℕ) (m : List ℕ) (e : Digest) → (o < owners → t < objects → Reads m e) → (Absent o t → Reads l e)
+  by-object : (o t : ℕ) (m : List ℕ) (e : Digest) → (o < nodes → t < objects → Reads m e) → (Absent o t → Reads l e)
       → Reads (unless (objectNumber (length l) o t) l m) e
-  by-object o t m e f g = below? o owners
+  by-object o t m e f g = below? o nodes
       (λ a. below? t objects (λ b. done (objectNumber (length l) o t) m e (object-fine l o t (r .long) a b) (f a b))
       (λ b. refused (objectNumber (length l) o t) m e (object-unknown l o t (r .long) a b)
       (g (λ i j h k. inr (λ q. let z : ⊥ = omega (arith, b, k, q) in z)))))
@@ -490,7 +491,7 @@ module _ (l : List ℕ) (d : Digest) (r : Reads l d) where
       o : ℕ
       o = ownerOf b
 
-      either : (w : Bool) → (w ≡ true → o < owners) → Reads (cond w (withPlace l o) l) (cond w (placed d o) d)
+      either : (w : Bool) → (w ≡ true → o < nodes) → Reads (cond w (withPlace l o) l) (cond w (placed d o) d)
       either true f = placed-reads l d r o (f refl)
       either false f = r
 
@@ -500,7 +501,7 @@ module _ (l : List ℕ) (d : Digest) (r : Reads l d) where
           rw (r .serial-as o m, r .place-as o m) (either (firstYes (d .serial o) (d .place o) b) (λ z. m))
       by false e = rw (unformed b (cell l (serialCell o)) (cell l (placeCell o)) e, unformed b (d .serial o) (d .place o) e) r
 
-  pub committed-law : (o : ℕ) → o < owners → Reads (committedAfter l o) (committed d o)
+  pub committed-law : (o : ℕ) → o < nodes → Reads (committedAfter l o) (committed d o)
   unfolding committedAfter
   committed-law o m =
       done (ownerNumber (length l) o) (allTaken objects l o 0) (committed d o) (owner-fine l o (r .long) m) (committed-reads l d r o m)

@@ -7,9 +7,10 @@ use native.Mathlib.Omega.{arith}
 use lib.Dec.{eqb, ltb}
 use lib.ListN.{length, set}
 use borrow.Author.Tests.{eq-eqb, ne-eqb}
+use Rattle.numbers.specs.Sizes.{objects}
 use Rattle.wire.specs.Decode.{ownerOf}
 use Rattle.replay.specs.Digest.{firstYes, takes}
-use Rattle.replay.specs.Layout.{size, objects, serialCell, placeCell, lastPlaceCell, lastValueCell, writesCell, newCell, cell}
+use Rattle.replay.specs.Layout.{size, serialCell, placeCell, lastPlaceCell, lastValueCell, writesCell, newCell, cell}
 use Rattle.replay.specs.Sheet.{unless, zeroed, withPlace, withPut, withTaken, allTaken, valueOf}
 
 pub zeroed-step : (n : ℕ) (l : List ℕ) (i : ℕ) → 0 < n → zeroed (n - 1) (set l i 0) (i + 1) ≡ zeroed n l i

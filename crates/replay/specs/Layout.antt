@@ -3,22 +3,17 @@
 use mathlib.Core.List.{List}
 use Prim.Native.Nat.{ℕ, _+_, _*_}
 use lib.ListN.{getD}
-
-abbrev pub owners : ℕ
-owners = 13
-
-abbrev pub objects : ℕ
-objects = 64
+use Rattle.numbers.specs.Sizes.{nodes, objects}
 
 -- ---- where each table starts
 abbrev pub serials : ℕ
 serials = 1
 
 abbrev pub places : ℕ
-places = serials + owners
+places = serials + nodes
 
 abbrev pub lastPlaces : ℕ
-lastPlaces = places + owners
+lastPlaces = places + nodes
 
 abbrev pub lastValues : ℕ
 lastValues = lastPlaces + objects
@@ -30,7 +25,7 @@ abbrev pub rowSize : ℕ
 rowSize = objects + objects
 
 abbrev pub size : ℕ
-size = rows + rowSize * owners
+size = rows + rowSize * nodes
 
 -- ---- where a number stands
 abbrev pub countCell : ℕ

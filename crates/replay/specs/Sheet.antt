@@ -4,11 +4,12 @@ use mathlib.Core.List.{List, [], _∷_}
 use Prim.Native.Nat.{ℕ, zero, suc, _+_}
 use lib.Dec.{eqb, ltb, leb}
 use lib.ListN.{length, set, replicate}
+use Rattle.numbers.specs.Sizes.{nodes, objects}
 use Rattle.numbers.specs.Numbers.{wrongLength, stranger, noSuchObject}
 use Rattle.numbers.specs.Refusal.{refuse, firstOf}
 use Rattle.wire.specs.Decode.{ownerOf}
 use Rattle.replay.specs.Digest.{next, firstYes, takes}
-use Rattle.replay.specs.Layout.{owners, objects, rowSize, size, countCell, serialCell, placeCell, lastPlaceCell, lastValueCell, rowCell, writesCell}
+use Rattle.replay.specs.Layout.{rowSize, size, countCell, serialCell, placeCell, lastPlaceCell, lastValueCell, rowCell, writesCell}
 use Rattle.replay.specs.Layout.{newCell, cell}
 
 -- ---- the numbers: 1 a slice of another length, 4 no owner, 6 no object
@@ -16,11 +17,11 @@ unfoldable pub sheetNumber : ℕ → ℕ
 sheetNumber long = firstOf (refuse wrongLength (not (eqb long size)) ∷ [])
 
 unfoldable pub ownerNumber : ℕ → ℕ → ℕ
-ownerNumber long o = firstOf (refuse wrongLength (not (eqb long size)) ∷ refuse stranger (leb owners o) ∷ [])
+ownerNumber long o = firstOf (refuse wrongLength (not (eqb long size)) ∷ refuse stranger (leb nodes o) ∷ [])
 
 unfoldable pub objectNumber : ℕ → ℕ → ℕ → ℕ
 objectNumber long o t =
-    firstOf (refuse wrongLength (not (eqb long size)) ∷ refuse stranger (leb owners o) ∷ refuse noSuchObject (leb objects t) ∷ [])
+    firstOf (refuse wrongLength (not (eqb long size)) ∷ refuse stranger (leb nodes o) ∷ refuse noSuchObject (leb objects t) ∷ [])
 
 -- the sheet after a call with this number
 abbrev pub unless : ℕ → List ℕ → List ℕ → List ℕ

@@ -4,25 +4,23 @@
 ghost use mathlib.Core.Path.{_≡_};
 ghost use Prim.Native.Nat.{_≤_, _<_};
 ghost use lib.ListN.{length, set, getD};
+ghost use Rattle.numbers.specs.Sizes.{objects};
 ghost use Rattle.replay.specs.Digest.{next, firstYes, takes};
 ghost use Rattle.replay.specs.Sheet.{sheetNumber, ownerNumber, objectNumber, zeroed, blankAfter, withBegun, begunAfter, openedAfter};
 ghost use Rattle.replay.specs.Sheet.{valuedAfter, withPlace, withPut, putAfter, withTaken, allTaken, committedAfter, valueOf};
+use numbers::NODES;
+use numbers::OBJECTS;
 use numbers::both;
 use numbers::refuse;
-
-// How many owners and objects there are.
-const OWNERS: usize = 13;
-
-const OBJECTS: usize = 64;
 
 // Where each table starts: by owner its serial and its place, by object the place and the value of its last writer, and the owners' rows.
 const COUNT: usize = 0;
 
 const SERIALS: usize = 1;
 
-const PLACES: usize = SERIALS + OWNERS;
+const PLACES: usize = SERIALS + NODES;
 
-const LAST_PLACES: usize = PLACES + OWNERS;
+const LAST_PLACES: usize = PLACES + NODES;
 
 const LAST_VALUES: usize = LAST_PLACES + OBJECTS;
 
@@ -32,7 +30,7 @@ const ROWS: usize = LAST_VALUES + OBJECTS;
 const ROW: usize = OBJECTS + OBJECTS;
 
 // How many numbers a sheet has.
-pub const SIZE: usize = ROWS + ROW * OWNERS;
+pub const SIZE: usize = ROWS + ROW * NODES;
 
 const LARGEST: u64 = 18446744073709551615;
 
@@ -90,7 +88,7 @@ fn sheet_number(long: usize) -> u8
 fn owner_number(long: usize, owner: u8) -> u8
     ensures { λ r. ⌜ r ≡ ownerNumber long owner ⌝ }
 {
-    let strange = refuse(numbers::STRANGER, OWNERS <= wide(owner), 0);
+    let strange = refuse(numbers::STRANGER, NODES <= wide(owner), 0);
     refuse(numbers::LENGTH, long != SIZE, strange)
 }
 
@@ -98,7 +96,7 @@ fn object_number(long: usize, owner: u8, object: u8) -> u8
     ensures { λ r. ⌜ r ≡ objectNumber long owner object ⌝ }
 {
     let none = refuse(numbers::NO_SUCH_OBJECT, OBJECTS <= wide(object), 0);
-    let strange = refuse(numbers::STRANGER, OWNERS <= wide(owner), none);
+    let strange = refuse(numbers::STRANGER, NODES <= wide(owner), none);
     refuse(numbers::LENGTH, long != SIZE, strange)
 }
 
@@ -235,7 +233,7 @@ fn take(sheet: &mut [u64], o: usize, t: usize)
 // Every object does.
 fn take_all(sheet: &mut [u64], o: usize)
     requires { ⌜ o < 256 ⌝ }
-    ensures { λ r. ⌜ now (sheet .exit) ≡ allTaken 64 (now (sheet .entry)) o 0 ⌝ }
+    ensures { λ r. ⌜ now (sheet .exit) ≡ allTaken objects (now (sheet .entry)) o 0 ⌝ }
 {
     let mut t: usize = 0;
     while t < OBJECTS {

@@ -6,16 +6,17 @@ use Prim.Native.Nat.{ℕ, _≤_, _<_}
 use native.Mathlib.Omega.{arith}
 use borrow.Author.Tests.{ne-eqb, eqb-true}
 use lib.Dec.{eqb, ltb}
+use Rattle.numbers.specs.Sizes.{nodes}
 use Rattle.wire.specs.Message.{Message}
 use Rattle.wire.specs.Formed.{wordOf}
 use Rattle.wire.specs.Encode.{Fits}
 use Rattle.image.specs.declared.Owner.{Owner}
-use Rattle.image.specs.Layout.{shape, owners, serial, state, stamp, copyOf, ownerOf}
+use Rattle.image.specs.Layout.{shape, serial, state, stamp, copyOf, ownerOf}
 use Rattle.image.specs.Change.{withOwner}
 use Rattle.image.proofs.Made.{made-owner}
 use Rattle.image.proofs.Sound.{Sound}
-use Rattle.replica.specs.Standing.{aboveOf, standing, active, entered}
-use Rattle.replica.specs.Judge.{votesNo}
+use Rattle.judge.specs.Standing.{aboveOf, standing, active, entered}
+use Rattle.judge.specs.Judge.{votesNo}
 use Rattle.replica.specs.Steps.{wanted, fetchImage, leaves, judgedImage, askImage, applied, decided, released, outcomeImage}
 use Rattle.replica.specs.Given.{Raisable}
 use Rattle.replica.specs.Receive.{step}
@@ -62,7 +63,7 @@ module _ (l : List ℕ) (m : Message) where
   abbrev pub listedOwner : Owner
   listedOwner = ownerWith (m .serial) 1 (cond (eqb (standing l m) 4) (m .stamp) (stamp l (m .owner)))
 
-module _ (l : List ℕ) (m : Message) (s : Sound l) (small : m .owner < owners) (here : 1 ≤ m .serial) (at : 1 ≤ m .stamp) (f : Fits m) where
+module _ (l : List ℕ) (m : Message) (s : Sound l) (small : m .owner < nodes) (here : 1 ≤ m .serial) (at : 1 ≤ m .stamp) (f : Fits m) where
   abbrev o : ℕ
   o = m .owner
 
@@ -85,7 +86,7 @@ module _ (l : List ℕ) (m : Message) (s : Sound l) (small : m .owner < owners) 
           made-owner (ap (serial l) r ∙ w .0) (ap (state l) r ∙ sym (w .1) ∙ e) (ap (stamp l) r)
       by false q = refl
 
-  pub entered-owner : active l m ≡ true → (p : ℕ) → p < owners → ownerOf n p ≡ cond (eqb p o) (listedOwner l m) (ownerOf l p)
+  pub entered-owner : active l m ≡ true → (p : ℕ) → p < nodes → ownerOf n p ≡ cond (eqb p o) (listedOwner l m) (ownerOf l p)
   unfolding active entered
   entered-owner a p k =
       or-split (ownerOf n p ≡ cond (eqb p o) (listedOwner l m) (ownerOf l p)) (eqb (standing l m) 1) (eqb (standing l m) 4)
@@ -102,12 +103,12 @@ module _ (l : List ℕ) (m : Message) (s : Sound l) (small : m .owner < owners) 
   fetch-copy a t k =
       simp a (joins-copy n (keeps-entered l m s small here at f a .0) t k o small (wanted m) ∙ ap (listedCopy o (wanted m) t) (entered-copy t k))
 
-  pub fetch-owner : active l m ≡ true → (p : ℕ) → p < owners → ownerOf (fetchImage l m) p ≡ cond (eqb p o) (listedOwner l m) (ownerOf l p)
+  pub fetch-owner : active l m ≡ true → (p : ℕ) → p < nodes → ownerOf (fetchImage l m) p ≡ cond (eqb p o) (listedOwner l m) (ownerOf l p)
   unfolding fetchImage
   fetch-owner a p k = simp a (joins-owner n p o (wanted m) ∙ entered-owner a p k)
 
   -- ---- a vote
-  voted : active l m ≡ true → (st : ℕ) → st < 256 → (p : ℕ) → p < owners
+  voted : active l m ≡ true → (st : ℕ) → st < 256 → (p : ℕ) → p < nodes
       → ownerOf (leaves n o st) p ≡ cond (eqb p o) (restated st (listedOwner l m)) (ownerOf l p)
   voted a st h p k =
       leaves-owner n (omega (arith, keeps-entered l m s small here at f a .0 .size)) p k o st h
@@ -128,7 +129,7 @@ module _ (l : List ℕ) (m : Message) (s : Sound l) (small : m .owner < owners) 
   unfolding askImage judgedImage
   no-copy a v t k = simp (a, v) (left a 3 t k)
 
-  pub no-owner : active l m ≡ true → votesNo n m ≡ true → (p : ℕ) → p < owners
+  pub no-owner : active l m ≡ true → votesNo n m ≡ true → (p : ℕ) → p < nodes
       → ownerOf (askImage l m) p ≡ cond (eqb p o) (restated 3 (listedOwner l m)) (ownerOf l p)
   unfolding askImage judgedImage
   no-owner a v p k = simp (a, v) (voted a 3 (omega arith) p k)
@@ -142,7 +143,7 @@ module _ (l : List ℕ) (m : Message) (s : Sound l) (small : m .owner < owners) 
       let z = keeps-vote n o (e .0) small 2 (omega arith) (e .1) .size in
       simp (a, v) (holding-copy t k o (omega arith) (leaves n o 2) (m .entries) (omega (arith, z)) ∙ ap (heldCopy o (m .entries) t) (left a 2 t k))
 
-  pub yes-owner : active l m ≡ true → votesNo n m ≡ false → (p : ℕ) → p < owners
+  pub yes-owner : active l m ≡ true → votesNo n m ≡ false → (p : ℕ) → p < nodes
       → ownerOf (askImage l m) p ≡ cond (eqb p o) (restated 2 (listedOwner l m)) (ownerOf l p)
   unfolding askImage judgedImage
   yes-owner a v p k = simp (a, v) (holding-owner (leaves n o 2) p o (m .entries) ∙ voted a 2 (omega arith) p k)
@@ -184,7 +185,7 @@ module _ (l : List ℕ) (m : Message) (s : Sound l) (small : m .owner < owners) 
   decided-owner p = either-way (λ (x : List ℕ). ownerOf x p ≡ ownerOf l p) (eqb (wordOf m) 1) _ _ (applied-owner l p (m .entries)) refl
 
   -- of a commit and of an abort
-  pub outcome-owner : 1 ≤ standing l m → standing l m ≤ 3 → (p : ℕ) → p < owners
+  pub outcome-owner : 1 ≤ standing l m → standing l m ≤ 3 → (p : ℕ) → p < nodes
       → ownerOf (outcomeImage l m) p ≡ cond (eqb p o) (restated 0 (ownerOf l p)) (ownerOf l p)
   outcome-owner h j p k =
       ap (λ (x : List ℕ). ownerOf x p) (settled h j) ∙ released-owner (decided l m) (omega (arith, decided-sound .size)) p k o
@@ -198,7 +199,7 @@ module _ (l : List ℕ) (m : Message) (s : Sound l) (small : m .owner < owners) 
   pub early-copy : standing l m ≡ 4 → (t : ℕ) → t < shape .objects → copyOf (outcomeImage l m) t ≡ copyOf l t
   early-copy e t k = ap (λ (x : List ℕ). copyOf x t) (early e) ∙ owner-copy l s t k o (m .serial) 0 (m .stamp)
 
-  pub early-owner : standing l m ≡ 4 → (p : ℕ) → p < owners
+  pub early-owner : standing l m ≡ 4 → (p : ℕ) → p < nodes
       → ownerOf (outcomeImage l m) p ≡ cond (eqb p o) (ownerWith (m .serial) 0 (m .stamp)) (ownerOf l p)
   early-owner e p k =
       ap (λ (x : List ℕ). ownerOf x p) (early e)

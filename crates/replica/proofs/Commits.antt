@@ -7,14 +7,15 @@ use Prim.Native.Nat.{ℕ, _+_, _≤_, _<_}
 use native.Mathlib.Omega.{arith}
 use borrow.Author.Tests.{eq-eqb, ne-eqb, ltb-true, ltb-false, leb-true}
 use lib.Dec.{eqb, ltb, leb}
+use Rattle.numbers.specs.Sizes.{objects}
 use Rattle.wire.specs.declared.Entry.{Entry}
 use Rattle.wire.specs.Message.{Message}
 use Rattle.wire.specs.Formed.{countsOk, namesOk, directionOk, ascend, every, entryOk, entriesOk, rivalsOk, wellFormed, wordOf}
 use Rattle.wire.specs.Encode.{All}
 use Rattle.image.specs.declared.Copy.{Copy}
 use Rattle.image.specs.Layout.{shape, value, version, copyOf}
-use Rattle.replica.specs.Standing.{standing}
-use Rattle.replica.specs.Judge.{some, newer, newerHere}
+use Rattle.judge.specs.Standing.{standing}
+use Rattle.judge.specs.Judge.{some, newer, newerHere}
 use Rattle.replica.specs.Steps.{outcomeImage}
 use Rattle.replica.proofs.Spoken.{and-false, left-true, right-true}
 use Rattle.replica.proofs.Delivered.{or-neither, entries-of, commit-raises}
@@ -89,7 +90,7 @@ all-with q P (e ∷ es) w a = ((left-true (q e) _ w, a .0), all-with q P es (rig
 
 there : (kind : ℕ) (e : Entry) → entryOk kind e ≡ true → e .object < shape .objects
 unfolding entryOk
-there kind e w = ltb-true (e .object) 64 (left-true (ltb (e .object) 64) _ w)
+there kind e w = ltb-true (e .object) objects (left-true (ltb (e .object) objects) _ w)
 
 module _ (l : List ℕ) (m : Message) (k : Taken l m) (kind : m .kind ≡ 5) (held : standing l m ≡ 2) (word : wordOf m ≡ 1) where
   after : (t : ℕ) → t < shape .objects

@@ -5,22 +5,23 @@ use mathlib.Core.List.{List, [], _∷_, map}
 use Prim.Native.Nat.{ℕ, suc, _≤_, _<_}
 use native.Mathlib.Omega.{arith}
 use borrow.Author.Tests.{le-ltb, ltb-false, eq-eqb, ne-eqb}
-use lib.Dec.{eqb, ltb, leb}
+use lib.Dec.{eqb, ltb}
 use lib.ListN.{length}
+use Rattle.numbers.specs.Sizes.{nodes, objects, highest, longestMessage}
 use Rattle.wire.specs.declared.Entry.{Entry}
-use Rattle.wire.specs.declared.Written.{Written}
+use Rattle.letters.specs.declared.Written.{Written}
 use Rattle.wire.specs.Message.{Message}
 use Rattle.wire.specs.Formed.{countsOk, namesOk, directionOk, ascend, every, entryOk, entriesOk, rivalsOk, wellFormed}
-use Rattle.wire.specs.Encode.{encode, sizeOf}
+use Rattle.wire.specs.Encode.{sizeOf}
 use Rattle.wire.specs.Decode.{kindOf, decode, accepted, checkOf}
-use Rattle.wire.specs.Write.{writtenOf, bufferAfter}
+use Rattle.letters.specs.Write.{writtenOf, bufferAfter}
 use Rattle.image.specs.Valid.{check}
 use Rattle.replica.specs.declared.Received.{Received}
-use Rattle.replica.specs.Standing.{standing, active, entered}
-use Rattle.replica.specs.Judge.{votesNo}
+use Rattle.judge.specs.Standing.{standing, active, entered}
+use Rattle.judge.specs.Judge.{votesNo}
 use Rattle.replica.specs.Steps.{Answer, silent, says, wanted, copyHere, fetchAnswer, judgedAnswer, askAnswer}
 use Rattle.replica.specs.Given.{writtenAs, filledBy, raisable, Raisable}
-use Rattle.replica.specs.Receive.{wrongTurn, refusals, refusal, Delivered, step, deliver, lengthOf, filled, receivedOf, spoken, speaks}
+use Rattle.replica.specs.Receive.{refusals, refusal, Delivered, step, deliver, lengthOf, filled, receivedOf, spoken, speaks}
 use Rattle.replica.proofs.Spoken.{false-true, left-true, right-true, Named, named-of, done-formed, vote-formed, copy-formed, wanted-fits, yes-formed}
 
 pub either-way : {A : Type 0} (P : A → Type 0) (t : Bool) (x y : A) → P x → P y → P (cond t x y)
@@ -43,29 +44,29 @@ taken-whole false false p q = false-true (sym q)
 
 accepted-by : (b : List ℕ) → eqb (checkOf b) 1 ≡ false → eqb (checkOf b) 3 ≡ false → accepted b ≡ true
 unfolding checkOf
-accepted-by b p q = taken-whole (ltb (length b) 15 || ltb 128 (length b)) (accepted b) p q
+accepted-by b p q = taken-whole (ltb (length b) 15 || ltb longestMessage (length b)) (accepted b) p q
 
 formed-by : (b : List ℕ) → accepted b ≡ true → wellFormed (decode b) ≡ true
 unfolding accepted
 formed-by b w = right-true (eqb (length b) (sizeOf (decode b))) (wellFormed (decode b)) w
 
 pub record Cleared (size : ℕ) (me : ℕ) (b : List ℕ) : Type 0 where
-  pub room : 128 ≤ size
-  pub node : me < 13
+  pub room : longestMessage ≤ size
+  pub node : me < nodes
   pub formed : wellFormed (decode b) ≡ true
 
 pub cleared : (size : ℕ) (l : List ℕ) (me : ℕ) (b : List ℕ) → refusal size l me b ≡ 0 → Cleared size me b
 unfolding refusal refusals
 cleared size l me b e =
     let lengths = eqb (check l) 1 || eqb (checkOf b) 1 in
-    let a = past (ltb size 128 || lengths) 0 _ e in
+    let a = past (ltb size longestMessage || lengths) 0 _ e in
     let d = past (eqb (check l) 2) 1 _ (a .1) in
     let g = past (eqb (checkOf b) 3) 2 _ (d .1) in
     let s = past (ltb 12 me || not (eqb (decode b .to) me)) 3 _ (g .1) in
-    let n = or-neither (ltb size 128) lengths (a .0) in
+    let n = or-neither (ltb size longestMessage) lengths (a .0) in
     let w = or-neither (eqb (check l) 1) (eqb (checkOf b) 1) (n .1) in
     let k : me ≤ 12 = ltb-false 12 me (or-neither (ltb 12 me) _ (s .0) .0) in
-    record { room = ltb-false size 128 (n .0); node = omega arith; formed = formed-by b (accepted-by b (w .1) (g .0)) }
+    record { room = ltb-false size longestMessage (n .0); node = omega arith; formed = formed-by b (accepted-by b (w .1) (g .0)) }
 
 -- ---- the versions that a commit raises are below the last
 every-then : (p q : Entry → Bool) (es : List Entry) → ((e : Entry) → p e ≡ true → q e ≡ true) → every p es ≡ true → every q es ≡ true
@@ -79,8 +80,8 @@ or-cond false x y w = w
 raises : (e : Entry) → entryOk 5 e ≡ true → raisable e ≡ true
 unfolding entryOk
 raises e w =
-    let c = right-true (ltb (e .mode) 2) _ (right-true (ltb (e .object) 64) _ w) in
-    or-cond (eqb (e .mode) 0) (eqb (e .value) 0) (ltb (e .version) 4294967295) c
+    let c = right-true (ltb (e .mode) 2) _ (right-true (ltb (e .object) objects) _ w) in
+    or-cond (eqb (e .mode) 0) (eqb (e .value) 0) (ltb (e .version) highest) c
 
 pub entries-of : (m : Message) → wellFormed m ≡ true → every (entryOk (m .kind)) (m .entries) ≡ true
 unfolding wellFormed entriesOk
@@ -121,15 +122,15 @@ module _ (me : ℕ) (l : List ℕ) (m : Message) (n : Named me m) where
       (either-way P (eqb (m .kind) 3) _ _ (ask-fine, refl) (either-way P (eqb (m .kind) 5) _ _ (done-formed me m n, refl) (tt, refl)))
 
 -- ---- so it is written whole
-whole-written : (size : ℕ) (a : Answer) → 128 ≤ size → Fine a → writtenAs size a ≡ record { number = 0; length = lengthOf a }
+whole-written : (size : ℕ) (a : Answer) → longestMessage ≤ size → Fine a → writtenAs size a ≡ record { number = 0; length = lengthOf a }
 unfolding writtenAs lengthOf writtenOf
 whole-written size silent h f = refl
-whole-written size (says m) h f = simp (le-ltb size 128 h, f)
+whole-written size (says m) h f = simp (le-ltb size longestMessage h, f)
 
-whole-filled : (a : Answer) (out : List ℕ) → 128 ≤ length out → Fine a → filledBy a out ≡ filled a out
+whole-filled : (a : Answer) (out : List ℕ) → longestMessage ≤ length out → Fine a → filledBy a out ≡ filled a out
 unfolding filledBy filled bufferAfter
 whole-filled silent out h f = refl
-whole-filled (says m) out h f = simp (le-ltb (length out) 128 h, f)
+whole-filled (says m) out h f = simp (le-ltb (length out) longestMessage h, f)
 
 made-received : {a b : Received} → a .number ≡ b .number → a .length ≡ b .length → a ≡ b
 made-received p q i = record { number = p i; length = q i }

@@ -7,6 +7,7 @@ use native.Mathlib.Omega.{arith}
 use borrow.Author.Tests.{eqb-true, eqb-false}
 use lib.Dec.{T, eqb}
 use lib.ListN.{length}
+use Rattle.numbers.specs.Sizes.{nodes}
 use Rattle.wire.specs.declared.Entry.{Entry}
 use Rattle.wire.specs.Formed.{every}
 use Rattle.wire.specs.Encode.{All, EntryFits}
@@ -14,7 +15,7 @@ use Rattle.image.specs.declared.Copy.{Copy}
 use Rattle.image.specs.declared.Field.{Field}
 use Rattle.image.specs.declared.Owner.{Owner}
 use Rattle.image.specs.Field.{fieldOf, withField, changed}
-use Rattle.image.specs.Layout.{shape, owners, imageSize, valueField, versionField, holderField, readersField, writersField}
+use Rattle.image.specs.Layout.{shape, imageSize, valueField, versionField, holderField, readersField, writersField}
 use Rattle.image.specs.Layout.{serialField, stateField, stampField}
 use Rattle.image.specs.Layout.{value, version, holder, readers, writers, serial, state, stamp, copyOf, ownerOf}
 use Rattle.image.specs.Change.{withValue, withVersion, withHolder, withSerial, withState, withOwner}
@@ -239,7 +240,7 @@ module _ (t : ℕ) (k : t < shape .objects) where
       (applied-apart (writersField shape) t tt tt l es)
 
 -- ---- an owner joins a list
-module _ (l : List ℕ) (s : Sound l) (t : ℕ) (k : t < shape .objects) (o : ℕ) (small : o < owners) where
+module _ (l : List ℕ) (s : Sound l) (t : ℕ) (k : t < shape .objects) (o : ℕ) (small : o < nodes) where
   joins-by : (x : ℕ) (b : Bool)
       → copyOf (cond b (addReader l x o) (addWriter l x o)) t
       ≡ record {
@@ -282,7 +283,7 @@ either-state : (b : Bool) (st : ℕ) (w : Owner) → ownerWith (w .serial) (cond
 either-state true st w = refl
 either-state false st w = refl
 
-module _ (l : List ℕ) (fit : imageSize shape ≤ length l) (p : ℕ) (k : p < owners) where
+module _ (l : List ℕ) (fit : imageSize shape ≤ length l) (p : ℕ) (k : p < nodes) where
   pub owner-owner : (o n st sp : ℕ) → n < 2 ^ 32 → st < 256 → sp < 2 ^ 32
       → ownerOf (withOwner l o n st sp) p ≡ cond (eqb p o) (ownerWith n st sp) (ownerOf l p)
   unfolding ownerOf
@@ -337,7 +338,7 @@ module _ (l : List ℕ) (p : ℕ) where
   joins-owner o e =
       made-owner (joins-field (serialField shape) tt tt o e) (joins-field (stateField shape) tt tt o e) (joins-field (stampField shape) tt tt o e)
 
-pub released-owner : (l : List ℕ) → imageSize shape ≤ length l → (p : ℕ) → p < owners → (o : ℕ)
+pub released-owner : (l : List ℕ) → imageSize shape ≤ length l → (p : ℕ) → p < nodes → (o : ℕ)
     → ownerOf (released l o) p ≡ cond (eqb p o) (restated 0 (ownerOf l p)) (ownerOf l p)
 unfolding released
 released-owner l fit p k o =

@@ -6,17 +6,17 @@ use mathlib.Core.List.{List, [], _∷_}
 use Prim.Native.Nat.{ℕ, _≤_, _<_}
 use borrow.Author.Tests.{ne-eqb, eqb-true}
 use lib.Dec.{eqb}
+use Rattle.numbers.specs.Sizes.{nobody}
 use Rattle.wire.specs.declared.Entry.{Entry}
 use Rattle.wire.specs.Message.{Message}
 use Rattle.wire.specs.Formed.{wordOf}
 use Rattle.wire.specs.Encode.{All}
 use Rattle.image.specs.declared.Copy.{Copy}
 use Rattle.image.specs.Layout.{shape, holderField, holder, serial, copyOf}
-use Rattle.image.specs.Valid.{nobody}
 use Rattle.image.specs.Change.{freeing}
 use Rattle.image.proofs.Each.{same-or-not}
-use Rattle.replica.specs.Standing.{standing, active, entered}
-use Rattle.replica.specs.Judge.{some, otherHolds, heldByAnother, newerHere, rivalsOf, olderAmong, votesNo}
+use Rattle.judge.specs.Standing.{standing, active, entered}
+use Rattle.judge.specs.Judge.{some, otherHolds, heldByAnother, newerHere, rivalsOf, olderAmong, votesNo}
 use Rattle.replica.specs.Steps.{fetchImage, askImage, decided, outcomeImage}
 use Rattle.replica.specs.Receive.{step}
 use Rattle.replica.proofs.Spoken.{false-true}

@@ -3,20 +3,21 @@ use mathlib.Core.Path.{_≡_, refl, sym, ap, subst, _∙_}
 use mathlib.Core.Bool.{Bool, true, false, cond, _||_}
 use mathlib.Core.Logic.{_⊎_, inl, inr, ⊎-elim}
 use mathlib.Core.List.{List, [], _∷_}
-use Prim.Native.Nat.{ℕ, _+_, _^_, _≤_, _<_}
+use Prim.Native.Nat.{ℕ, _+_, _≤_, _<_}
 use native.Mathlib.Omega.{arith}
-use borrow.Author.Tests.{eq-eqb, ne-eqb, eqb-true, leb-true, ltb-true}
+use borrow.Author.Tests.{eqb-true, leb-true, ltb-true}
 use lib.Dec.{T, eqb, ltb}
+use Rattle.numbers.specs.Sizes.{nodes}
 use Rattle.octets.proofs.Laws.{Bytes}
 use Rattle.wire.specs.declared.Entry.{Entry}
 use Rattle.wire.specs.Message.{Message}
-use Rattle.wire.specs.Formed.{wordOf, wellFormed}
+use Rattle.wire.specs.Formed.{wordOf}
 use Rattle.wire.specs.Encode.{Fits}
 use Rattle.wire.specs.Decode.{decode}
 use Rattle.wire.proofs.Theorems.{decoded-fits}
-use Rattle.image.specs.Layout.{shape, owners, holderField, readersField, writersField, serialField, stateField, stampField, serial, state, stamp}
+use Rattle.image.specs.Layout.{shape, holderField, stateField, serial, state, stamp}
 use Rattle.image.specs.Valid.{check}
-use Rattle.image.specs.Change.{withOwner, withHolder, withState, withValue, free, unlist}
+use Rattle.image.specs.Change.{withOwner, withState, withValue, free, unlist}
 use Rattle.image.proofs.Each.{same-or-not}
 use Rattle.image.proofs.Lens.{of-with, of-with-apart}
 use Rattle.image.proofs.Sound.{Sound, OwnerSound, check-sound, sound-check}
@@ -24,13 +25,13 @@ use Rattle.image.proofs.Keep.{keeps-value, keeps-version, keeps-holder, keeps-r
 use Rattle.image.proofs.Whole.{bytes-free, free-apart, length-unlist, unlist-apart, keeps-free, keeps-unlist}
 use Rattle.image.proofs.Idle.{Idle, free-unless-held, unlist-unless-listed, idle-by-state, idle-unlisted, idle-released}
 use Rattle.image.proofs.Idle.{unlist-new, keeps-state, keeps-owner, state-of}
-use Rattle.replica.specs.Standing.{aboveOf, standing, active, entered}
-use Rattle.replica.specs.Judge.{votesNo}
-use Rattle.replica.specs.Steps.{joins, wanted, fetchImage, holdingOne, holding, leaves}
+use Rattle.judge.specs.Standing.{aboveOf, standing, active, entered}
+use Rattle.judge.specs.Judge.{votesNo}
+use Rattle.replica.specs.Steps.{wanted, fetchImage, holdingOne, holding, leaves}
 use Rattle.replica.specs.Steps.{judgedImage, askImage, appliedOne, applied, decided, released, outcomeImage}
 use Rattle.replica.specs.Receive.{refusal, step, Delivered, deliver}
-use Rattle.replica.proofs.Spoken.{Named, named-of}
-use Rattle.replica.proofs.Delivered.{either-way, Cleared, cleared, refused-is, delivered-is}
+use Rattle.replica.proofs.Spoken.{named-of}
+use Rattle.replica.proofs.Delivered.{either-way, cleared, refused-is, delivered-is}
 
 -- ---- what a standing says of the owner's state
 listed-by : (a b : Bool) (st : ℕ) → cond a (aboveOf st) (cond b st 0) ≡ 1 → st ≡ 1
@@ -71,7 +72,7 @@ ended : (n st sp : ℕ) → OwnerSound n st sp → OwnerSound n 0 sp
 ended n st sp s = record { small = omega arith; named = ⊎-elim (λ p. inl (p .0, p .1, refl)) (λ p. inr p) (s .named) }
 
 -- the state is set while the owner is idle
-module _ (l : List ℕ) (o : ℕ) (s : Sound l) (small : o < owners) where
+module _ (l : List ℕ) (o : ℕ) (s : Sound l) (small : o < nodes) where
   own : OwnerSound (serial l o) (state l o) (stamp l o)
   own = s .clauses .owners-sound o small
 
@@ -99,7 +100,7 @@ module _ (l : List ℕ) (o : ℕ) (s : Sound l) (small : o < owners) where
       (ended (serial (unlist f o) o) (state (unlist f o) o) (stamp (unlist f o) o) (u .clauses .owners-sound o small))
 
 -- the same with less: a held owner is in no list, and another holds nothing
-module _ (l : List ℕ) (o : ℕ) (s : Sound l) (small : o < owners) (b : Bytes l) where
+module _ (l : List ℕ) (o : ℕ) (s : Sound l) (small : o < nodes) (b : Bytes l) where
   pub release-held : state l o ≡ 2 → released l o ≡ withState (free l o) o 0
   unfolding released leaves
   release-held e =
@@ -112,7 +113,7 @@ module _ (l : List ℕ) (o : ℕ) (s : Sound l) (small : o < owners) (b : Bytes 
   release-other ne = ap (λ (m : List ℕ). leaves m o 0) (free-unless-held l o s small b ne)
 
 -- copies held by an owner in state 2
-pub keeps-holding : (l : List ℕ) (o : ℕ) (es : List Entry) → o < owners → Sound l → state l o ≡ 2 → Sound (holding l o es)
+pub keeps-holding : (l : List ℕ) (o : ℕ) (es : List Entry) → o < nodes → Sound l → state l o ≡ 2 → Sound (holding l o es)
 unfolding holding
 keeps-holding l o [] h s e = s
 keeps-holding l o (x ∷ es) h s e =
@@ -139,7 +140,7 @@ on-true : (P : List ℕ → Type 0) (t : Bool) (x y : List ℕ) → (t ≡ true 
 on-true P true x y f g = f refl
 on-true P false x y f g = g refl
 
-module _ (l : List ℕ) (m : Message) (s : Sound l) (small : m .owner < owners) where
+module _ (l : List ℕ) (m : Message) (s : Sound l) (small : m .owner < nodes) where
   idle-fresh : standing l m ≡ 4 → Idle l (m .owner)
   idle-fresh e =
       let z = fresh-state l m (s .clauses .owners-sound (m .owner) small .small) e in
@@ -159,7 +160,7 @@ pub keeps-decided : (l : List ℕ) (m : Message) → Sound l → Sound (decided 
 unfolding decided
 keeps-decided l m s = on-true Sound (eqb (wordOf m) 1) _ _ (λ t. keeps-applied l (m .entries) s) (λ t. s)
 
-module _ (l : List ℕ) (m : Message) (s : Sound l) (small : m .owner < owners) (here : 1 ≤ m .serial) (at : 1 ≤ m .stamp) (f : Fits m) where
+module _ (l : List ℕ) (m : Message) (s : Sound l) (small : m .owner < nodes) (here : 1 ≤ m .serial) (at : 1 ≤ m .stamp) (f : Fits m) where
   begun : (st : ℕ) → st ≤ 3 → OwnerSound (m .serial) st (m .stamp)
   begun st h = record { small = h; named = inr (λ q. let w : ⊥ = omega arith in w, λ q. let w : ⊥ = omega arith in w) }
 
@@ -225,7 +226,7 @@ valid-stays size l me b y v =
     (λ (e : refusal size l me b ≡ 0).
     let k = cleared size l me b e in
     let n = named-of me (decode b) (k .node) (k .formed) in
-    let w = keeps-step l (decode b) (check-sound l v) (ltb-true (decode b .owner) 13 (n .owner)) (leb-true 1 (decode b .serial) (n .serial))
+    let w = keeps-step l (decode b) (check-sound l v) (ltb-true (decode b .owner) nodes (n .owner)) (leb-true 1 (decode b .serial) (n .serial))
     (leb-true 1 (decode b .stamp) (n .stamp)) (decoded-fits b y) me in
     ap (λ (d : Delivered). check (d .image)) (delivered-is size l me b e) ∙ sound-check (step l me (decode b) .image) w)
     (λ e. ap (λ (d : Delivered). check (d .image)) (refused-is size l me b e) ∙ v)

@@ -12,8 +12,8 @@ use Rattle.image.specs.Field.{fieldOf}
 use Rattle.image.specs.Layout.{shape, valueField, versionField, holderField, readersField, writersField, serialField, stateField, stampField}
 use Rattle.image.specs.Layout.{value, version}
 use Rattle.image.proofs.Lens.{apart, of-with-apart}
-use Rattle.replica.specs.Standing.{standing, active, entered}
-use Rattle.replica.specs.Judge.{votesNo}
+use Rattle.judge.specs.Standing.{standing, active, entered}
+use Rattle.judge.specs.Judge.{votesNo}
 use Rattle.replica.specs.Steps.{silent, wanted, fetchImage, fetchAnswer, leaves, judgedImage, askImage, askAnswer}
 use Rattle.replica.specs.Steps.{applied, decided, outcomeImage}
 use Rattle.replica.specs.Receive.{refusal, Delivered, step, deliver}

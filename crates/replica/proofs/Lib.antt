@@ -1,8 +1,7 @@
--- Laws of a replica: of loops over a message's entries and over the owners (Passes), that every answer is well formed (Spoken), that a delivery
+-- Laws of a replica: of loops over a message's entries that change the image (Passes), that every answer is well formed (Spoken), that a delivery
 -- which nothing refuses writes it whole (Delivered), what each change leaves alone and what it makes of a copy and an owner (Fields), that a valid image
 -- stays valid (Kept), what late messages and other than commits leave (Late). For the layers above: every copy and owner after each kind of delivery
--- (After), what an accepted delivery has (Taken), who holds a copy (Holders), what a commit writes (Commits), a message once more (Repeat). And one
--- running computed on bytes (Example).
+-- (After), what an accepted delivery has (Taken), who holds a copy (Holders), what a commit writes (Commits), a message once more (Repeat).
 pub mod Passes
 pub mod Spoken
 pub mod Delivered
@@ -14,4 +13,3 @@ pub mod Taken
 pub mod Holders
 pub mod Commits
 pub mod Repeat
-pub mod Example

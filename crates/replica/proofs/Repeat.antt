@@ -8,6 +8,7 @@ use native.Mathlib.Omega.{arith}
 use borrow.Author.Tests.{eq-eqb, ltb-true, le-ltb}
 use lib.Bits.{bitOr}
 use lib.Dec.{T, eqb, ltb}
+use Rattle.numbers.specs.Sizes.{nodes, objects, longestMessage}
 use Rattle.numbers.specs.Refusal.{refuse, firstOf}
 use Rattle.octets.proofs.Laws.{Bytes}
 use Rattle.mask.specs.Mask.{bit, only}
@@ -19,15 +20,15 @@ use Rattle.wire.specs.Decode.{decode, checkOf}
 use Rattle.image.specs.declared.Field.{Field}
 use Rattle.image.specs.declared.Owner.{Owner}
 use Rattle.image.specs.Field.{fieldOf, withField, changed}
-use Rattle.image.specs.Layout.{shape, owners, readersField, writersField, serial, state, readers, writers, ownerOf}
+use Rattle.image.specs.Layout.{shape, readersField, writersField, serial, state, readers, writers, ownerOf}
 use Rattle.image.specs.Change.{listing, addReader, addWriter}
 use Rattle.image.proofs.Lens.{inside, Holds, with-with, of-with}
 use Rattle.image.specs.Valid.{check}
 use Rattle.image.proofs.Sound.{Sound, sound-check}
 use Rattle.image.proofs.Keep.{listing-small}
 use Rattle.image.proofs.Whole.{list-small}
-use Rattle.replica.specs.Standing.{standing, active, entered}
-use Rattle.replica.specs.Judge.{votesNo}
+use Rattle.judge.specs.Standing.{standing, active, entered}
+use Rattle.judge.specs.Judge.{votesNo}
 use Rattle.replica.specs.Steps.{wanted, joins, fetchImage, askImage, outcomeImage}
 use Rattle.replica.specs.Receive.{outcomeEarly, wrongTurn, refusals, refusal, Delivered, step, deliver}
 use Rattle.replica.proofs.Spoken.{wanted-fits}
@@ -56,7 +57,7 @@ changed-twice f g l i twice t fit h small =
     ap (λ (x : ℕ). withField f (withField f l i v) i (g x)) (of-with f l i v t fit h small)
     ∙ ap (withField f (withField f l i v) i) (twice (fieldOf f l i)) ∙ with-with f l i v v
 
-module _ (l : List ℕ) (s : Sound l) (x : ℕ) (h : x < shape .objects) (o : ℕ) (small : o < owners) where
+module _ (l : List ℕ) (s : Sound l) (x : ℕ) (h : x < shape .objects) (o : ℕ) (small : o < nodes) where
   joins-by : (b : Bool)
       → cond b (addReader (cond b (addReader l x o) (addWriter l x o)) x o) (addWriter (cond b (addReader l x o) (addWriter l x o)) x o)
       ≡ cond b (addReader l x o) (addWriter l x o)
@@ -67,7 +68,7 @@ module _ (l : List ℕ) (s : Sound l) (x : ℕ) (h : x < shape .objects) (o : �
       changed-twice (writersField shape) (listing o) l x (listed-twice o) tt (omega (arith, s .size)) h
       (listing-small (writers l x) o (list-small (state l) (writers l x) (s .clauses .copies-sound x h .writing)) small)
 
-joins-twice : (l : List ℕ) → Sound l → (e : Entry) → e .object < shape .objects → (o : ℕ) → o < owners → joins (joins l o e) o e ≡ joins l o e
+joins-twice : (l : List ℕ) → Sound l → (e : Entry) → e .object < shape .objects → (o : ℕ) → o < nodes → joins (joins l o e) o e ≡ joins l o e
 joins-twice l s e h o small = joins-by l s (e .object) h o small (eqb (e .mode) 0)
 
 -- ---- a message of the last serial stands as its owner's state
@@ -147,7 +148,7 @@ module _ (l : List ℕ) (m : Message) (k : Taken l m) where
       by : (a : Bool) → active l m ≡ a → fetchImage (fetchImage l m) m ≡ fetchImage l m
       by true a =
           let sound = keeps-entered l m (k .sound) (k .owner) (k .serial) (k .stamp) (k .fits) a .0 in
-          let there = ltb-true (wanted m .object) 64 (wanted-fits (m .kind) (m .entries) (entries-of m (k .formed)) .0) in
+          let there = ltb-true (wanted m .object) objects (wanted-fits (m .kind) (m .entries) (entries-of m (k .formed)) .0) in
           listed-again (fetchImage l m) (fetch-stands a) ∙ ap (λ (n : List ℕ). joins n o (wanted m)) (joined-once a)
           ∙ joins-twice (entered l m) sound (wanted m) there o (k .owner) ∙ sym (joined-once a)
       by false a = ap (λ (n : List ℕ). fetchImage n m) (fetch-still l m a)
@@ -223,7 +224,7 @@ same-refusal : (size : ℕ) (l n : List ℕ) (me : ℕ) (b : List ℕ) → check
 unfolding refusal refusals
 same-refusal size l n me b c t =
     ap₂ (λ (x : ℕ) (y : Bool). firstOf (
-    refuse 1 (ltb size 128 || (eqb x 1 || eqb (checkOf b) 1))
+    refuse 1 (ltb size longestMessage || (eqb x 1 || eqb (checkOf b) 1))
     ∷ refuse 2 (eqb x 2)
     ∷ refuse 3 (eqb (checkOf b) 3)
     ∷ refuse 4 (ltb 12 me || not (eqb (decode b .to) me))

@@ -1,28 +1,28 @@
 -- Every answer of a step is well formed, so that it is written whole: names come from an accepted message, and rivals are named by owner, never the owner.
 use mathlib.Core.Path.{_≡_, refl, sym, ap, ap₂, subst, _∙_}
-use mathlib.Core.Bool.{Bool, true, false, cond, not, _&&_, _||_}
-use mathlib.Core.Logic.{_⊎_, inl, inr, ⊎-elim}
+use mathlib.Core.Bool.{Bool, true, false, cond, not, _&&_}
+use mathlib.Core.Logic.{_⊎_, ⊎-elim}
 use mathlib.Core.List.{List, [], _∷_, _++_, map}
 use Prim.Native.Nat.{ℕ, zero, suc, _+_, _-_, _^_, _≤_, _<_}
-use native.Mathlib.Numerals.{add-one}
 use native.Mathlib.Omega.{arith}
-use borrow.Author.Tests.{lt-ltb, le-ltb, le-leb, leb-true, ltb-true, ltb-false, eq-eqb, ne-eqb, eqb-true, eqb-false}
+use borrow.Author.Tests.{lt-ltb, le-leb, leb-true, ltb-true, eq-eqb, ne-eqb, eqb-false}
 use lib.Dec.{T, eqb, ltb, leb}
-use lib.ListN.{length, getD, set, replicate, length-set, getD-replicate}
+use lib.ListN.{length, getD, set, length-set, getD-replicate}
 use lib.Seq.{getD-set-same, getD-set-other}
-use Rattle.mask.specs.Mask.{contains, only, minus}
+use Rattle.numbers.specs.Sizes.{nodes, objects}
+use Rattle.mask.specs.Mask.{contains, only}
 use Rattle.mask.proofs.Laws.{contains-minus, contains-power}
 use Rattle.wire.specs.declared.Entry.{Entry}
 use Rattle.wire.specs.declared.Rival.{Rival}
 use Rattle.wire.specs.Message.{Message}
-use Rattle.wire.specs.Formed.{countsOk, namesOk, directionOk, ascend, every, entryOk, rivalOk, entriesOk, rivalsOk, wellFormed, wordOf}
+use Rattle.wire.specs.Formed.{countsOk, namesOk, ascend, every, entryOk, rivalOk, entriesOk, rivalsOk, wellFormed}
 use Rattle.wire.specs.Items.{noEntry}
-use Rattle.wire.specs.Write.{oneRival, rivalsBy}
-use Rattle.wire.proofs.ByOwner.{rivals-none, rivals-length}
+use Rattle.letters.specs.Write.{rivalsBy}
+use Rattle.letters.proofs.ByOwner.{rivals-length}
 use Rattle.image.specs.Layout.{serial}
 use Rattle.image.proofs.Each.{same-or-not}
-use Rattle.replica.specs.Judge.{gathered, rivalsOf, named, noSerials, namedBelow, serialsOf}
-use Rattle.replica.specs.Steps.{copyTo, voteTo, doneTo, wanted, copyHere}
+use Rattle.judge.specs.Judge.{gathered, rivalsOf, named, noSerials, namedBelow, serialsOf}
+use Rattle.replica.specs.Steps.{copyTo, voteTo, doneTo}
 
 -- ---- tests joined
 pub both-true : {a b : Bool} → a ≡ true → b ≡ true → (a && b) ≡ true
@@ -49,27 +49,27 @@ positive (suc s) h = omega arith
 
 -- ---- what an accepted message says of its names
 pub record Named (me : ℕ) (m : Message) : Type 0 where
-  pub node : ltb me 13 ≡ true
-  pub owner : ltb (m .owner) 13 ≡ true
+  pub node : ltb me nodes ≡ true
+  pub owner : ltb (m .owner) nodes ≡ true
   pub serial : leb 1 (m .serial) ≡ true
   pub stamp : leb 1 (m .stamp) ≡ true
 
-pub named-of : (me : ℕ) (m : Message) → me < 13 → wellFormed m ≡ true → Named me m
+pub named-of : (me : ℕ) (m : Message) → me < nodes → wellFormed m ≡ true → Named me m
 unfolding wellFormed
 named-of me m h w =
     let n = left-true (namesOk m) _ (right-true (countsOk (m .kind) _ _ _ _) _ w) in
-    let o = right-true (ltb (m .to) 13) _ (right-true (ltb (m .from) 13) _ n) in
-    let s = right-true (ltb (m .owner) 13) _ o in
+    let o = right-true (ltb (m .to) nodes) _ (right-true (ltb (m .from) nodes) _ n) in
+    let s = right-true (ltb (m .owner) nodes) _ o in
     record {
-      node = lt-ltb me 13 h;
-      owner = left-true (ltb (m .owner) 13) _ o;
+      node = lt-ltb me nodes h;
+      owner = left-true (ltb (m .owner) nodes) _ o;
       serial = left-true (leb 1 (m .serial)) _ s;
       stamp = right-true (leb 1 (m .serial)) _ s;
     }
 
 -- the names and the direction of an answer
 module _ (me : ℕ) (m : Message) (n : Named me m) where
-  names : (ltb me 13 && (ltb (m .owner) 13 && (ltb (m .owner) 13 && (leb 1 (m .serial) && leb 1 (m .stamp))))) ≡ true
+  names : (ltb me nodes && (ltb (m .owner) nodes && (ltb (m .owner) nodes && (leb 1 (m .serial) && leb 1 (m .stamp))))) ≡ true
   names = both-true (n .node) (both-true (n .owner) (both-true (n .owner) (both-true (n .serial) (n .stamp))))
 
   back : eqb (m .owner) (m .owner) ≡ true
@@ -85,7 +85,7 @@ module _ (me : ℕ) (m : Message) (n : Named me m) where
   vote-formed (suc zero) h = both-true names (both-true back refl)
   vote-formed (suc (suc k)) h = absurd (let z : ⊥ = omega (arith, leb-true (suc (suc k)) 1 h) in z)
 
-  pub copy-formed : (e : Entry) → ltb (e .object) 64 ≡ true → ltb (e .mode) 2 ≡ true → wellFormed (copyTo me m e) ≡ true
+  pub copy-formed : (e : Entry) → ltb (e .object) objects ≡ true → ltb (e .mode) 2 ≡ true → wellFormed (copyTo me m e) ≡ true
   unfolding wellFormed countsOk entriesOk rivalsOk ascend entryOk
   copy-formed e h k =
       both-true names
@@ -94,12 +94,12 @@ module _ (me : ℕ) (m : Message) (n : Named me m) where
 
 -- ---- the object and the mode of what is fetched
 pub wanted-fits : (kind : ℕ) (es : List Entry) → every (entryOk kind) es ≡ true
-    → (ltb (getD es 0 noEntry .object) 64 ≡ true) × (ltb (getD es 0 noEntry .mode) 2 ≡ true)
+    → (ltb (getD es 0 noEntry .object) objects ≡ true) × (ltb (getD es 0 noEntry .mode) 2 ≡ true)
 unfolding entryOk
 wanted-fits kind [] w = (refl, refl)
 wanted-fits kind (e ∷ es) w =
     let f = left-true (entryOk kind e) (every (entryOk kind) es) w in
-    (left-true (ltb (e .object) 64) _ f, left-true (ltb (e .mode) 2) _ (right-true (ltb (e .object) 64) _ f))
+    (left-true (ltb (e .object) objects) _ f, left-true (ltb (e .mode) 2) _ (right-true (ltb (e .object) objects) _ f))
 
 -- ---- rivals by owner
 later : (lo hi : ℕ) (xs : List ℕ) → lo ≤ hi → ascend hi xs ≡ true → ascend lo xs ≡ true
@@ -137,16 +137,16 @@ fewer o (s ∷ ss) (suc i) h e = by (eqb s 0) (fewer (o + 1) ss i (omega arith) 
     by false f = omega arith
 
 -- each is another node than the owner
-one-fits : (owner to o s : ℕ) (b : Bool) (rs : List Rival) → eqb s 0 ≡ b → o < 13 → (o ≡ owner → s ≡ 0) → every (rivalOk 4 owner to) rs ≡ true
+one-fits : (owner to o s : ℕ) (b : Bool) (rs : List Rival) → eqb s 0 ≡ b → o < nodes → (o ≡ owner → s ≡ 0) → every (rivalOk 4 owner to) rs ≡ true
     → every (rivalOk 4 owner to) (cond b [] (record { owner = o; serial = s } ∷ []) ++ rs) ≡ true
 unfolding rivalOk
 one-fits owner to o s true rs f h k w = w
 one-fits owner to o s false rs f h k w =
     let n : eqb o owner ≡ false = ne-eqb o owner (λ e. eqb-false s 0 f (k e)) in
     let p : 1 ≤ s = positive s (eqb-false s 0 f) in
-    both-true (both-true (lt-ltb o 13 h) (both-true (ap not n) (both-true (le-leb 1 s p) refl))) w
+    both-true (both-true (lt-ltb o nodes h) (both-true (ap not n) (both-true (le-leb 1 s p) refl))) w
 
-by-fits : (owner to o : ℕ) (ss : List ℕ) → o + length ss ≤ 13 → ((i : ℕ) → i < length ss → o + i ≡ owner → getD ss i 0 ≡ 0)
+by-fits : (owner to o : ℕ) (ss : List ℕ) → o + length ss ≤ nodes → ((i : ℕ) → i < length ss → o + i ≡ owner → getD ss i 0 ≡ 0)
     → every (rivalOk 4 owner to) (rivalsBy o ss) ≡ true
 unfolding rivalsBy
 by-fits owner to o [] h k = refl
@@ -155,14 +155,14 @@ by-fits owner to o (s ∷ ss) h k =
     (by-fits owner to (o + 1) ss (omega arith) (λ i a e. k (suc i) (omega arith) (omega arith)))
 
 -- ---- the serials that a yes names: thirteen, and the owner's is 0
-pub length-named : (l : List ℕ) (rivals n : ℕ) → length (namedBelow l rivals n) ≡ 13
+pub length-named : (l : List ℕ) (rivals n : ℕ) → length (namedBelow l rivals n) ≡ nodes
 unfolding namedBelow
 length-named l rivals zero = refl
 length-named l rivals (suc n) = length-set (namedBelow l rivals n) n (named l rivals n) ∙ length-named l rivals n
 
-unnamed : (l : List ℕ) (rivals n o : ℕ) → n ≤ 13 → o < 13 → contains rivals o ≡ false → getD (namedBelow l rivals n) o 0 ≡ 0
+unnamed : (l : List ℕ) (rivals n o : ℕ) → n ≤ nodes → o < nodes → contains rivals o ≡ false → getD (namedBelow l rivals n) o 0 ≡ 0
 unfolding namedBelow
-unnamed l rivals zero o h k e = getD-replicate 13 o 0 0 k
+unnamed l rivals zero o h k e = getD-replicate nodes o 0 0 k
 unnamed l rivals (suc n) o h k e =
     ⊎-elim
     (λ (p : o ≡ n).
@@ -173,7 +173,7 @@ unnamed l rivals (suc n) o h k e =
     (same-or-not o n)
 
 -- the owner is no rival of its own
-pub not-own : (l : List ℕ) (m : Message) → m .owner < 13 → contains (rivalsOf l m) (m .owner) ≡ false
+pub not-own : (l : List ℕ) (m : Message) → m .owner < nodes → contains (rivalsOf l m) (m .owner) ≡ false
 unfolding rivalsOf
 not-own l m h =
     let o = m .owner in
@@ -186,9 +186,9 @@ pub yes-formed : (me : ℕ) (m : Message) (l : List ℕ) → Named me m → well
 unfolding wellFormed countsOk entriesOk rivalsOk ascend serialsOf
 yes-formed me m l n =
     let ss = serialsOf l (rivalsOf l m) in
-    let o : m .owner < 13 = ltb-true (m .owner) 13 (n .owner) in
-    let k : length ss ≡ 13 = length-named l (rivalsOf l m) 13 in
-    let z : getD ss (m .owner) 0 ≡ 0 = unnamed l (rivalsOf l m) 13 (m .owner) (omega arith) o (not-own l m o) in
+    let o : m .owner < nodes = ltb-true (m .owner) nodes (n .owner) in
+    let k : length ss ≡ nodes = length-named l (rivalsOf l m) nodes in
+    let z : getD ss (m .owner) 0 ≡ 0 = unnamed l (rivalsOf l m) nodes (m .owner) (omega arith) o (not-own l m o) in
     let few : length (rivalsBy 0 ss) < length ss = fewer 0 ss (m .owner) (omega arith) z in
     let fits = by-fits (m .owner) (m .owner) 0 ss (omega arith) (λ i a e. let q : i ≡ m .owner = omega arith in ap (λ (j : ℕ). getD ss j 0) q ∙ z) in
     both-true (both-true (le-leb (length (rivalsBy 0 ss)) 12 (omega arith)) refl)

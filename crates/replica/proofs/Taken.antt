@@ -8,16 +8,17 @@ use native.Mathlib.Omega.{arith}
 use borrow.Author.Tests.{ltb-true, leb-true, eqb-true}
 use lib.Dec.{eqb, ltb}
 use lib.ListN.{length}
+use Rattle.numbers.specs.Sizes.{nodes, longestMessage}
 use Rattle.octets.proofs.Laws.{Bytes}
 use Rattle.wire.specs.Message.{Message}
 use Rattle.wire.specs.Formed.{wordOf, wellFormed}
 use Rattle.wire.specs.Encode.{Fits}
 use Rattle.wire.specs.Decode.{decode, checkOf}
 use Rattle.wire.proofs.Theorems.{decoded-fits}
-use Rattle.image.specs.Layout.{shape, owners, imageSize, serial, state}
+use Rattle.image.specs.Layout.{shape, imageSize, serial, state}
 use Rattle.image.specs.Valid.{check, checkAs, valid}
 use Rattle.image.proofs.Sound.{Sound, check-sound}
-use Rattle.replica.specs.Standing.{aboveOf, standing, active}
+use Rattle.judge.specs.Standing.{aboveOf, standing, active}
 use Rattle.replica.specs.Steps.{fetchImage, askImage, outcomeImage}
 use Rattle.replica.specs.Given.{Clear}
 use Rattle.replica.specs.Receive.{outcomeEarly, wrongTurn, refusals, refusal, Delivered, step}
@@ -26,7 +27,7 @@ use Rattle.replica.proofs.Delivered.{cleared, past, or-neither}
 
 pub record Taken (l : List ℕ) (m : Message) : Type 0 where
   pub sound : Sound l
-  pub owner : m .owner < owners
+  pub owner : m .owner < nodes
   pub serial : 1 ≤ m .serial
   pub stamp : 1 ≤ m .stamp
   pub fits : Fits m
@@ -47,18 +48,18 @@ clear : (size : ℕ) (l : List ℕ) (me : ℕ) (b : List ℕ) → refusal size l
 unfolding refusal refusals
 clear size l me b e =
     let lengths = eqb (check l) 1 || eqb (checkOf b) 1 in
-    let a = past (ltb size 128 || lengths) 0 _ e in
+    let a = past (ltb size longestMessage || lengths) 0 _ e in
     let d = past (eqb (check l) 2) 1 _ (a .1) in
     let g = past (eqb (checkOf b) 3) 2 _ (d .1) in
     let s = past (ltb 12 me || not (eqb (decode b .to) me)) 3 _ (g .1) in
     let t = past (wrongTurn l (decode b)) 4 _ (s .1) in
-    let n = or-neither (ltb size 128) lengths (a .0) in
+    let n = or-neither (ltb size longestMessage) lengths (a .0) in
     (whole-image l (or-neither (eqb (check l) 1) (eqb (checkOf b) 1) (n .1) .0) (d .0), t .0)
 
 pub clear-is : (size : ℕ) (l : List ℕ) (me : ℕ) (b : List ℕ) → refusal size l me b ≡ 0 → Clear l (decode b)
 clear-is size l me b e =
     let k = cleared size l me b e in
-    (clear size l me b e .0, ltb-true (decode b .owner) 13 (named-of me (decode b) (k .node) (k .formed) .owner))
+    (clear size l me b e .0, ltb-true (decode b .owner) nodes (named-of me (decode b) (k .node) (k .formed) .owner))
 
 -- the refusals of `receive` are passed
 pub taken : (size : ℕ) (l : List ℕ) (me : ℕ) (b : List ℕ) → Bytes b → refusal size l me b ≡ 0 → Taken l (decode b)
@@ -68,7 +69,7 @@ taken size l me b y e =
     let n = named-of me (decode b) (k .node) (k .formed) in
     record {
       sound = check-sound l (c .0);
-      owner = ltb-true (decode b .owner) 13 (n .owner);
+      owner = ltb-true (decode b .owner) nodes (n .owner);
       serial = leb-true 1 (decode b .serial) (n .serial);
       stamp = leb-true 1 (decode b .stamp) (n .stamp);
       fits = decoded-fits b y;

@@ -5,15 +5,13 @@ use mathlib.Core.Bool.{Bool, true, _||_}
 use mathlib.Core.List.{List}
 use Prim.Native.Nat.{ℕ, _<_}
 use lib.Dec.{eqb, ltb}
+use Rattle.numbers.specs.Sizes.{nodes, highest}
 use Rattle.wire.specs.declared.Entry.{Entry}
-use Rattle.wire.specs.declared.Written.{Written}
+use Rattle.letters.specs.declared.Written.{Written}
 use Rattle.wire.specs.Message.{Message}
 use Rattle.wire.specs.Formed.{every}
-use Rattle.wire.specs.Write.{writtenOf, bufferAfter}
-use Rattle.image.specs.Layout.{owners}
+use Rattle.letters.specs.Write.{writtenOf, bufferAfter}
 use Rattle.image.specs.Valid.{check}
-use Rattle.replica.specs.declared.Weighed.{Weighed}
-use Rattle.replica.specs.Judge.{otherHolds, heldByAnother, newer, newerHere, rivalsOf}
 use Rattle.replica.specs.Steps.{Answer, silent, says}
 
 unfoldable pub writtenAs : ℕ → Answer → Written
@@ -26,20 +24,11 @@ filledBy (says m) l = bufferAfter m l
 
 -- each version that a commit raises is below the last: what an accepted commit has
 abbrev pub raisable : Entry → Bool
-raisable e = eqb (e .mode) 0 || ltb (e .version) 4294967295
+raisable e = eqb (e .mode) 0 || ltb (e .version) highest
 
 abbrev pub Raisable : Message → Type 0
 Raisable m = every raisable (m .entries) ≡ true
 
 -- what the steps ask, and a delivery that nothing refuses has: a valid image, and an owner that is one
 abbrev pub Clear : List ℕ → Message → Type 0
-Clear l m = (check l ≡ 0) × (m .owner < owners)
-
--- an entry bars a yes: another holds its object, or the copy here is newer
-abbrev pub barred : List ℕ → ℕ → Entry → Bool
-barred l o e = otherHolds l o e || newer l e
-
--- what one pass over an ask's entries finds
-pub record Weighs (l : List ℕ) (m : Message) (w : Weighed) : Type 0 where
-  pub bars : w .barred ≡ (heldByAnother l m || newerHere l m)
-  pub rivals : w .rivals ≡ rivalsOf l m
+Clear l m = (check l ≡ 0) × (m .owner < nodes)

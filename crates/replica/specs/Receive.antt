@@ -4,15 +4,16 @@ use mathlib.Core.List.{List, [], _∷_, _++_}
 use Prim.Native.Nat.{ℕ}
 use lib.Dec.{eqb, ltb}
 use lib.ListN.{length, drop}
+use Rattle.numbers.specs.Sizes.{longestMessage}
 use Rattle.numbers.specs.Numbers.{wrongLength, damaged, garbled, stranger, outOfTurn}
 use Rattle.numbers.specs.Refusal.{Refusal, refuse, firstOf}
 use Rattle.wire.specs.Message.{Message, fetch, ask, outcome}
 use Rattle.wire.specs.Formed.{wordOf}
 use Rattle.wire.specs.Encode.{encode}
-use Rattle.wire.specs.Decode.{decode, longest, checkOf}
+use Rattle.wire.specs.Decode.{decode, checkOf}
 use Rattle.image.specs.Valid.{over, held, refused, check}
 use Rattle.replica.specs.declared.Received.{Received}
-use Rattle.replica.specs.Standing.{early, standing, active}
+use Rattle.judge.specs.Standing.{early, standing, active}
 use Rattle.replica.specs.Steps.{Answer, silent, says, fetchImage, fetchAnswer, askImage, askAnswer, outcomeImage, outcomeAnswer}
 
 -- a commit (word 1) needs late or held; an abort anything but a serial above the last while that one is not over
@@ -28,7 +29,7 @@ wrongTurn l m =
 -- the refusals of a message's bytes b at node `me` with the image l and an answer buffer of a size: 1 length, 2 damaged, 3 garbled, 4 stranger, 5 out of turn
 unfoldable pub refusals : ℕ → List ℕ → ℕ → List ℕ → List Refusal
 refusals size l me b =
-    refuse wrongLength (ltb size longest || (eqb (check l) wrongLength || eqb (checkOf b) wrongLength))
+    refuse wrongLength (ltb size longestMessage || (eqb (check l) wrongLength || eqb (checkOf b) wrongLength))
     ∷ refuse damaged (eqb (check l) damaged)
     ∷ refuse garbled (eqb (checkOf b) garbled)
     ∷ refuse stranger (ltb 12 me || not (eqb (decode b .to) me))

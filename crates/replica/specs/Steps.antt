@@ -1,19 +1,19 @@
 -- What a fetch, an ask and an outcome change here, and what each answers. Refusals come before (Receive).
-use mathlib.Core.Bool.{Bool, cond, _||_}
+use mathlib.Core.Bool.{cond}
 use mathlib.Core.List.{List, [], _∷_}
 use Prim.Native.Nat.{ℕ, _+_}
-use lib.Dec.{eqb, ltb}
+use lib.Dec.{eqb}
 use lib.ListN.{getD}
 use Rattle.wire.specs.declared.Entry.{Entry}
 use Rattle.wire.specs.Message.{Message}
 use Rattle.wire.specs.Formed.{wordOf}
 use Rattle.wire.specs.Items.{noEntry}
-use Rattle.wire.specs.Write.{copyOf, voteOf, doneOf}
+use Rattle.letters.specs.Write.{copyOf, voteOf, doneOf}
 use Rattle.image.specs.Layout.{value, version}
 use Rattle.image.specs.Valid.{over, held, refused}
 use Rattle.image.specs.Change.{withValue, withVersion, withHolder, withState, withOwner, addReader, addWriter, free, unlist}
-use Rattle.replica.specs.Standing.{fresh, standing, active, entered}
-use Rattle.replica.specs.Judge.{rivalsOf, votesNo, noSerials, serialsOf}
+use Rattle.judge.specs.Standing.{fresh, standing, active, entered}
+use Rattle.judge.specs.Judge.{rivalsOf, votesNo, noSerials, serialsOf}
 
 -- an answer: none, or one message
 pub data Answer : Type 0 where

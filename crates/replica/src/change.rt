@@ -1,15 +1,15 @@
 // What a vote or an outcome changes in the image.
 ghost use mathlib.Core.Path.{_≡_};
+ghost use Rattle.numbers.specs.Sizes.{nodes};
 ghost use Rattle.wire.specs.Decode.{decode};
 ghost use Rattle.replica.specs.Steps.{joins, holdingOne, holding, leaves, appliedOne, applied, decided, released, outcomeImage};
 ghost use Rattle.replica.specs.Given.{raisable, Raisable, Clear};
 ghost use mathlib.Core.Bool.{true, false};
 ghost use Prim.Native.Nat.{_<_};
-ghost use Rattle.image.specs.Layout.{owners};
 ghost use Rattle.image.specs.Valid.{check};
 ghost use Rattle.image.specs.Change.{unlist};
-use crate::FRESH;
-use crate::standing::standing;
+use judge::FRESH;
+use judge::standing;
 
 // The owner o joins the readers or the writers of the entry's object.
 pub(crate) fn join_list(image: &mut [u8], o: u8, e: wire::Entry)
@@ -95,7 +95,7 @@ fn decide(image: &mut [u8], message: &[u8])
 
 // The owner o lets go of everything, and is over. In a valid image only a held owner holds copies, and only a listed one is in lists.
 fn release(image: &mut [u8], o: u8)
-    requires { ⌜ (check (now image) ≡ 0) × (o < owners) ⌝ }
+    requires { ⌜ (check (now image) ≡ 0) × (o < nodes) ⌝ }
     ensures { λ r. ⌜ now (image .exit) ≡ released (now (image .entry)) o ⌝ }
 {
     let state = image::state(image, o);

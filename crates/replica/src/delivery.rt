@@ -1,17 +1,18 @@
 // A delivery: the refusals first, before anything is written, then the step of the message's kind.
 ghost use mathlib.Core.Path.{_≡_};
 ghost use lib.ListN.{length};
-ghost use Rattle.wire.specs.Decode.{kindOf, decode, longest};
+ghost use Rattle.numbers.specs.Sizes.{longestMessage};
+ghost use Rattle.wire.specs.Decode.{kindOf, decode};
 ghost use Rattle.replica.specs.Given.{writtenAs, filledBy, Raisable, Clear};
 ghost use Rattle.replica.specs.Receive.{outcomeEarly, wrongTurn, refusal, step, deliver, receivedOf, bufferOf, spoken, speaks};
-use crate::EARLY;
 use crate::Received;
 use crate::answer::silence;
-use crate::standing::is_active;
-use crate::standing::standing;
 use crate::steps::ask;
 use crate::steps::fetch;
 use crate::steps::outcome;
+use judge::EARLY;
+use judge::is_active;
+use judge::standing;
 use numbers::both;
 use numbers::either;
 
@@ -43,7 +44,7 @@ fn refusal(image: &[u8], me: u8, message: &[u8], size: usize) -> u8
     let i = image::check(image);
     let w = wire::check(message);
     if either(
-        size < wire::LONGEST,
+        size < numbers::LONGEST_MESSAGE,
         either(i == numbers::LENGTH, w == numbers::LENGTH),
     ) {
         return numbers::LENGTH;
@@ -65,7 +66,7 @@ fn refusal(image: &[u8], me: u8, message: &[u8], size: usize) -> u8
 }
 
 // The step of a message's kind.
-fn perform(image: &mut [u8], me: u8, message: &[u8], answer: &mut [u8]) -> wire::Written
+fn perform(image: &mut [u8], me: u8, message: &[u8], answer: &mut [u8]) -> letters::Written
     requires { ⌜ (kindOf (now message) ≡ 5 → Raisable (decode (now message))) × Clear (now image) (decode (now message)) ⌝ }
     ensures number { λ r. ⌜ r ≡ writtenAs (length (now (answer .entry))) (step (now (image .entry)) me (decode (now (message .entry))) .answer) ⌝ }
     ensures image { λ r. ⌜ now (image .exit) ≡ step (now (image .entry)) me (decode (now (message .entry))) .image ⌝ }
@@ -114,8 +115,8 @@ fn speaks(image: &[u8], message: &[u8]) -> bool
 // Whether a delivery into a buffer that is long enough will have an answer.
 // Ruled out: an answer foretold for a refused delivery; none foretold for a late outcome.
 pub fn answers(image: &[u8], me: u8, message: &[u8]) -> bool
-    ensures { λ r. ⌜ r ≡ spoken (deliver longest (now (image .entry)) me (now (message .entry)) .answer) ⌝ }
+    ensures { λ r. ⌜ r ≡ spoken (deliver longestMessage (now (image .entry)) me (now (message .entry)) .answer) ⌝ }
 {
-    let number = refusal(image, me, message, wire::LONGEST);
+    let number = refusal(image, me, message, numbers::LONGEST_MESSAGE);
     both(number == 0, speaks(image, message))
 }

@@ -15,13 +15,12 @@ use crate::change::hold;
 use crate::change::join_list;
 use crate::change::leave;
 use crate::change::settle;
-use crate::judge::older_among;
-use crate::judge::serials_of;
-use crate::judge::weigh;
-use crate::standing::enter;
-use crate::standing::is_active;
-use crate::standing::standing;
-use numbers::either;
+use judge::enter;
+use judge::is_active;
+use judge::judged;
+use judge::serials_of;
+use judge::standing;
+use numbers::NODES;
 
 // The copy here of the entry's object, with the entry's mode.
 fn copy_here(image: &[u8], e: wire::Entry) -> wire::Entry
@@ -36,7 +35,7 @@ fn copy_here(image: &[u8], e: wire::Entry) -> wire::Entry
 }
 
 // A fetch: listed, the owner joins a list and the copy is answered.
-pub(crate) fn fetch(image: &mut [u8], me: u8, message: &[u8], answer: &mut [u8]) -> wire::Written
+pub(crate) fn fetch(image: &mut [u8], me: u8, message: &[u8], answer: &mut [u8]) -> letters::Written
     ensures number { λ r. ⌜ r ≡ writtenAs (length (now (answer .entry))) (fetchAnswer me (now (image .entry)) (decode (now (message .entry)))) ⌝ }
     ensures image { λ r. ⌜ now (image .exit) ≡ fetchImage (now (image .entry)) (decode (now (message .entry))) ⌝ }
     ensures buffer { λ r. ⌜ now (answer .exit) ≡ filledBy (fetchAnswer me (now (image .entry)) (decode (now (message .entry)))) (now (answer .entry)) ⌝ }
@@ -51,27 +50,32 @@ pub(crate) fn fetch(image: &mut [u8], me: u8, message: &[u8], answer: &mut [u8])
 }
 
 // A listed ask: a no leaves it refused; a yes holds what it writes and names the rivals. Either way the owner leaves all lists, if it was `listed` before.
-fn judge(image: &mut [u8], me: u8, message: &[u8], answer: &mut [u8], listed: bool) -> wire::Written
+fn judge(
+    image: &mut [u8],
+    me: u8,
+    message: &[u8],
+    answer: &mut [u8],
+    listed: bool,
+) -> letters::Written
     requires { ⌜ (listed ≡ false → unlist (now image) (decode (now message) .owner) ≡ now image) ⌝ }
     ensures number { λ r. ⌜ r ≡ writtenAs (length (now (answer .entry))) (judgedAnswer me (now (image .entry)) (decode (now (message .entry)))) ⌝ }
     ensures image { λ r. ⌜ now (image .exit) ≡ judgedImage (now (image .entry)) (decode (now (message .entry))) ⌝ }
     ensures buffer { λ r. ⌜ now (answer .exit) ≡ filledBy (judgedAnswer me (now (image .entry)) (decode (now (message .entry)))) (now (answer .entry)) ⌝ }
 {
     let o = wire::owner(message);
-    let w = weigh(image, message);
-    let rivals = w.rivals;
-    if either(w.barred, older_among(image, rivals, o)) {
+    let v = judged(image, message);
+    if v.no {
         leave(image, o, image::REFUSED, listed);
-        return say_vote(answer, me, message, [0; 13], 0);
+        return say_vote(answer, me, message, [0; NODES], 0);
     }
-    let serials = serials_of(image, rivals);
+    let serials = serials_of(image, v.rivals);
     leave(image, o, image::HELD, listed);
     hold(image, message);
     say_vote(answer, me, message, serials, 1)
 }
 
 // An ask: listed is judged; held answers yes and refused no again, naming no rivals.
-pub(crate) fn ask(image: &mut [u8], me: u8, message: &[u8], answer: &mut [u8]) -> wire::Written
+pub(crate) fn ask(image: &mut [u8], me: u8, message: &[u8], answer: &mut [u8]) -> letters::Written
     requires { ⌜ Clear (now image) (decode (now message)) ⌝ }
     ensures number { λ r. ⌜ r ≡ writtenAs (length (now (answer .entry))) (askAnswer me (now (image .entry)) (decode (now (message .entry)))) ⌝ }
     ensures image { λ r. ⌜ now (image .exit) ≡ askImage (now (image .entry)) (decode (now (message .entry))) ⌝ }
@@ -83,16 +87,21 @@ pub(crate) fn ask(image: &mut [u8], me: u8, message: &[u8], answer: &mut [u8]) -
         return judge(image, me, message, answer, s == image::LISTED);
     }
     if s == image::HELD {
-        return say_vote(answer, me, message, [0u32; 13], 1);
+        return say_vote(answer, me, message, [0u32; NODES], 1);
     }
     if s == image::REFUSED {
-        return say_vote(answer, me, message, [0u32; 13], 0);
+        return say_vote(answer, me, message, [0u32; NODES], 0);
     }
     silence()
 }
 
 // An outcome: always answered with done.
-pub(crate) fn outcome(image: &mut [u8], me: u8, message: &[u8], answer: &mut [u8]) -> wire::Written
+pub(crate) fn outcome(
+    image: &mut [u8],
+    me: u8,
+    message: &[u8],
+    answer: &mut [u8],
+) -> letters::Written
     requires { ⌜ Raisable (decode (now message)) × Clear (now image) (decode (now message)) ⌝ }
     ensures number { λ r. ⌜ r ≡ writtenAs (length (now (answer .entry))) (outcomeAnswer me (decode (now (message .entry)))) ⌝ }
     ensures image { λ r. ⌜ now (image .exit) ≡ outcomeImage (now (image .entry)) (decode (now (message .entry))) ⌝ }

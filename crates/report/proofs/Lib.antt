@@ -1,2 +1,3 @@
--- What the proofs of `report` share: how long texts are (Long).
+-- What the proofs of `report` share: how long texts are (Long), and that the rows of the table are the words (Rows).
 pub mod Long
+pub mod Rows

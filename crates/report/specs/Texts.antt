@@ -1,6 +1,6 @@
 -- The texts that are printed: the kind and the fields of a message, and the word of a number. Each definition gives the texts in their order.
 use Prim.Native.Nat.{ℕ, _+_, _-_}
-use mathlib.Core.Bool.{Bool, cond}
+use mathlib.Core.Bool.{cond}
 use mathlib.Core.List.{List, [], _∷_, _++_}
 use lib.Dec.{ltb, eqb}
 use Rattle.decimal.specs.Decimal.{decimal}

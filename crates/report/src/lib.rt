@@ -1,13 +1,13 @@
 // Texts put into a lent buffer one behind another: numbers, messages with their fields, and the words of the numbers. Each function answers the position
 // behind what it wrote; a text that does not fit is left out.
 ghost use mathlib.Core.Path.{_≡_};
-ghost use mathlib.Core.List.{[], _∷_};
-ghost use Prim.Native.Nat.{_≤_};
-ghost use lib.ListN.{length};
+ghost use Prim.Native.Nat.{_<_};
+ghost use lib.ListN.{length, getD};
 ghost use Rattle.report.specs.Page.{page, ink, inks};
 ghost use Rattle.report.specs.Each.{eachFrom};
 ghost use Rattle.report.specs.Texts.{kindWord, numberTexts, valueTexts, modeText, entryTexts, rivalTexts, nthEntryTexts, nthRivalTexts};
 ghost use Rattle.report.specs.Texts.{routeTexts, nameTexts, messageTexts, wordOfNumber};
+ghost use Rattle.report.specs.Table.{places, rowAt, cap, kindRow};
 ghost use Rattle.decimal.specs.Decimal.{decimal};
 use view::Header;
 use wire::Entry;
@@ -46,35 +46,101 @@ pub fn value(out: &mut [u8], at: usize, label: &[u8], v: u64) -> usize
     number(out, a, b"-", 18446744073709551615 - v + 1)
 }
 
+// The words of the numbers and of the kinds, a row each: `pool full`, those of the numbers 1 to 11, those of the kinds.
+const WORDS: [u8; 144] = *b"pool full\
+    length\
+    damaged\
+    garbled\
+    stranger\
+    out of turn\
+    no such tally\
+    eight open\
+    no quorum\
+    number used up\
+    busy\
+    not ready\
+    fetch\
+    copy\
+    ask\
+    no\
+    yes\
+    abort\
+    commit\
+    done\
+    yield";
+
+// Where each row begins, and where the last one ends.
+const PLACES: [usize; 22] = [
+    0,
+    9,
+    15,
+    22,
+    29,
+    37,
+    48,
+    61,
+    71,
+    80,
+    94,
+    98,
+    107,
+    112,
+    116,
+    119,
+    121,
+    124,
+    129,
+    135,
+    139,
+    144,
+];
+
+// The rows of each kind, for a word other than 1 and for 1; first those of kinds that are none of 1 to 6.
+const KINDS: [usize; 14] = [20, 20, 12, 12, 13, 13, 14, 14, 15, 16, 17, 18, 19, 19];
+
+// Where a row begins.
+fn place(k: usize) -> usize
+    requires { ⌜ k < 22 ⌝ }
+    ensures { λ r. ⌜ r ≡ getD places k 0 ⌝ }
+{
+    PLACES[k]
+}
+
+// Puts the word of a row.
+fn row(out: &mut [u8], at: usize, k: usize) -> usize
+    requires { ⌜ k < 21 ⌝ }
+    ensures { λ r. ⌜ page (now (out .exit)) r ≡ ink (page (now (out .entry)) at) (rowAt k) ⌝ }
+{
+    let a = place(k);
+    let e = place(k + 1);
+    text(out, at, &WORDS[a..e])
+}
+
+// A number below a limit, 0 for any other.
+fn capped(n: u8, limit: u8) -> usize
+    requires { ⌜ 0 < limit ⌝ }
+    ensures { λ r. ⌜ (r ≡ cap limit n) × (r < limit) ⌝ }
+{
+    if n < limit { n as usize } else { 0 }
+}
+
+// The row of a kind, with the message's word.
+fn kind_row(kind: u8, word: u8) -> usize
+    ensures { λ r. ⌜ (r ≡ kindRow kind word) × (r < 21) ⌝ }
+{
+    let k = capped(kind, 7);
+    if word == 1 {
+        KINDS[2 * k + 1]
+    } else {
+        KINDS[2 * k]
+    }
+}
+
 // The word of a message.
 fn kind_word(out: &mut [u8], at: usize, kind: u8, word: u8) -> usize
     ensures { λ r. ⌜ page (now (out .exit)) r ≡ ink (page (now (out .entry)) at) (kindWord kind word) ⌝ }
 {
-    if kind == 1 {
-        return text(out, at, b"fetch");
-    }
-    if kind == 2 {
-        return text(out, at, b"copy");
-    }
-    if kind == 3 {
-        return text(out, at, b"ask");
-    }
-    if kind == 4 {
-        if word == 1 {
-            return text(out, at, b"yes");
-        }
-        return text(out, at, b"no");
-    }
-    if kind == 5 {
-        if word == 1 {
-            return text(out, at, b"commit");
-        }
-        return text(out, at, b"abort");
-    }
-    if kind == 6 {
-        return text(out, at, b"done");
-    }
-    text(out, at, b"yield")
+    row(out, at, kind_row(kind, word))
 }
 
 // An object with its mode.
@@ -166,38 +232,5 @@ pub fn message(out: &mut [u8], at: usize, m: &[u8]) -> usize
 pub fn word(out: &mut [u8], at: usize, n: u8) -> usize
     ensures { λ r. ⌜ page (now (out .exit)) r ≡ ink (page (now (out .entry)) at) (wordOfNumber n) ⌝ }
 {
-    if n == 1 {
-        return text(out, at, b"length");
-    }
-    if n == 2 {
-        return text(out, at, b"damaged");
-    }
-    if n == 3 {
-        return text(out, at, b"garbled");
-    }
-    if n == 4 {
-        return text(out, at, b"stranger");
-    }
-    if n == 5 {
-        return text(out, at, b"out of turn");
-    }
-    if n == 6 {
-        return text(out, at, b"no such tally");
-    }
-    if n == 7 {
-        return text(out, at, b"eight open");
-    }
-    if n == 8 {
-        return text(out, at, b"no quorum");
-    }
-    if n == 9 {
-        return text(out, at, b"number used up");
-    }
-    if n == 10 {
-        return text(out, at, b"busy");
-    }
-    if n == 11 {
-        return text(out, at, b"not ready");
-    }
-    text(out, at, b"pool full")
+    row(out, at, capped(n, 12))
 }

@@ -9,6 +9,8 @@ use lib.Dec.{T, eqb, ltb}
 use lib.ListN.{length}
 use lib.Pow.{pow-mono}
 use borrow.Author.Tests.{eq-eqb, ne-eqb, eqb-true, eqb-false, lt-ltb, le-ltb, ltb-true, ltb-false, not-false}
+use Rattle.image.specs.Layout.{imageSize, shape}
+use Rattle.numbers.specs.Sizes.{nodes, everyNode, longestMessage, mostWaiting}
 use Rattle.mask.specs.Mask.{contains, only, joined, minus}
 use Rattle.mask.proofs.Laws.{only-small, contains-minus, contains-within}
 use Rattle.mask.proofs.Tests.{and-left}
@@ -44,7 +46,8 @@ use Rattle.steps.specs.Station.{Station, putAt, withImage, withRecord, withPool
 use Rattle.steps.specs.Step.{Call, begin, openRead, openWrite, setValue, found, reselect, requestCommit, abort, send, delivery, drop, switch, Outcome}
 use Rattle.steps.specs.Step.{refusedWith, taken, putting, whenOff, hosted, full, sendNumber, sendOf, takenOut, answered, atReplica, atCoordinator, arriving}
 use Rattle.steps.specs.Step.{deliveryOf, dropOf, switchOf, step}
-use Rattle.buffers.specs.Buffers.{Buffers, imageAt, imageIn, withImageAt, recordIn, withRecordAt, recordDamaged, onOf, ownOf, ownNumber, ownDamaged, wrong}
+use Rattle.buffers.specs.Buffers.{Buffers, imageAt, imageIn, withImageAt, recordIn, withRecordAt}
+use Rattle.buffers.specs.Buffers.{recordDamaged, onOf, ownOf, ownNumber, ownDamaged, wrong, ownSize}
 use Rattle.buffers.specs.Buffers.{stationOf, answerWith, told, recordsAfter, hostFirst, all, Whole}
 use Rattle.station_calls.specs.Calls.{hostTold, hostRecords, switchTold, switchOwn}
 use Rattle.station.specs.Messages.{lower, putInto, sendFirst, sendTold, poolAfter, sendPool, dropTold, dropPool, blocked, messageIn, reaches, buffersNumber}
@@ -61,7 +64,7 @@ use Rattle.runs.proofs.Kept.{Kept, same-kept, own-is, none-damaged, hos
 pub record Sane (st : Station) : Type 0 where
   pub fits : (n : ℕ) → Fits (st .records n)
   pub meets : (n : ℕ) → Meets tree (st .records n)
-  pub sized : (n : ℕ) → length (st .images n) ≡ 1207
+  pub sized : (n : ℕ) → length (st .images n) ≡ imageSize shape
 
 told-zero : (f : ℕ) (o : Outcome) → f ≡ 0 → told f o ≡ answerWith (o .number) (o .answer)
 unfolding told
@@ -76,9 +79,9 @@ left-waits : (P : List ℕ) (k : ℕ) (kept : Bool) → checkPool P ≡ 0 → k 
 left-waits P k true e h = refl
 left-waits P k false e h = waiting-removed P k (there-of P k e h)
 
-mask-fine : (l : List ℕ) → length l ≡ 2 → onOf l ≤ 8191 → ownNumber l ≡ 0
+mask-fine : (l : List ℕ) → length l ≡ ownSize → onOf l ≤ everyNode → ownNumber l ≡ 0
 unfolding ownNumber
-mask-fine l e h = simp (eq-eqb (length l) 2 e, le-ltb 8191 (onOf l) h)
+mask-fine l e h = simp (eq-eqb (length l) ownSize e, le-ltb everyNode (onOf l) h)
 
 module _ (I R P O : List ℕ) (w : Whole (all I R P O)) where
   abbrev B : Buffers
@@ -139,7 +142,7 @@ module _ (I R P O : List ℕ) (w : Whole (all I R P O)) where
   turned : ℕ → Bool → ℕ
   turned n up = cond up (joined (onOf O) (only n)) (minus (onOf O) (only n))
 
-  turned-known : (n : ℕ) (up : Bool) → n < 13 → turned n up ≤ 8191
+  turned-known : (n : ℕ) (up : Bool) → n < nodes → turned n up ≤ everyNode
   unfolding turned
   turned-known n true h =
       let e = only-small n (omega arith) in
@@ -160,13 +163,13 @@ module _ (I R P O : List ℕ) (w : Whole (all I R P O)) where
       go : (t : Bool) → noNode n ≡ t → Kept (all I R P (switchOwn B n up)) (switchOf st n up .station)
       go true t = simp (t, w .own-fine) (same-kept I R P O w)
       go false t =
-          let l : n < 13 = ltb-true n 13 (not-false (ltb n 13) t) in
+          let l : n < nodes = ltb-true n nodes (not-false (ltb n nodes) t) in
           let h = turned-known n up l in
           let z = own-is I R P O w .size in
           let g = get-put 2 O 0 (turned n up) (omega arith) (omega arith) in
           simp (t, w .own-fine) (own-kept I R P O w (put 2 O 0 (turned n up)) (nowOn (ownOf O) (turned n up))
           (mask-fine (put 2 O 0 (turned n up)) (length-put 2 O 0 (turned n up) ∙ z)
-          (subst (λ (k : ℕ). k ≤ 8191) (sym g) h)) (ap (nowOn (ownOf O)) g))
+          (subst (λ (k : ℕ). k ≤ everyNode) (sym g) h)) (ap (nowOn (ownOf O)) g))
 
   -- ---- a send
   send-first : (n : ℕ) → sendFirst B n ≡ 0
@@ -184,7 +187,7 @@ module _ (I R P O : List ℕ) (w : Whole (all I R P O)) where
     number = sendNumber st n to t message (not (eqb kind 0))
 
     -- a message that goes is well formed, and there is room for it
-    may-go : number ≡ 0 → eqb kind 0 ≡ false → (wellFormed message ≡ true) × (count P < 128)
+    may-go : number ≡ 0 → eqb kind 0 ≡ false → (wellFormed message ≡ true) × (count P < mostWaiting)
     unfolding sendNumber
     may-go e d = go (contains (onOf O) n) refl
       where
@@ -195,12 +198,12 @@ module _ (I R P O : List ℕ) (w : Whole (all I R P O)) where
         formed true q = refl
         formed false q = sym (sym (ap (λ (b : Bool). not b && true) d) ∙ q)
 
-        go : (a : Bool) → contains (onOf O) n ≡ a → (wellFormed message ≡ true) × (count P < 128)
+        go : (a : Bool) → contains (onOf O) n ≡ a → (wellFormed message ≡ true) × (count P < mostWaiting)
         go true p =
             let a = passed-number (firstOf (dueRefusals (recordIn R n) n to t)) rest (sym (simp p) ∙ e) in
             let b = past (not (eqb kind 0) && not (wellFormed message)) 2 _ (a .1) in
             let f = past (full st) 11 0 (b .1) in
-            let l = ltb-true (length (waiting P)) 128 (not-false (ltb (length (waiting P)) 128) (f .0)) in
+            let l = ltb-true (length (waiting P)) mostWaiting (not-false (ltb (length (waiting P)) mostWaiting) (f .0)) in
             let c = length-waiting P in
             (formed (wellFormed message) (b .0), omega arith)
         go false p = absurd (off-number (firstOf (dueRefusals (recordIn R n) n to t)) (sym (simp p) ∙ e))
@@ -270,7 +273,7 @@ module _ (I R P O : List ℕ) (w : Whole (all I R P O)) where
       abbrev n : ℕ
       n = toOf m
 
-      small : n < 13
+      small : n < nodes
       small = receiver-node m e
 
       arrives : made ≡ arriving st k kept m
@@ -292,7 +295,7 @@ module _ (I R P O : List ℕ) (w : Whole (all I R P O)) where
         -- ---- at a replica
         module _ (v : forReplica (kindOf m) ≡ true) where
           abbrev d : Delivered
-          d = deliver 128 (imageAt I n) n m
+          d = deliver longestMessage (imageAt I n) n m
 
           is-by : made ≡ by I R P O n k kept d
           unfolding arriving
@@ -310,12 +313,12 @@ module _ (I R P O : List ℕ) (w : Whole (all I R P O)) where
               (is-by ∙ simp (ne-eqb (d .number) 0 y))
 
           crowded : Bool
-          crowded = kept && not (ltb (count P) 128)
+          crowded = kept && not (ltb (count P) mostWaiting)
 
           -- as the station tests it
           crowded-is : (kept && full st) ≡ crowded
           unfolding crowded
-          crowded-is = ap (λ (j : ℕ). kept && not (ltb j 128)) (length-waiting P)
+          crowded-is = ap (λ (j : ℕ). kept && not (ltb j mostWaiting)) (length-waiting P)
 
           blocked-kept : d .number ≡ 0 → (crowded && spoken (d .answer)) ≡ true → delivered
           unfolding by answered crowded spoken
@@ -337,8 +340,8 @@ module _ (I R P O : List ℕ) (w : Whole (all I R P O)) where
               q : eqb (d .number) 0 ≡ true
               q = eq-eqb (d .number) 0 y
 
-              image-long : length (putAt (imageIn I) n (d .image) n) ≡ 1207 → length (d .image) ≡ 1207
-              image-long l = subst (λ (b : Bool). length (cond b (d .image) (imageIn I n)) ≡ 1207) (same n) l
+              image-long : length (putAt (imageIn I) n (d .image) n) ≡ imageSize shape → length (d .image) ≡ imageSize shape
+              image-long l = subst (λ (b : Bool). length (cond b (d .image) (imageIn I n)) ≡ imageSize shape) (same n) l
 
               silent-is : d .answer ≡ silent → by I R P O n k kept d ≡ taken 0 (withImage (takenOut st k kept) n (d .image))
               silent-is a = simp (q, a)
@@ -347,7 +350,7 @@ module _ (I R P O : List ℕ) (w : Whole (all I R P O)) where
                   → Kept (all (withImageAt I n (d .image)) R (answeredBy (leaving P k kept) (said (d .answer))) O) (made .station)
               go silent a =
                   let s = is-by ∙ silent-is a in
-                  let l = subst (λ (x : Outcome). length (x .station .images n) ≡ 1207) s (z .sized n) in
+                  let l = subst (λ (x : Outcome). length (x .station .images n) ≡ imageSize shape) s (z .sized n) in
                   let i = image-kept I R (leaving P k kept) O (left-kept .0) n (d .image) small (image-long l) in
                   subst (λ (x : Outcome). Kept (all (withImageAt I n (d .image)) R (answeredBy (leaving P k kept) (said (d .answer))) O) (x .station))
                   (sym s)
@@ -359,7 +362,7 @@ module _ (I R P O : List ℕ) (w : Whole (all I R P O)) where
                   let r = has-room I R P O n k kept (w .pool-fine) h c (length (encode x)) (g .1) in
                   let b : by I R P O n k kept d ≡ putting (encode x) (withImage (takenOut st k kept) n (d .image)) = simp (q, a, crowded-is, c) in
                   let s = is-by ∙ b in
-                  let l = subst (λ (y : Outcome). length (y .station .images n) ≡ 1207) s (z .sized n) in
+                  let l = subst (λ (y : Outcome). length (y .station .images n) ≡ imageSize shape) s (z .sized n) in
                   let p = pool-kept I R (leaving P k kept) O (left-kept .0) (added (leaving P k kept) (encode x)) _
                   (check-added (leaving P k kept) (encode x) r)
                   (waiting-added (leaving P k kept) (encode x) r

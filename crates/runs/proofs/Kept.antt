@@ -8,8 +8,10 @@ use native.Mathlib.Omega.{arith}
 use lib.Dec.{eqb, ltb}
 use lib.ListN.{length}
 use borrow.Author.Tests.{eq-eqb, ne-eqb, eqb-true, eqb-false, lt-ltb, le-ltb, ltb-true, ltb-false}
+use Rattle.record.specs.Layout.{recordSize}
+use Rattle.numbers.specs.Sizes.{nodes, everyNode}
 use Rattle.parts.specs.Parts.{part}
-use Rattle.image.specs.Layout.{shape}
+use Rattle.image.specs.Layout.{shape, imageSize}
 use Rattle.image.specs.Blank.{blankAs}
 use Rattle.image.proofs.Each.{same-or-not}
 use Rattle.replica.proofs.Delivered.{past, or-neither}
@@ -26,7 +28,8 @@ use Rattle.record.proofs.OnBytes.{checked-length}
 use Rattle.pool.specs.Pool.{waiting}
 use Rattle.pool.specs.Pool.{check as checkPool}
 use Rattle.steps.specs.Station.{Own, Station, putAt, withImage, withRecord, withPool, withOwn}
-use Rattle.buffers.specs.Buffers.{Buffers, wrong, imageAt, withImageAt, imageIn, recordAt, withRecordAt, recordIn, recordDamaged, ownNumber, ownDamaged, onOf}
+use Rattle.buffers.specs.Buffers.{Buffers, wrong, imageAt, withImageAt, imageIn, recordAt, withRecordAt, ownSize}
+use Rattle.buffers.specs.Buffers.{recordIn, recordDamaged, ownNumber, ownDamaged, onOf, imagesSize, recordsSize}
 use Rattle.buffers.specs.Buffers.{ownOf, stationOf, hostFirst, all, Whole}
 use Rattle.station.specs.Messages.{buffersNumber, lower, lengthsNumber}
 use Rattle.buffers.proofs.First.{long}
@@ -49,54 +52,59 @@ module _ (I R P O : List ℕ) (w : Whole (all I R P O)) where
 
   -- ---- no buffer refuses a step
   pub record OwnIs : Type 0 where
-    pub size : length O ≡ 2
-    pub mask : onOf O ≤ 8191
+    pub size : length O ≡ ownSize
+    pub mask : onOf O ≤ everyNode
 
   pub own-is : OwnIs
   unfolding ownNumber
   own-is =
-      let a = past (wrong O 2) 0 _ (w .own-fine) in
+      let a = past (wrong O ownSize) 0 _ (w .own-fine) in
       let b = past (ownDamaged O) 1 0 (a .1) in
-      record { size = long O 2 (a .0); mask = ltb-false 8191 (onOf O) (b .0) }
+      record { size = long O ownSize (a .0); mask = ltb-false everyNode (onOf O) (b .0) }
 
   pub none-damaged : (n : ℕ) → recordDamaged R n ≡ false
   unfolding recordDamaged
-  none-damaged n = by (ltb n 13) refl
+  none-damaged n = by (ltb n nodes) refl
     where
-      by : (t : Bool) → ltb n 13 ≡ t → recordDamaged R n ≡ false
-      by true e = simp (e, w .records-fine n (ltb-true n 13 e))
+      by : (t : Bool) → ltb n nodes ≡ t → recordDamaged R n ≡ false
+      by true e = simp (e, w .records-fine n (ltb-true n nodes e))
       by false e = simp e
 
   pub host-first : (n : ℕ) → hostFirst B n ≡ 0
   unfolding hostFirst
   host-first n =
-      simp (eq-eqb (length R) 3913 (w .records-long), eq-eqb (length O) 2 (own-is .size), le-ltb 8191 (onOf O) (own-is .mask), none-damaged n)
+      simp (
+        eq-eqb (length R) recordsSize (w .records-long),
+        eq-eqb (length O) ownSize (own-is .size),
+        le-ltb everyNode (onOf O) (own-is .mask),
+        none-damaged n,
+      )
 
   pub buffers-first : buffersNumber B ≡ 0
   unfolding lower lengthsNumber
   buffers-first = buffers-are I R P O
-      ∙ simp (eq-eqb (length I) 15691 (w .images-long), eq-eqb (length R) 3913 (w .records-long), w .pool-fine, w .own-fine)
+      ∙ simp (eq-eqb (length I) imagesSize (w .images-long), eq-eqb (length R) recordsSize (w .records-long), w .pool-fine, w .own-fine)
 
   -- ---- one image changed
-  module _ (n : ℕ) (l : List ℕ) (small : n < 13) (size : length l ≡ 1207) where
+  module _ (n : ℕ) (l : List ℕ) (small : n < nodes) (size : length l ≡ imageSize shape) where
     images-put : (i : ℕ) → imageIn (withImageAt I n l) i ≡ putAt (imageIn I) n l i
     unfolding imageIn imageAt withImageAt putAt
     images-put i = go (same-or-not i n)
       where
-        other : (i ≡ n → ⊥) → (t : Bool) → ltb i 13 ≡ t → imageIn (withImageAt I n l) i ≡ imageIn I i
-        other e true t = simp t (part-kept 1207 13 I l size (w .images-long) n small i (ltb-true i 13 t) e)
+        other : (i ≡ n → ⊥) → (t : Bool) → ltb i nodes ≡ t → imageIn (withImageAt I n l) i ≡ imageIn I i
+        other e true t = simp t (part-kept (imageSize shape) nodes I l size (w .images-long) n small i (ltb-true i nodes t) e)
         other e false t = simp t
 
         go : (i ≡ n) ⊎ (i ≡ n → ⊥) → imageIn (withImageAt I n l) i ≡ putAt (imageIn I) n l i
         go (inl e) = simp (eq-eqb i n e) (ap (imageIn (withImageAt I n l)) e
-            ∙ simp (lt-ltb n 13 small) (part-same 1207 13 I l size (w .images-long) n small))
-        go (inr e) = simp (ne-eqb i n e) (other e (ltb i 13) refl)
+            ∙ simp (lt-ltb n nodes small) (part-same (imageSize shape) nodes I l size (w .images-long) n small))
+        go (inr e) = simp (ne-eqb i n e) (other e (ltb i nodes) refl)
 
     pub image-kept : Kept (all (withImageAt I n l) R P O) (withImage st n l)
     unfolding withImageAt
     image-kept = (
       record {
-        images-long = part-length 1207 13 I l size (w .images-long) n small;
+        images-long = part-length (imageSize shape) nodes I l size (w .images-long) n small;
         records-long = w .records-long;
         pool-fine = w .pool-fine;
         own-fine = w .own-fine;
@@ -106,36 +114,40 @@ module _ (I R P O : List ℕ) (w : Whole (all I R P O)) where
     )
 
   -- ---- one record changed
-  module _ (n : ℕ) (c : Coordinator) (small : n < 13) (m : Meets tree c) (f : Fits c) where
-    record-long : length (bytesOf c) ≡ 301
+  module _ (n : ℕ) (c : Coordinator) (small : n < nodes) (m : Meets tree c) (f : Fits c) where
+    record-long : length (bytesOf c) ≡ recordSize
     record-long = checked-length (bytesOf c) (bytes-checked c m f)
 
-    record-at : (i : ℕ) → i < 13 → (i ≡ n) ⊎ (i ≡ n → ⊥) → ((i ≡ n) × (recordAt (withRecordAt R n (bytesOf c)) i ≡ bytesOf c))
+    record-at : (i : ℕ) → i < nodes → (i ≡ n) ⊎ (i ≡ n → ⊥) → ((i ≡ n) × (recordAt (withRecordAt R n (bytesOf c)) i ≡ bytesOf c))
         ⊎ ((i ≡ n → ⊥) × (recordAt (withRecordAt R n (bytesOf c)) i ≡ recordAt R i))
     unfolding recordAt withRecordAt
-    record-at i h (inl e) = inl (e, ap (recordAt (withRecordAt R n (bytesOf c))) e ∙ part-same 301 13 R (bytesOf c) record-long (w .records-long) n small)
-    record-at i h (inr e) = inr (e, part-kept 301 13 R (bytesOf c) record-long (w .records-long) n small i h e)
+    record-at i h (inl e) = inl (
+      e,
+      ap (recordAt (withRecordAt R n (bytesOf c))) e
+          ∙ part-same recordSize nodes R (bytesOf c) record-long (w .records-long) n small,
+    )
+    record-at i h (inr e) = inr (e, part-kept recordSize nodes R (bytesOf c) record-long (w .records-long) n small i h e)
 
     records-put : (i : ℕ) → recordIn (withRecordAt R n (bytesOf c)) i ≡ putAt (recordIn R) n c i
     unfolding recordIn putAt
-    records-put i = by (ltb i 13) refl
+    records-put i = by (ltb i nodes) refl
       where
-        there : ltb i 13 ≡ true → ((i ≡ n) × (recordAt (withRecordAt R n (bytesOf c)) i ≡ bytesOf c))
+        there : ltb i nodes ≡ true → ((i ≡ n) × (recordAt (withRecordAt R n (bytesOf c)) i ≡ bytesOf c))
             ⊎ ((i ≡ n → ⊥) × (recordAt (withRecordAt R n (bytesOf c)) i ≡ recordAt R i))
             → recordIn (withRecordAt R n (bytesOf c)) i ≡ putAt (recordIn R) n c i
         there t (inl z) = simp (t, eq-eqb i n (z .0)) (ap recordOf (z .1) ∙ record-bytes c f)
         there t (inr z) = simp (t, ne-eqb i n (z .0)) (ap recordOf (z .1))
 
-        by : (t : Bool) → ltb i 13 ≡ t → recordIn (withRecordAt R n (bytesOf c)) i ≡ putAt (recordIn R) n c i
-        by true t = there t (record-at i (ltb-true i 13 t) (same-or-not i n))
-        by false t = let h = ltb-false i 13 t in simp (t, ne-eqb i n (λ e. let z : ⊥ = omega arith in z))
+        by : (t : Bool) → ltb i nodes ≡ t → recordIn (withRecordAt R n (bytesOf c)) i ≡ putAt (recordIn R) n c i
+        by true t = there t (record-at i (ltb-true i nodes t) (same-or-not i n))
+        by false t = let h = ltb-false i nodes t in simp (t, ne-eqb i n (λ e. let z : ⊥ = omega arith in z))
 
     pub record-kept : Kept (all I (withRecordAt R n (bytesOf c)) P O) (withRecord st n c)
     unfolding withRecordAt
     record-kept = (
       record {
         images-long = w .images-long;
-        records-long = part-length 301 13 R (bytesOf c) record-long (w .records-long) n small;
+        records-long = part-length recordSize nodes R (bytesOf c) record-long (w .records-long) n small;
         pool-fine = w .pool-fine;
         own-fine = w .own-fine;
         records-fine = λ i h. fine i h (record-at i h (same-or-not i n));
@@ -143,7 +155,7 @@ module _ (I R P O : List ℕ) (w : Whole (all I R P O)) where
       λ j. record { images = imageIn I; records = λ i. records-put i j; pool = waiting P; own = ownOf O },
     )
       where
-        fine : (i : ℕ) → i < 13 → ((i ≡ n) × (recordAt (withRecordAt R n (bytesOf c)) i ≡ bytesOf c))
+        fine : (i : ℕ) → i < nodes → ((i ≡ n) × (recordAt (withRecordAt R n (bytesOf c)) i ≡ bytesOf c))
             ⊎ ((i ≡ n → ⊥) × (recordAt (withRecordAt R n (bytesOf c)) i ≡ recordAt R i)) → check (recordAt (withRecordAt R n (bytesOf c)) i) ≡ 0
         fine i h (inl z) = ap check (z .1) ∙ bytes-checked c m f
         fine i h (inr z) = ap check (z .1) ∙ w .records-fine i h

@@ -7,7 +7,7 @@ use native.Mathlib.Omega.{arith}
 use lib.Dec.{eqb, ltb}
 use lib.ListN.{length, set}
 use borrow.Author.Tests.{eq-eqb, le-ltb, ltb-false}
-use Rattle.coordinator.specs.State.{everyNode}
+use Rattle.numbers.specs.Sizes.{everyNode}
 use Rattle.pool.proofs.Numbers.{fine}
 use Rattle.replay.specs.Layout.{size as sheetSize}
 use Rattle.replay.specs.Sheet.{blankAfter as sheetBlank}
@@ -43,7 +43,7 @@ pub record Inv (d : Desk) (s : Story) : Type 0 where
   pub faithful : Faithful d s
 
 -- ---- a `blank` finds buffers of their lengths
-blank-goes : (I R P O : List ℕ) (mask : ℕ) → Whole (all I R P O) → mask ≤ 8191 → blankNumber (all I R P O) mask ≡ 0
+blank-goes : (I R P O : List ℕ) (mask : ℕ) → Whole (all I R P O) → mask ≤ everyNode → blankNumber (all I R P O) mask ≡ 0
 unfolding blankNumber
 blank-goes I R P O mask w h =
     simp (
@@ -51,14 +51,14 @@ blank-goes I R P O mask w h =
       eq-eqb _ _ (w .records-long),
       eq-eqb _ _ (fine P (w .pool-fine) .long),
       eq-eqb _ _ (own-is I R P O w .size),
-      le-ltb 8191 mask h,
+      le-ltb everyNode mask h,
     )
 
 -- the sheet has its length all along
 sheet-long : (d : Desk) (s : Story) → Faithful d s → length (d .sheet) ≡ sheetSize
 sheet-long d s f = ap length (f .told) ∙ always-reads (s .up) (f .blank) (f .size) (s .steps) (f .typed) .long
 
-begins : (r : Reader) (d : Desk) (s : Story) (mask : ℕ) → Fit (r .said) → Inv d s → mask ≤ 8191
+begins : (r : Reader) (d : Desk) (s : Story) (mask : ℕ) → Fit (r .said) → Inv d s → mask ≤ everyNode
     → Inv (desk r (blankAfter (d .buffers) mask) (sheetBlank (d .sheet))) (record { up = mask; steps = [] })
 unfolding keptFrom
 begins r d s mask f i h =

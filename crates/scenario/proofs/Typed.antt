@@ -11,6 +11,7 @@ use lib.Dec.{eqb, ltb, lit<}
 use lib.ListN.{length, getD, set, replicate, length-set}
 use lib.Seq.{getD-set-same, getD-set-other, set-out}
 use borrow.Author.Tests.{ltb-false, eqb-false}
+use Rattle.numbers.specs.Sizes.{nodes}
 use Rattle.octets.proofs.Laws.{lt-or-le}
 use Rattle.steps.specs.Step.{Call}
 use Rattle.history.specs.Claims.{Typed, Distances}
@@ -29,7 +30,7 @@ use Rattle.script.specs.Parse.{orderOf, parsed}
 pub record Fit (s : Said) : Type 0 where
   pub value : s .value < 2 ^ 64
   pub numbers : (i : ℕ) → getD (s .numbers) i 0 < 2 ^ 64
-  pub long : length (s .distances) ≡ 13
+  pub long : length (s .distances) ≡ nodes
   pub distances : (i : ℕ) → getD (s .distances) i 0 < 2 ^ 16
 
 -- a number stored where all are below m
@@ -56,7 +57,7 @@ fit-fresh = record {
   value = lit< tt;
   numbers = λ i. alike (2 ^ 64) 3 0 0 i (lit< tt) (lit< tt);
   long = refl;
-  distances = λ i. alike (2 ^ 16) 13 1 0 i (lit< tt) (lit< tt);
+  distances = λ i. alike (2 ^ 16) nodes 1 0 i (lit< tt) (lit< tt);
 }
 
 -- ---- by tests

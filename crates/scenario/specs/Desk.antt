@@ -5,7 +5,7 @@ use mathlib.Core.List.{List, [], _∷_}
 use mathlib.Core.Path.{_≡_}
 use lib.Dec.{eqb, ltb}
 use lib.ListN.{length}
-use Rattle.coordinator.specs.State.{everyNode}
+use Rattle.numbers.specs.Sizes.{everyNode}
 use Rattle.steps.specs.Step.{Call}
 use Rattle.steps.specs.Station.{blankStation}
 use Rattle.steps.specs.Run.{trace}

@@ -4,8 +4,8 @@ use mathlib.Core.Bool.{Bool, true, cond}
 use mathlib.Core.List.{List, [], _∷_, _++_}
 use lib.Dec.{eqb, ltb}
 use lib.ListN.{length, take}
+use Rattle.numbers.specs.Sizes.{everyNode}
 use Rattle.numbers.specs.Numbers.{stranger}
-use Rattle.coordinator.specs.State.{everyNode}
 use Rattle.replay.specs.Sheet.{blankAfter as sheetBlank}
 use Rattle.buffers.specs.Buffers.{Buffers}
 use Rattle.station_calls.specs.Calls.{blankNumber, blankAfter}

@@ -8,17 +8,17 @@ use Rattle.script.specs.Said.{fresh as nothingSaid}
 use Rattle.scenario.specs.declared.Reader.{Reader}
 
 -- the longest line, in bytes
-abbrev pub longest : ℕ
-longest = 160
+abbrev pub longestLine : ℕ
+longestLine = 160
 
 -- nothing is read yet, and no scenario runs
 unfoldable pub fresh : Reader
-fresh = record { said = nothingSaid; text = replicate longest 0; long = 0; line = 1; going = false }
+fresh = record { said = nothingSaid; text = replicate longestLine 0; long = 0; line = 1; going = false }
 
 -- one byte more. A line that is too long is bad
 unfoldable pub noted : Reader → ℕ → Reader
 noted r b =
-    cond (ltb (r .long) longest)
+    cond (ltb (r .long) longestLine)
     (record { said = step (r .said) b; text = set (r .text) (r .long) b; long = r .long + 1; line = r .line; going = r .going })
     (record { said = bad (r .said); text = r .text; long = r .long; line = r .line; going = r .going })
 

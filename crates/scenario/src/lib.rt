@@ -10,12 +10,12 @@ pub use reading::fresh;
 use script::Said;
 
 // The longest line.
-pub const LONGEST: usize = 160;
+pub const LONGEST_LINE: usize = 160;
 
 // A line that is being read, its bytes so far, its number, and whether a scenario runs.
 pub struct Reader {
     pub said: Said,
-    pub text: [u8; 160],
+    pub text: [u8; LONGEST_LINE],
     pub long: usize,
     pub line: u64,
     pub going: bool,

@@ -10,7 +10,7 @@ use crate::Taken;
 use crate::reading::next;
 use crate::reading::noted;
 use crate::step::perform;
-use coordinator::EVERY_NODE;
+use numbers::EVERY_NODE;
 use results::refusal;
 
 const NEWLINE: u8 = 10;

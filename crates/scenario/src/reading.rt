@@ -1,7 +1,7 @@
 // A line that is being read, with its bytes.
 ghost use mathlib.Core.Path.{_≡_};
 ghost use Rattle.scenario.specs.Reading.{fresh, noted, next};
-use crate::LONGEST;
+use crate::LONGEST_LINE;
 use crate::Reader;
 
 // The part of a line that is bad, whatever comes.
@@ -28,7 +28,7 @@ pub(crate) fn noted(r: Reader, b: u8) -> Reader
     let mut t = r;
     let said = r.said;
     let i = r.long;
-    if i < LONGEST {
+    if i < LONGEST_LINE {
         t.text[i] = b;
         t.long = i + 1;
         t.said = script::step(said, b);

@@ -5,6 +5,7 @@ use mathlib.Core.Bool.{Bool, cond}
 use mathlib.Core.List.{List, [], _∷_}
 use lib.Dec.{ltb, eqb}
 use lib.ListN.{set, replicate}
+use Rattle.numbers.specs.Sizes.{nodes}
 use Rattle.script.specs.declared.Said.{Said}
 use Rattle.script.specs.Words.{reselectWord}
 
@@ -37,7 +38,7 @@ spoilt = 7
 
 -- ---- a line of which nothing is read. Where no distances are given, all are 1
 unfoldable pub fresh : Said
-fresh = record { part = beforeWord; word = 0; count = 0; value = 0; numbers = replicate 3 0; distances = replicate 13 1 }
+fresh = record { part = beforeWord; word = 0; count = 0; value = 0; numbers = replicate 3 0; distances = replicate nodes 1 }
 
 -- the same in another part
 unfoldable pub inPart : Said → ℕ → Said

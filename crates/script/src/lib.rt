@@ -5,6 +5,7 @@ mod naming;
 pub use line::fresh;
 pub use line::step;
 pub use naming::parse;
+use numbers::NODES;
 use orders::Order;
 
 // What the bytes of a line say so far.
@@ -18,7 +19,7 @@ pub struct Said {
     pub value: u64,
     // The complete numbers: up to three, then the distances.
     pub numbers: [u64; 3],
-    pub distances: [u16; 13],
+    pub distances: [u16; NODES],
 }
 
 // What a line is: 0 it says nothing, 1 it is bad, 2 `blank` with its mask as the order's live mask, 3 a step.

@@ -6,6 +6,7 @@ ghost use Rattle.script.specs.Said.{fresh, inPart, bad, letter, most, di
 ghost use Rattle.script.specs.Said.{withNumber, distance, complete, space, silenced, minus, sign, letterOrNone};
 ghost use Rattle.script.specs.Said.{step as stepSaid};
 use crate::Said;
+use numbers::NODES;
 
 // The parts of a line.
 const BEFORE_WORD: u8 = 0;
@@ -41,7 +42,7 @@ pub fn fresh() -> Said
         count: 0,
         value: 0,
         numbers: [0; 3],
-        distances: [1; 13],
+        distances: [1; NODES],
     }
 }
 

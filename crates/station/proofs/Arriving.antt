@@ -8,6 +8,7 @@ use native.Mathlib.Omega.{arith}
 use lib.Dec.{eqb, ltb}
 use lib.ListN.{length, getD}
 use borrow.Author.Tests.{eq-eqb, ne-eqb, eqb-true, eqb-false, lt-ltb, le-ltb, ltb-true, ltb-false}
+use Rattle.numbers.specs.Sizes.{nodes}
 use Rattle.mask.specs.Mask.{contains}
 use Rattle.wire.specs.Formed.{countsOk, namesOk, wellFormed}
 use Rattle.wire.specs.Encode.{sizeOf}
@@ -21,7 +22,8 @@ use Rattle.pool.proofs.Laws.{length-waiting, getD-waiting}
 use Rattle.buffers.specs.declared.Answer.{Answer}
 use Rattle.steps.specs.Station.{Station, putAt}
 use Rattle.steps.specs.Step.{delivery, Outcome, refusedWith, atReplica, atCoordinator, arriving, deliveryOf, step}
-use Rattle.buffers.specs.Buffers.{Buffers, wrong, ownNumber, onOf, recordDamaged, recordFirst, stationOf, answerWith, told, recordsAfter, all, withImageAt}
+use Rattle.buffers.specs.Buffers.{Buffers, wrong, ownNumber, onOf, recordDamaged, recordFirst, stationOf}
+use Rattle.buffers.specs.Buffers.{answerWith, told, recordsAfter, all, withImageAt, imagesSize, recordsSize}
 use Rattle.station.specs.Messages.{lower, lengthsNumber, buffersNumber, messageIn, reaches, deliveryFirst, deliveryTold, imagesAfter, deliveryImages}
 use Rattle.station.specs.Messages.{deliveryRecords, leaving, exchanged, putInto, deliveryPool}
 use Rattle.buffers.proofs.First.{long}
@@ -34,8 +36,8 @@ unfolding buffersNumber
 buffers-are I R P O = refl
 
 pub record Sized (I R P O : List ℕ) : Type 0 where
-  pub images : length I ≡ 15691
-  pub records : length R ≡ 3913
+  pub images : length I ≡ imagesSize
+  pub records : length R ≡ recordsSize
   pub pool : check P ≡ 0
   pub own : ownNumber O ≡ 0
 
@@ -44,8 +46,8 @@ unfolding lengthsNumber
 sized I R P O z =
     let a = lower-none _ _ (sym (buffers-are I R P O) ∙ z) in
     let b = lower-none (check P) (ownNumber O) (a .1) in
-    let l = or-neither (wrong I 15691) (wrong R 3913) (past (wrong I 15691 || wrong R 3913) 0 0 (a .0) .0) in
-    record { images = long I 15691 (l .0); records = long R 3913 (l .1); pool = b .0; own = b .1 }
+    let l = or-neither (wrong I imagesSize) (wrong R recordsSize) (past (wrong I imagesSize || wrong R recordsSize) 0 0 (a .0) .0) in
+    record { images = long I imagesSize (l .0); records = long R recordsSize (l .1); pool = b .0; own = b .1 }
 
 pub record Waits (P : List ℕ) (k : ℕ) : Type 0 where
   pub message : k < count P
@@ -59,13 +61,13 @@ waits-of P k = by (ltb k (count P)) refl
     by false t e = absurd (let z : ⊥ = omega arith in z)
 
 -- a message that is one names a node
-pub receiver-node : (b : List ℕ) → checkOf b ≡ 0 → toOf b < 13
+pub receiver-node : (b : List ℕ) → checkOf b ≡ 0 → toOf b < nodes
 unfolding wellFormed accepted decode
 receiver-node b e =
     let m = decode b in
     let w = right-true (eqb (length b) (sizeOf m)) (wellFormed m) (accepted-of-check b e) in
     let n = left-true (namesOk m) _ (right-true (countsOk (m .kind) _ _ _ _) _ w) in
-    ltb-true (toOf b) 13 (left-true (ltb (m .to) 13) _ (right-true (ltb (m .from) 13) _ n))
+    ltb-true (toOf b) nodes (left-true (ltb (m .to) nodes) _ (right-true (ltb (m .from) nodes) _ n))
 
 module _ (I R P O : List ℕ) (k : ℕ) (kept : Bool) where
   abbrev B : Buffers
@@ -146,7 +148,7 @@ module _ (I R P O : List ℕ) (k : ℕ) (kept : Bool) where
       is-m : messageIn B k ≡ m
       is-m = getD-waiting P k h
 
-      node : toOf m < 13
+      node : toOf m < nodes
       node = receiver-node m e
 
       arrives : step st (delivery k kept) ≡ arriving st k kept m

@@ -9,6 +9,8 @@ use lib.Dec.{eqb, ltb}
 use lib.ListN.{length, take, drop, take-append-drop}
 use lib.Seq.{take-append-seam}
 use borrow.Author.Tests.{eq-eqb, ne-eqb, eqb-true, eqb-false, lt-ltb, ltb-true, not-false}
+use Rattle.image.specs.Layout.{imageSize, shape}
+use Rattle.numbers.specs.Sizes.{nodes, longestMessage, mostWaiting}
 use Rattle.wire.specs.Encode.{encode}
 use Rattle.wire.specs.Decode.{decode, checkOf}
 use Rattle.wire.proofs.Theorems.{length-bounds}
@@ -29,11 +31,12 @@ use Rattle.record.specs.declared.Called.{Called}
 use Rattle.record.specs.Record.{bytesOf}
 use Rattle.record.specs.Record.{check as checkRecord}
 use Rattle.record.specs.Call.{called, toldBy, calledOf, kept, recordAfter}
-use Rattle.record.specs.Call.{receivedOf as calledBy}
-use Rattle.record.proofs.OnBytes.{long-answer}
+use Rattle.record_arrive.specs.Call.{receivedOf as calledBy}
+use Rattle.record_arrive.proofs.OnBytes.{long-answer}
 use Rattle.steps.specs.Station.{Station, putAt}
 use Rattle.steps.specs.Step.{Outcome, refusedWith, answered, atReplica, atCoordinator}
-use Rattle.buffers.specs.Buffers.{recordAt, recordFirst, imageAt, withImageAt, imageIn, withRecordAt, recordIn, stationOf, answerWith, told, recordsAfter}
+use Rattle.buffers.specs.Buffers.{recordAt, recordFirst, imageAt, withImageAt, imageIn, withRecordAt}
+use Rattle.buffers.specs.Buffers.{recordIn, stationOf, answerWith, told, recordsAfter, recordsSize}
 use Rattle.buffers.specs.Buffers.{all}
 use Rattle.station.specs.Messages.{handedOver, imagesAfter, leaving, exchanged, putInto, blocked}
 use Rattle.station.proofs.Waiting.{there-of, check-leaving}
@@ -53,31 +56,31 @@ not-said true e = e
 not-said false e = refl
 
 -- ---- a node's own image
-pub image-in : (I : List ℕ) (n : ℕ) → n < 13 → imageIn I n ≡ imageAt I n
+pub image-in : (I : List ℕ) (n : ℕ) → n < nodes → imageIn I n ≡ imageAt I n
 unfolding imageIn
-image-in I n h = simp (lt-ltb n 13 h)
+image-in I n h = simp (lt-ltb n nodes h)
 
 pub image-same : (I : List ℕ) (n : ℕ) → withImageAt I n (imageAt I n) ≡ I
 unfolding withImageAt imageAt
-image-same I n = splice-same 1207 (1207 * n) I
+image-same I n = splice-same (imageSize shape) (imageSize shape * n) I
 
 -- ---- what a replica brings about: a refusal that changes nothing, or a step whose answer is well formed
 unfoldable pub Brought : List ℕ → Delivered → Type 0
 Brought l d = ((d .number ≡ 0 → ⊥) × (d .image ≡ l) × (d .answer ≡ silent)) ⊎ ((d .number ≡ 0) × Fine (d .answer))
 
-pub brought : (l : List ℕ) (n : ℕ) (b : List ℕ) → Brought l (deliver 128 l n b)
+pub brought : (l : List ℕ) (n : ℕ) (b : List ℕ) → Brought l (deliver longestMessage l n b)
 unfolding Brought
-brought l n b = by (eqb (refusal 128 l n b) 0) refl
+brought l n b = by (eqb (refusal longestMessage l n b) 0) refl
   where
-    by : (t : Bool) → eqb (refusal 128 l n b) 0 ≡ t → Brought l (deliver 128 l n b)
+    by : (t : Bool) → eqb (refusal longestMessage l n b) 0 ≡ t → Brought l (deliver longestMessage l n b)
     by true e =
-        let z = eqb-true (refusal 128 l n b) 0 e in
-        let k = cleared 128 l n b z in
+        let z = eqb-true (refusal longestMessage l n b) 0 e in
+        let k = cleared longestMessage l n b z in
         let f = step-fine n l (decode b) (named-of n (decode b) (k .node) (k .formed)) (entries-of (decode b) (k .formed)) in
-        subst (Brought l) (sym (delivered-is 128 l n b z)) (inr (f .1, f .0))
+        subst (Brought l) (sym (delivered-is longestMessage l n b z)) (inr (f .1, f .0))
     by false e =
-        let z = eqb-false (refusal 128 l n b) 0 e in
-        subst (Brought l) (sym (refused-is 128 l n b z)) (inl (z, refl, refl))
+        let z = eqb-false (refusal longestMessage l n b) 0 e in
+        subst (Brought l) (sym (refused-is longestMessage l n b z)) (inl (z, refl, refl))
 
 -- the bytes of an answer, as they stand at the front of the buffer
 unfoldable pub said : Answer → List ℕ
@@ -89,7 +92,7 @@ unfolding lengthOf filled said
 said-first silent out = refl
 said-first (says m) out = take-append-seam (encode m) (drop (length (encode m)) out)
 
-pub said-fits : (a : Answer) → Fine a → length (said a) ≤ 128
+pub said-fits : (a : Answer) → Fine a → length (said a) ≤ longestMessage
 unfolding said
 said-fits silent f = omega arith
 said-fits (says m) f = length-bounds m f .1
@@ -105,18 +108,18 @@ module _ (I R P O : List ℕ) (n k : ℕ) (kept : Bool) where
   st = stationOf (all I R P O)
 
   abbrev full : Bool
-  full = not (ltb (count P) 128)
+  full = not (ltb (count P) mostWaiting)
 
   -- the outcome of what the replica brings about
   unfoldable pub by : Delivered → Outcome
   by d = cond (eqb (d .number) 0) (answered st k kept n (d .image) (d .answer)) (refusedWith (d .number) st)
 
-  pub at-is : n < 13 → atReplica st k kept n (messageAt P k) ≡ by (deliver 128 (imageAt I n) n (messageAt P k))
+  pub at-is : n < nodes → atReplica st k kept n (messageAt P k) ≡ by (deliver longestMessage (imageAt I n) n (messageAt P k))
   unfolding atReplica by
-  at-is h = ap (λ (l : List ℕ). by (deliver 128 l n (messageAt P k))) (image-in I n h)
+  at-is h = ap (λ (l : List ℕ). by (deliver longestMessage l n (messageAt P k))) (image-in I n h)
 
-  full-is : not (ltb (length (waiting P)) 128) ≡ full
-  full-is = ap (λ (m : ℕ). not (ltb m 128)) (length-waiting P)
+  full-is : not (ltb (length (waiting P)) mostWaiting) ≡ full
+  full-is = ap (λ (m : ℕ). not (ltb m mostWaiting)) (length-waiting P)
 
   -- refused
   pub refused-all : (d : Delivered) → (d .number ≡ 0 → ⊥)
@@ -140,11 +143,11 @@ module _ (I R P O : List ℕ) (n k : ℕ) (kept : Bool) where
 
   -- taken: the image changed, the answer at the end of what is left
   module _ (p : check P ≡ 0) (w : k < count P) where
-    pub has-room : (kept && full) ≡ false → (m : ℕ) → m ≤ 128 → Room (leaving P k kept) m
+    pub has-room : (kept && full) ≡ false → (m : ℕ) → m ≤ longestMessage → Room (leaving P k kept) m
     has-room h m f = go kept h
       where
         go : (b : Bool) → (b && full) ≡ false → Room (leaving P k b) m
-        go true q = record { pool = fine P p; size = f; slot = ltb-true (count P) 128 (not-false (ltb (count P) 128) q) }
+        go true q = record { pool = fine P p; size = f; slot = ltb-true (count P) mostWaiting (not-false (ltb (count P) mostWaiting) q) }
         go false q =
             let t = there-of P k p w in
             let n = count-removed P k t in
@@ -180,9 +183,9 @@ module _ (I R P O : List ℕ) (n k : ℕ) (kept : Bool) where
   Leaves a i p o = (a ≡ told 0 o) × ((i ≡ imagesAfter 0 o n I) × (p ≡ exchanged 0 o k kept P))
 
   abbrev d : Delivered
-  d = deliver 128 (imageAt I n) n (messageAt P k)
+  d = deliver longestMessage (imageAt I n) n (messageAt P k)
 
-  pub blocked-here : n < 13 → blocked I P n k kept ≡ true → Leaves (answerWith 12 0) I P (atReplica st k kept n (messageAt P k))
+  pub blocked-here : n < nodes → blocked I P n k kept ≡ true → Leaves (answerWith 12 0) I P (atReplica st k kept n (messageAt P k))
   unfolding blocked Brought spoken
   blocked-here h b = subst (Leaves (answerWith 12 0) I P) (sym (at-is h)) (go (brought (imageAt I n) n (messageAt P k)))
     where
@@ -190,7 +193,7 @@ module _ (I R P O : List ℕ) (n k : ℕ) (kept : Bool) where
       go (inl z) = absurd (none-said (kept && full) (ap (λ (a : Answer). (kept && full) && spoken a) (sym (z .2)) ∙ b))
       go (inr z) = blocked-all d (z .0) b
 
-  pub refused-here : n < 13 → (r : Received) → r ≡ receivedOf d → (r .number ≡ 0 → ⊥)
+  pub refused-here : n < nodes → (r : Received) → r ≡ receivedOf d → (r .number ≡ 0 → ⊥)
       → Leaves (answerWith (r .number) 0) (withImageAt I n (d .image)) P (atReplica st k kept n (messageAt P k))
   unfolding Brought
   refused-here h r e f = subst (Leaves (answerWith (r .number) 0) (withImageAt I n (d .image)) P) (sym (at-is h))
@@ -204,7 +207,7 @@ module _ (I R P O : List ℕ) (n k : ℕ) (kept : Bool) where
           (ap (λ (j : ℕ). answerWith j 0) number ∙ t .0, (ap (withImageAt I n) (z .1) ∙ image-same I n ∙ t .1 .0, t .1 .1))
       go (inr z) = absurd (f (number ∙ z .0))
 
-  pub taken-here : n < 13 → check P ≡ 0 → k < count P → (r : Received) → r ≡ receivedOf d → r .number ≡ 0 → blocked I P n k kept ≡ false
+  pub taken-here : n < nodes → check P ≡ 0 → k < count P → (r : Received) → r ≡ receivedOf d → r .number ≡ 0 → blocked I P n k kept ≡ false
       → (out l : List ℕ) → l ≡ filled (d .answer) out → (j : ℕ) → j ≡ r .length
       → Leaves (answerWith 0 0) (withImageAt I n (d .image))
       (cond (ltb 0 (length (take j l))) (addAfter (leaving P k kept) (take j l)) (leaving P k kept)) (atReplica st k kept n (messageAt P k))
@@ -222,12 +225,12 @@ module _ (I R P O : List ℕ) (n k : ℕ) (kept : Bool) where
       go (inl z) = absurd (z .0 (sym (ap (λ (x : Received). x .number) e) ∙ f))
       go (inr z) = let t = taken-all p w d (z .0) (z .1) b in (t .0, (t .1 .0, ap ends bytes ∙ t .1 .1))
 
-  pub fits-here : (r : Received) → r ≡ receivedOf d → r .length ≤ 128
+  pub fits-here : (r : Received) → r ≡ receivedOf d → r .length ≤ longestMessage
   unfolding Brought
-  fits-here r e = subst (λ (j : ℕ). j ≤ 128) (sym (ap (λ (x : Received). x .length) e ∙ length-said (d .answer)))
+  fits-here r e = subst (λ (j : ℕ). j ≤ longestMessage) (sym (ap (λ (x : Received). x .length) e ∙ length-said (d .answer)))
       (go (brought (imageAt I n) n (messageAt P k)))
     where
-      go : Brought (imageAt I n) d → length (said (d .answer)) ≤ 128
+      go : Brought (imageAt I n) d → length (said (d .answer)) ≤ longestMessage
       go (inl z) = said-fits (d .answer) (subst Fine (sym (z .2)) tt)
       go (inr z) = said-fits (d .answer) (z .1)
 
@@ -258,7 +261,7 @@ module _ (I R P O : List ℕ) (n k : ℕ) (kept : Bool) where
       )
 
   -- no image changes
-  pub images-kept : n < 13 → I ≡ imagesAfter 0 there n I
+  pub images-kept : n < nodes → I ≡ imagesAfter 0 there n I
   unfolding imagesAfter atCoordinator
   images-kept h = go (eqb (got .number) 0) refl
     where
@@ -267,7 +270,7 @@ module _ (I R P O : List ℕ) (n k : ℕ) (kept : Bool) where
       go false e = simp e
 
   -- whatever the record's number is
-  pub images-first : n < 13 → (j : ℕ) → I ≡ imagesAfter j there n I
+  pub images-first : n < nodes → (j : ℕ) → I ≡ imagesAfter j there n I
   unfolding imagesAfter
   images-first h j = by (eqb j 0) refl
     where
@@ -276,7 +279,7 @@ module _ (I R P O : List ℕ) (n k : ℕ) (kept : Bool) where
       by false e = simp e
 
 -- ---- a coordinator that works on its record's bytes: damaged bytes are refused, else the call decides
-module _ (I R P O : List ℕ) (n k : ℕ) (stays : Bool) (h : n < 13) (long : length R ≡ 3913) (well : checkOf (messageAt P k) ≡ 0) where
+module _ (I R P O : List ℕ) (n k : ℕ) (stays : Bool) (h : n < nodes) (long : length R ≡ recordsSize) (well : checkOf (messageAt P k) ≡ 0) where
   abbrev f : Coordinator → Step
   f c = receiveOf tree c n (messageAt P k)
 

@@ -9,13 +9,14 @@ use lib.Dec.{eqb, ltb}
 use lib.ListN.{length, take, drop}
 use lib.Seq.{take-append-seam}
 use borrow.Author.Tests.{eq-eqb, ne-eqb, eqb-true, eqb-false, lt-ltb, le-ltb, ltb-true, not-false}
+use Rattle.numbers.specs.Sizes.{nodes, objects, longestMessage, mostWaiting}
 use Rattle.mask.specs.Mask.{contains}
 use Rattle.numbers.specs.Refusal.{firstOf}
-use Rattle.wire.specs.declared.Written.{Written}
+use Rattle.letters.specs.declared.Written.{Written}
 use Rattle.wire.specs.Message.{Message}
 use Rattle.wire.specs.Formed.{wellFormed}
 use Rattle.wire.specs.Encode.{encode}
-use Rattle.wire.specs.Write.{answer, writtenOf, bufferAfter}
+use Rattle.letters.specs.Write.{answer, writtenOf, bufferAfter}
 use Rattle.wire.proofs.Theorems.{length-bounds}
 use Rattle.coordinator.specs.declared.Coordinator.{Coordinator}
 use Rattle.coordinator.specs.System.{tree}
@@ -23,15 +24,16 @@ use Rattle.coordinator.specs.State.{isOpen}
 use Rattle.due.specs.Kind.{dueKind, dueRefusals}
 use Rattle.due.specs.Due.{messageDue, writeRefusals, isDue, dueWritten, dueBuffer}
 use Rattle.record.specs.Record.{check}
-use Rattle.record.specs.Call.{dueFirst, recordDue, recordDueBuffer}
+use Rattle.record_due.specs.Call.{dueFirst, recordDue, recordDueBuffer}
 use Rattle.pool.specs.Pool as pool
-use Rattle.pool.specs.Pool.{count, waiting}
+use Rattle.pool.specs.Pool.{count, waiting, poolSize}
 use Rattle.pool.specs.Change.{added, addNumber, addAfter}
 use Rattle.pool.proofs.Numbers.{Room, fine, room-number, add-after}
 use Rattle.pool.proofs.Laws.{length-waiting}
 use Rattle.steps.specs.Station.{Station}
 use Rattle.steps.specs.Step.{Outcome, whenOff, sendNumber, sendOf, step}
-use Rattle.buffers.specs.Buffers.{onOf, recordAt, recordIn, recordDamaged, wrong, ownDamaged, stationOf, answerWith, told, hostFirst, endsFirst}
+use Rattle.buffers.specs.Buffers.{onOf, recordAt, recordIn, recordDamaged, wrong, ownDamaged}
+use Rattle.buffers.specs.Buffers.{stationOf, answerWith, told, hostFirst, endsFirst, recordsSize, ownSize}
 use Rattle.station.specs.Messages.{lower, poolAfter, putInto, sending, sendFirst, sendTold, sendPool, owedAt, owedInto}
 use Rattle.buffers.proofs.Records.{damaged-two, damaged-is}
 use Rattle.steps.proofs.Nodes.{off-number}
@@ -52,7 +54,7 @@ module _ (c : Coordinator) (n to object : ℕ) where
   message = messageDue c n to object (dueKind tree c to object)
 
   abbrev written : Written
-  written = dueWritten tree 128 c n to object
+  written = dueWritten tree longestMessage c n to object
 
   -- each case with what the writer gives
   pub Case : Written → Type 0
@@ -62,7 +64,7 @@ module _ (c : Coordinator) (n to object : ℕ) where
       ⊎ (((refusal ≡ 0) × (kind ≡ 0 → ⊥) × (wellFormed message ≡ false) × (w ≡ answer 3 0))
       ⊎ ((refusal ≡ 0) × (kind ≡ 0 → ⊥) × (wellFormed message ≡ true) × (w ≡ answer 0 (length (encode message))))))
 
-  pub cases : (w : Written) → w ≡ dueWritten tree 128 c n to object → Case w
+  pub cases : (w : Written) → w ≡ dueWritten tree longestMessage c n to object → Case w
   unfolding Case dueWritten isDue writeRefusals writtenOf
   cases w e = by (eqb refusal 0) (eqb kind 0) (wellFormed message) refl refl refl
     where
@@ -79,7 +81,7 @@ module _ (c : Coordinator) (n to object : ℕ) where
           inr (inr (inr (eqb-true refusal 0 p, z, r, e ∙ simp (p, lt-ltb 0 kind (above kind z), r))))
 
   -- a message's bytes at the front of the buffer
-  pub filled : (w : Written) → w ≡ dueWritten tree 128 c n to object → 0 < w .length → (out : List ℕ) → length out ≡ 128
+  pub filled : (w : Written) → w ≡ dueWritten tree longestMessage c n to object → 0 < w .length → (out : List ℕ) → length out ≡ longestMessage
       → (wellFormed message ≡ true) × (take (w .length) (dueBuffer tree c n to object out) ≡ encode message)
   unfolding Case dueBuffer isDue writeRefusals bufferAfter
   filled w e h out d = by (cases w e)
@@ -100,14 +102,14 @@ module _ (c : Coordinator) (n to object : ℕ) where
                 ∙ take-append-seam (encode message) (drop (length (encode message)) out)),
           )
 
-  pub written-fits : (w : Written) → w ≡ dueWritten tree 128 c n to object → w .length ≤ 128
+  pub written-fits : (w : Written) → w ≡ dueWritten tree longestMessage c n to object → w .length ≤ longestMessage
   unfolding Case
   written-fits w e = by (cases w e)
     where
-      none : (k : ℕ) → w ≡ answer k 0 → w .length ≤ 128
+      none : (k : ℕ) → w ≡ answer k 0 → w .length ≤ longestMessage
       none k p = let z : w .length ≡ 0 = ap (λ (x : Written). x .length) p in omega arith
 
-      by : Case w → w .length ≤ 128
+      by : Case w → w .length ≤ longestMessage
       by (inl p) = none _ (p .1)
       by (inr (inl p)) = none 0 (p .2)
       by (inr (inr (inl p))) = none 3 (p .3)
@@ -117,24 +119,24 @@ module _ (c : Coordinator) (n to object : ℕ) where
           omega arith
 
 -- ---- what is due at a node, by whether its record is one
-module _ (R : List ℕ) (n to object : ℕ) (h : n < 13) (k : length R ≡ 3913) where
-  pub due-here : (size : ℕ) → size ≡ 128 → recordDue (recordAt R n) n to object size ≡ owedAt R n to object
+module _ (R : List ℕ) (n to object : ℕ) (h : n < nodes) (k : length R ≡ recordsSize) where
+  pub due-here : (size : ℕ) → size ≡ longestMessage → recordDue (recordAt R n) n to object size ≡ owedAt R n to object
   unfolding recordDue dueFirst recordIn owedAt
   due-here size e = by (eqb (check (recordAt R n)) 0) refl
     where
-      t : ltb n 13 ≡ true
-      t = lt-ltb n 13 h
+      t : ltb n nodes ≡ true
+      t = lt-ltb n nodes h
 
       by : (b : Bool) → eqb (check (recordAt R n)) 0 ≡ b → recordDue (recordAt R n) n to object size ≡ owedAt R n to object
       by true q = simp (e, eqb-true (check (recordAt R n)) 0 q, damaged-is R n h true q, t)
       by false q = simp (e, damaged-two R n h k (eqb-false (check (recordAt R n)) 0 q), damaged-is R n h false q, t)
 
-  pub put-here : (l : List ℕ) → length l ≡ 128 → recordDueBuffer (recordAt R n) n to object l ≡ owedInto R n to object l
+  pub put-here : (l : List ℕ) → length l ≡ longestMessage → recordDueBuffer (recordAt R n) n to object l ≡ owedInto R n to object l
   unfolding recordDueBuffer dueFirst recordIn owedInto
   put-here l e = by (eqb (check (recordAt R n)) 0) refl
     where
-      t : ltb n 13 ≡ true
-      t = lt-ltb n 13 h
+      t : ltb n nodes ≡ true
+      t = lt-ltb n nodes h
 
       by : (b : Bool) → eqb (check (recordAt R n)) 0 ≡ b → recordDueBuffer (recordAt R n) n to object l ≡ owedInto R n to object l
       by true q = simp (e, eqb-true (check (recordAt R n)) 0 q, damaged-is R n h true q, t)
@@ -149,17 +151,17 @@ not-two false false q = absurd (let z : ⊥ = omega arith in z)
 refusal-two : (c : Coordinator) (n to object : ℕ) → firstOf (dueRefusals c n to object) ≡ 2 → ⊥
 unfolding dueRefusals
 refusal-two c n to object =
-    not-two (not (ltb n 13) || not (ltb to 13)) (eqb (c .phase) 1 && (not (ltb object 64) || not (isOpen c object)))
+    not-two (not (ltb n nodes) || not (ltb to nodes)) (eqb (c .phase) 1 && (not (ltb object objects) || not (isOpen c object)))
 
 module _ (R : List ℕ) (n to object : ℕ) (w : Written) (d : w ≡ owedAt R n to object) where
-  due-two : dueWritten tree 128 (recordIn R n) n to object .number ≡ 2 → ⊥
+  due-two : dueWritten tree longestMessage (recordIn R n) n to object .number ≡ 2 → ⊥
   unfolding Case
   due-two e = by (cases (recordIn R n) n to object _ refl)
     where
-      of : (k : ℕ) → dueWritten tree 128 (recordIn R n) n to object ≡ answer k 0 → k ≡ 2
+      of : (k : ℕ) → dueWritten tree longestMessage (recordIn R n) n to object ≡ answer k 0 → k ≡ 2
       of k p = sym (ap (λ (x : Written). x .number) p) ∙ e
 
-      by : Case (recordIn R n) n to object (dueWritten tree 128 (recordIn R n) n to object) → ⊥
+      by : Case (recordIn R n) n to object (dueWritten tree longestMessage (recordIn R n) n to object) → ⊥
       by (inl p) = refusal-two (recordIn R n) n to object (of (refusal (recordIn R n) n to object) (p .1))
       by (inr (inl p)) = let z : _≡_ {A = ℕ} 0 2 = of 0 (p .2) in absurd (let y : ⊥ = omega arith in y)
       by (inr (inr (inl p))) = let z : _≡_ {A = ℕ} 3 2 = of 3 (p .3) in absurd (let y : ⊥ = omega arith in y)
@@ -174,14 +176,14 @@ module _ (R : List ℕ) (n to object : ℕ) (w : Written) (d : w ≡ owedAt R n 
       by : (b : Bool) → recordDamaged R n ≡ b → recordDamaged R n ≡ true
       by true q = q
       by false q =
-          let z : w ≡ dueWritten tree 128 (recordIn R n) n to object = d ∙ simp q in
+          let z : w ≡ dueWritten tree longestMessage (recordIn R n) n to object = d ∙ simp q in
           absurd (due-two (sym (ap (λ (x : Written). x .number) z) ∙ e))
 
-  pub owed-due : (w .number ≡ 2 → ⊥) → (recordDamaged R n ≡ false) × (w ≡ dueWritten tree 128 (recordIn R n) n to object)
+  pub owed-due : (w .number ≡ 2 → ⊥) → (recordDamaged R n ≡ false) × (w ≡ dueWritten tree longestMessage (recordIn R n) n to object)
   unfolding owedAt
   owed-due e = by (recordDamaged R n) refl
     where
-      by : (b : Bool) → recordDamaged R n ≡ b → (recordDamaged R n ≡ false) × (w ≡ dueWritten tree 128 (recordIn R n) n to object)
+      by : (b : Bool) → recordDamaged R n ≡ b → (recordDamaged R n ≡ false) × (w ≡ dueWritten tree longestMessage (recordIn R n) n to object)
       by true q = absurd (e (ap (λ (x : Written). x .number) d ∙ simp q))
       by false q = (q, d ∙ simp q)
 
@@ -215,11 +217,11 @@ module _ (R P O : List ℕ) (n : ℕ) where
 
   pub send-first : (lower (endsFirst (length R) O) (pool.check P) ≡ 0 → ⊥) → lower (endsFirst (length R) O) (pool.check P) ≡ sendFirst (sending R P O) n
   unfolding sendFirst hostFirst endsFirst pool.check
-  send-first = rest (wrong R 3913 || wrong O 2) (ownDamaged O) (recordDamaged R n) (not (eqb (length P) 16513)) (ltb 128 (count P)) .0
+  send-first = rest (wrong R recordsSize || wrong O ownSize) (ownDamaged O) (recordDamaged R n) (not (eqb (length P) poolSize)) (ltb mostWaiting (count P)) .0
 
   pub send-next : lower (endsFirst (length R) O) (pool.check P) ≡ 0 → sendFirst (sending R P O) n ≡ cond (recordDamaged R n) 2 0
   unfolding sendFirst hostFirst endsFirst pool.check
-  send-next = rest (wrong R 3913 || wrong O 2) (ownDamaged O) (recordDamaged R n) (not (eqb (length P) 16513)) (ltb 128 (count P)) .1
+  send-next = rest (wrong R recordsSize || wrong O ownSize) (ownDamaged O) (recordDamaged R n) (not (eqb (length P) poolSize)) (ltb mostWaiting (count P)) .1
 
 pub pool-first : (n m : ℕ) (o : Outcome) (l : List ℕ) → n ≡ m → (n ≡ 0 → ⊥) → l ≡ poolAfter m o l
 unfolding poolAfter
@@ -234,7 +236,7 @@ module _ (R P O : List ℕ) (n to object : ℕ) where
   o = sendOf (stationOf (sending R P O)) n to object
 
   -- the node is off
-  pub off-told : contains (onOf O) n ≡ false → (w : Written) → w ≡ dueWritten tree 128 c n to object → answerWith (whenOff (w .number)) 0 ≡ told 0 o
+  pub off-told : contains (onOf O) n ≡ false → (w : Written) → w ≡ dueWritten tree longestMessage c n to object → answerWith (whenOff (w .number)) 0 ≡ told 0 o
   unfolding told sendOf sendNumber Case
   off-told e w d =
       ap (λ (k : ℕ). answerWith k 0) (by (cases c n to object w d))
@@ -250,7 +252,7 @@ module _ (R P O : List ℕ) (n to object : ℕ) where
   unfolding poolAfter sendOf sendNumber
   off-left e = let h = ne-eqb (whenOff (refusal c n to object)) 0 (off-number (refusal c n to object)) in simp (e, h)
 
-  module _ (e : contains (onOf O) n ≡ true) (w : Written) (d : w ≡ dueWritten tree 128 c n to object) where
+  module _ (e : contains (onOf O) n ≡ true) (w : Written) (d : w ≡ dueWritten tree longestMessage c n to object) where
     -- the number where it is not the pool's
     stop-both : (w .number ≡ 0 → ⊥) → (answerWith (w .number) 0 ≡ told 0 o) × (P ≡ poolAfter 0 o P)
     unfolding told poolAfter sendOf sendNumber Case
@@ -274,12 +276,12 @@ module _ (R P O : List ℕ) (n to object : ℕ) where
     stop-left h = stop-both h .1
 
     -- the pool is full
-    full-both : w .number ≡ 0 → 128 ≤ count P → (answerWith 12 0 ≡ told 0 o) × (P ≡ poolAfter 0 o P)
+    full-both : w .number ≡ 0 → mostWaiting ≤ count P → (answerWith 12 0 ≡ told 0 o) × (P ≡ poolAfter 0 o P)
     unfolding told poolAfter sendOf sendNumber Case
     full-both h f = by (cases c n to object w d)
       where
-        s : ltb (length (waiting P)) 128 ≡ false
-        s = ap (λ (k : ℕ). ltb k 128) (length-waiting P) ∙ le-ltb (count P) 128 f
+        s : ltb (length (waiting P)) mostWaiting ≡ false
+        s = ap (λ (k : ℕ). ltb k mostWaiting) (length-waiting P) ∙ le-ltb (count P) mostWaiting f
 
         by : Case c n to object w → (answerWith 12 0 ≡ told 0 o) × (P ≡ poolAfter 0 o P)
         by (inl p) = absurd (p .0 (sym (ap (λ (x : Written). x .number) (p .1)) ∙ h))
@@ -295,20 +297,20 @@ module _ (R P O : List ℕ) (n to object : ℕ) where
             let u = ne-eqb (kind c n to object) 0 (p .1) in
             (simp (e, t, u, p .2, s), simp (e, t, u, p .2, s))
 
-    pub full-told : w .number ≡ 0 → 128 ≤ count P → answerWith 12 0 ≡ told 0 o
+    pub full-told : w .number ≡ 0 → mostWaiting ≤ count P → answerWith 12 0 ≡ told 0 o
     full-told h f = full-both h f .0
 
-    pub full-left : w .number ≡ 0 → 128 ≤ count P → P ≡ poolAfter 0 o P
+    pub full-left : w .number ≡ 0 → mostWaiting ≤ count P → P ≡ poolAfter 0 o P
     full-left h f = full-both h f .1
 
     -- a message goes, or nothing is due
-    gone-both : w .number ≡ 0 → count P < 128 → (answerWith 0 0 ≡ told 0 o)
+    gone-both : w .number ≡ 0 → count P < mostWaiting → (answerWith 0 0 ≡ told 0 o)
         × ((w .length ≤ 0 → P ≡ poolAfter 0 o P) × (0 < w .length → added P (encode (message c n to object)) ≡ poolAfter 0 o P))
     unfolding told poolAfter putInto sendOf sendNumber Case
     gone-both h f = by (cases c n to object w d)
       where
-        s : ltb (length (waiting P)) 128 ≡ true
-        s = ap (λ (k : ℕ). ltb k 128) (length-waiting P) ∙ lt-ltb (count P) 128 f
+        s : ltb (length (waiting P)) mostWaiting ≡ true
+        s = ap (λ (k : ℕ). ltb k mostWaiting) (length-waiting P) ∙ lt-ltb (count P) mostWaiting f
 
         by : Case c n to object w → (answerWith 0 0 ≡ told 0 o)
             × ((w .length ≤ 0 → P ≡ poolAfter 0 o P) × (0 < w .length → added P (encode (message c n to object)) ≡ poolAfter 0 o P))
@@ -329,18 +331,19 @@ module _ (R P O : List ℕ) (n to object : ℕ) where
             let b = length-bounds (message c n to object) v .0 in
             (simp (e, t, u, v, s), ((λ q. absurd (let y : ⊥ = omega arith in y)), (λ q. simp (e, t, u, v, s))))
 
-    pub gone-told : w .number ≡ 0 → count P < 128 → answerWith 0 0 ≡ told 0 o
+    pub gone-told : w .number ≡ 0 → count P < mostWaiting → answerWith 0 0 ≡ told 0 o
     gone-told h f = gone-both h f .0
 
-    pub idle-left : w .number ≡ 0 → count P < 128 → w .length ≤ 0 → P ≡ poolAfter 0 o P
+    pub idle-left : w .number ≡ 0 → count P < mostWaiting → w .length ≤ 0 → P ≡ poolAfter 0 o P
     idle-left h f = gone-both h f .1 .0
 
-    pub sent-put : w .number ≡ 0 → count P < 128 → 0 < w .length → added P (encode (message c n to object)) ≡ poolAfter 0 o P
+    pub sent-put : w .number ≡ 0 → count P < mostWaiting → 0 < w .length → added P (encode (message c n to object)) ≡ poolAfter 0 o P
     sent-put h f = gone-both h f .1 .1
 
   -- what the pool's own addition gives
-  pub sent-both : contains (onOf O) n ≡ true → (w : Written) → w ≡ dueWritten tree 128 c n to object → w .number ≡ 0 → count P < 128 → 0 < w .length
-      → pool.check P ≡ 0 → (out l : List ℕ) → length out ≡ 128 → l ≡ dueBuffer tree c n to object out → (j : ℕ) → j ≡ w .length
+  pub sent-both : contains (onOf O) n ≡ true → (w : Written) → w ≡ dueWritten tree longestMessage c n to object → w .number ≡ 0
+      → count P < mostWaiting → 0 < w .length
+      → pool.check P ≡ 0 → (out l : List ℕ) → length out ≡ longestMessage → l ≡ dueBuffer tree c n to object out → (j : ℕ) → j ≡ w .length
       → (answerWith (addNumber P (length (take j l))) 0 ≡ told 0 o) × (addAfter P (take j l) ≡ poolAfter 0 o P)
   sent-both e w d h f g p out l u q j i =
       let m = encode (message c n to object) in

@@ -5,6 +5,7 @@ use mathlib.Core.List.{List}
 use Prim.Native.Nat.{ℕ, _<_}
 use lib.Dec.{ltb, leb}
 use borrow.Author.Tests.{lt-ltb, le-ltb, leb-true, leb-false}
+use Rattle.numbers.specs.Sizes.{mostWaiting}
 use Rattle.pool.specs.Pool.{count, check}
 use Rattle.pool.specs.Change.{removed, removeAfter}
 use Rattle.pool.proofs.Numbers.{There, fine, remove-after}
@@ -24,9 +25,9 @@ check-leaving P k true e h = e
 check-leaving P k false e h = check-removed P k (there-of P k e h)
 
 -- a pool is full as the code tests it
-pub full-as : (n m : ℕ) → n ≡ m → leb 128 n ≡ not (ltb m 128)
-full-as n m e = ap (leb 128) e ∙ by (leb 128 m) refl
+pub full-as : (n m : ℕ) → n ≡ m → leb mostWaiting n ≡ not (ltb m mostWaiting)
+full-as n m e = ap (leb mostWaiting) e ∙ by (leb mostWaiting m) refl
   where
-    by : (b : Bool) → leb 128 m ≡ b → b ≡ not (ltb m 128)
-    by true t = ap not (sym (le-ltb m 128 (leb-true 128 m t)))
-    by false t = ap not (sym (lt-ltb m 128 (leb-false 128 m t)))
+    by : (b : Bool) → leb mostWaiting m ≡ b → b ≡ not (ltb m mostWaiting)
+    by true t = ap not (sym (le-ltb m mostWaiting (leb-true mostWaiting m t)))
+    by false t = ap not (sym (lt-ltb m mostWaiting (leb-false mostWaiting m t)))

@@ -5,21 +5,22 @@ use mathlib.Core.List.{List, [], _∷_}
 use Prim.Native.Nat.{ℕ}
 use lib.Dec.{eqb, ltb}
 use lib.ListN.{length, getD}
+use Rattle.numbers.specs.Sizes.{longestMessage, mostWaiting}
 use Rattle.numbers.specs.Numbers.{wrongLength, damaged}
 use Rattle.numbers.specs.Refusal.{refuse, firstOf}
 use Rattle.mask.specs.Mask.{contains}
-use Rattle.wire.specs.Decode.{kindOf, toOf, checkOf, longest}
+use Rattle.wire.specs.Decode.{kindOf, toOf, checkOf}
 use Rattle.replica.specs.Receive.{Delivered, deliver, spoken}
 use Rattle.coordinator.specs.declared.Coordinator.{Coordinator}
 use Rattle.coordinator.specs.System.{tree}
 use Rattle.arrivals.specs.Receive.{forReplica, receiveOf}
 use Rattle.record.specs.Call.{recordAfter}
-use Rattle.pool.specs.Pool.{slots, count, messageAt, waiting, check as checkPool}
+use Rattle.pool.specs.Pool.{count, messageAt, waiting, check as checkPool}
 use Rattle.pool.specs.Change.{added, addAfter, removed}
 use Rattle.buffers.specs.declared.Answer.{Answer}
 use Rattle.steps.specs.Step.{send, delivery, drop, Outcome, atReplica, atCoordinator, step}
-use Rattle.wire.specs.declared.Written.{Written}
-use Rattle.wire.specs.Write.{answer}
+use Rattle.letters.specs.declared.Written.{Written}
+use Rattle.letters.specs.Write.{answer}
 use Rattle.due.specs.Due.{dueWritten, dueBuffer}
 use Rattle.buffers.specs.Buffers.{Buffers, imagesSize, recordsSize, imageAt, withImageAt, recordAt, withRecordAt, recordIn, onOf, stationOf, recordDamaged}
 use Rattle.buffers.specs.Buffers.{recordFirst, ownNumber, hostFirst, told, goes, recordsAfter}
@@ -50,7 +51,7 @@ sendPool b n to object = poolAfter (sendFirst b n) (step (stationOf b) (send n t
 
 -- what is due, 2 where the node's record is damaged
 unfoldable pub owedAt : List ℕ → ℕ → ℕ → ℕ → Written
-owedAt records n to object = cond (recordDamaged records n) (answer damaged 0) (dueWritten tree 128 (recordIn records n) n to object)
+owedAt records n to object = cond (recordDamaged records n) (answer damaged 0) (dueWritten tree longestMessage (recordIn records n) n to object)
 
 unfoldable pub owedInto : List ℕ → ℕ → ℕ → ℕ → List ℕ → List ℕ
 owedInto records n to object l = cond (recordDamaged records n) l (dueBuffer tree (recordIn records n) n to object l)
@@ -115,7 +116,7 @@ answeredBy pool m = cond (ltb 0 (length m)) (addAfter pool m) pool
 -- a kept delivery has an answer for which there is no room
 unfoldable pub blocked : List ℕ → List ℕ → ℕ → ℕ → Bool → Bool
 blocked images pool n k kept =
-    (kept && not (ltb (count pool) slots)) && spoken (handed longest images pool n k .answer)
+    (kept && not (ltb (count pool) mostWaiting)) && spoken (handed longestMessage images pool n k .answer)
 
 -- the images after a step at node n, as the records
 unfoldable pub imagesAfter : ℕ → Outcome → ℕ → List ℕ → List ℕ

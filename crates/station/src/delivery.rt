@@ -3,10 +3,11 @@ ghost use mathlib.Core.Path.{_≡_};
 ghost use mathlib.Core.List.{List};
 ghost use Prim.Native.Nat.{ℕ, _<_};
 ghost use lib.ListN.{length};
+ghost use Rattle.numbers.specs.Sizes.{nodes};
 ghost use Rattle.wire.specs.Decode.{checkOf};
 ghost use Rattle.pool.specs.Pool.{count, messageAt};
 ghost use Rattle.pool.specs.Pool.{check as checkPool};
-ghost use Rattle.buffers.specs.Buffers.{all, told, ownNumber};
+ghost use Rattle.buffers.specs.Buffers.{all, told, ownNumber, imagesSize, recordsSize};
 ghost use Rattle.station.specs.Messages.{replicaAt, replicaImages, replicaPool, coordinatorTold, coordinatorRecords, coordinatorPool, lower};
 ghost use Rattle.station.specs.Messages.{lengthsNumber, blocked, deliveryTold, deliveryImages, deliveryRecords, deliveryPool};
 use crate::messages::exchange;
@@ -25,6 +26,7 @@ use buffers::RECORDS;
 use buffers::on;
 use buffers::own_number;
 use buffers::refused;
+use numbers::LONGEST_MESSAGE;
 use numbers::both;
 use numbers::either;
 use numbers::refuse;
@@ -43,10 +45,10 @@ fn buffers_number(images: usize, records: usize, pool: &[u8], own: &[u8]) -> u8
 
 // Whether a delivery that is kept has an answer for which there is no room.
 fn is_blocked(images: &[u8], pool: &[u8], node: u8, k: u8, kept: bool) -> bool
-    requires { ⌜ (length (now images) ≡ 15691) × (node < 13) × (checkPool (now pool) ≡ 0) × (k < count (now pool)) ⌝ }
+    requires { ⌜ (length (now images) ≡ imagesSize) × (node < nodes) × (checkPool (now pool) ≡ 0) × (k < count (now pool)) ⌝ }
     ensures { λ r. ⌜ r ≡ blocked (now (images .entry)) (now (pool .entry)) node k kept ⌝ }
 {
-    if both(kept, pool::SLOTS <= pool::count(pool)) {
+    if both(kept, numbers::MOST_WAITING <= pool::count(pool)) {
         will_answer(images, pool, node, k)
     } else {
         false
@@ -55,7 +57,7 @@ fn is_blocked(images: &[u8], pool: &[u8], node: u8, k: u8, kept: bool) -> bool
 
 // At a replica: refused, or its image changed and its answer at the pool's end.
 fn at_replica(images: &mut [u8], pool: &mut [u8], node: u8, k: u8, kept: bool) -> Answer
-    requires { ⌜ (length (now images) ≡ 15691) × (node < 13) × (checkPool (now pool) ≡ 0) × (k < count (now pool)) ⌝ }
+    requires { ⌜ (length (now images) ≡ imagesSize) × (node < nodes) × (checkPool (now pool) ≡ 0) × (k < count (now pool)) ⌝ }
     ensures { λ r. ⌜ ((R O : List ℕ) → r ≡ told 0 (replicaAt (all (now (images .entry)) R (now (pool .entry)) O) node k kept)) ⌝ }
     ensures { λ r. ⌜ ((R O : List ℕ) → now (images .exit) ≡ replicaImages (all (now (images .entry)) R (now (pool .entry)) O) node k kept) ⌝ }
     ensures { λ r. ⌜ ((R O : List ℕ) → now (pool .exit) ≡ replicaPool (all (now (images .entry)) R (now (pool .entry)) O) node k kept) ⌝ }
@@ -63,7 +65,7 @@ fn at_replica(images: &mut [u8], pool: &mut [u8], node: u8, k: u8, kept: bool) -
     if is_blocked(images, pool, node, k, kept) {
         return refused(numbers::POOL_FULL);
     }
-    let mut b = [0u8; 128];
+    let mut b = [0u8; LONGEST_MESSAGE];
     let d = hand(images, pool, node, k, &mut b);
     if d.number != 0 {
         return refused(d.number);
@@ -75,7 +77,8 @@ fn at_replica(images: &mut [u8], pool: &mut [u8], node: u8, k: u8, kept: bool) -
 
 // At a coordinator: refused, also where its record is damaged, or its record changed.
 fn at_coordinator(records: &mut [u8], pool: &mut [u8], node: u8, k: u8, kept: bool) -> Answer
-    requires { ⌜ (length (now records) ≡ 3913) × (node < 13) × (checkPool (now pool) ≡ 0) × (k < count (now pool)) × (checkOf (messageAt (now pool) k) ≡ 0) ⌝ }
+    requires { ⌜ (length (now records) ≡ recordsSize) × (node < nodes) × (checkPool (now pool) ≡ 0) × (k < count (now pool))
+        × (checkOf (messageAt (now pool) k) ≡ 0) ⌝ }
     ensures { λ r. ⌜ ((I O : List ℕ) → r ≡ coordinatorTold (all I (now (records .entry)) (now (pool .entry)) O) node k kept) ⌝ }
     ensures { λ r. ⌜ ((I O : List ℕ) → now (records .exit) ≡ coordinatorRecords (all I (now (records .entry)) (now (pool .entry)) O) node k kept) ⌝ }
     ensures { λ r. ⌜ ((I O : List ℕ) → now (pool .exit) ≡ coordinatorPool (all I (now (records .entry)) (now (pool .entry)) O) node k kept) ⌝ }

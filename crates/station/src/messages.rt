@@ -5,12 +5,13 @@ ghost use mathlib.Core.List.{List};
 ghost use Prim.Native.Nat.{_<_};
 ghost use lib.Dec.{ltb};
 ghost use lib.ListN.{length};
-ghost use Rattle.wire.specs.Decode.{kindOf, toOf, checkOf, longest};
+ghost use Rattle.numbers.specs.Sizes.{nodes, longestMessage};
+ghost use Rattle.wire.specs.Decode.{kindOf, toOf, checkOf};
 ghost use Rattle.arrivals.specs.Receive.{forReplica};
-ghost use Rattle.record.specs.Call.{receivedOf as calledBy};
+ghost use Rattle.record_arrive.specs.Call.{receivedOf as calledBy};
 ghost use Rattle.replica.specs.Receive.{receivedOf, bufferOf, spoken};
 ghost use Rattle.pool.specs.Pool.{check, count, messageAt};
-ghost use Rattle.buffers.specs.Buffers.{imageAt, recordAt};
+ghost use Rattle.buffers.specs.Buffers.{imageAt, recordAt, imagesSize, recordsSize};
 ghost use Rattle.station.specs.Messages.{handed, imagesHanded, handedOver, answeredBy, leaving};
 use crate::wide;
 use numbers::either;
@@ -57,8 +58,8 @@ pub(crate) fn is_for_replica(pool: &[u8], k: u8) -> bool
 
 // Whether a replica will answer it.
 pub(crate) fn will_answer(images: &[u8], pool: &[u8], node: u8, k: u8) -> bool
-    requires { ⌜ (length (now images) ≡ 15691) × (node < 13) × (check (now pool) ≡ 0) × (k < count (now pool)) ⌝ }
-    ensures { λ r. ⌜ r ≡ spoken (handed longest (now (images .entry)) (now (pool .entry)) node k .answer) ⌝ }
+    requires { ⌜ (length (now images) ≡ imagesSize) × (node < nodes) × (check (now pool) ≡ 0) × (k < count (now pool)) ⌝ }
+    ensures { λ r. ⌜ r ≡ spoken (handed longestMessage (now (images .entry)) (now (pool .entry)) node k .answer) ⌝ }
 {
     let first = image::SIZE * wide(node);
     let last = first + image::SIZE;
@@ -69,7 +70,7 @@ pub(crate) fn will_answer(images: &[u8], pool: &[u8], node: u8, k: u8) -> bool
 
 // Hands it to a replica, whose image is lent onward from the middle of the images.
 pub(crate) fn hand(images: &mut [u8], pool: &[u8], node: u8, k: u8, answer: &mut [u8]) -> Received
-    requires { ⌜ (length (now images) ≡ 15691) × (node < 13) × (check (now pool) ≡ 0) × (k < count (now pool)) ⌝ }
+    requires { ⌜ (length (now images) ≡ imagesSize) × (node < nodes) × (check (now pool) ≡ 0) × (k < count (now pool)) ⌝ }
     ensures number { λ r. ⌜ r ≡ receivedOf (handed (length (now (answer .entry))) (now (images .entry)) (now (pool .entry)) node k) ⌝ }
     ensures images { λ r. ⌜ now (images .exit) ≡ imagesHanded (length (now (answer .entry))) (now (images .entry)) (now (pool .entry)) node k ⌝ }
     ensures buffer { λ r. ⌜ now (answer .exit) ≡ bufferOf (now (answer .entry)) (imageAt (now (images .entry)) node) node (messageAt (now (pool .entry)) k) ⌝ }
@@ -83,7 +84,7 @@ pub(crate) fn hand(images: &mut [u8], pool: &[u8], node: u8, k: u8, answer: &mut
 
 // Hands it to a coordinator, whose record is lent onward from the middle of the records.
 pub(crate) fn hand_over(records: &mut [u8], pool: &[u8], node: u8, k: u8) -> Called
-    requires { ⌜ (length (now records) ≡ 3913) × (node < 13) × (check (now pool) ≡ 0) × (k < count (now pool)) ⌝ }
+    requires { ⌜ (length (now records) ≡ recordsSize) × (node < nodes) × (check (now pool) ≡ 0) × (k < count (now pool)) ⌝ }
     ensures number { λ r. ⌜ r ≡ calledBy node (messageAt (now (pool .entry)) k) (recordAt (now (records .entry)) node) ⌝ }
     ensures records { λ r. ⌜ now (records .exit) ≡ handedOver (now (records .entry)) (now (pool .entry)) node k ⌝ }
 {
@@ -91,7 +92,7 @@ pub(crate) fn hand_over(records: &mut [u8], pool: &[u8], node: u8, k: u8) -> Cal
     let last = first + record::SIZE;
     let start = pool::place(k);
     let end = start + pool::length(pool, k);
-    record::receive(&mut records[first..last], node, &pool[start..end])
+    record_arrive::receive(&mut records[first..last], node, &pool[start..end])
 }
 
 // It is gone, unless it is kept.

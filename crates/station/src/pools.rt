@@ -1,6 +1,8 @@
 // What the pool takes part in: a send of what is due, and a drop.
 ghost use mathlib.Core.Path.{_≡_};
 ghost use lib.ListN.{length};
+ghost use Rattle.buffers.specs.Buffers.{recordsSize};
+ghost use Rattle.numbers.specs.Sizes.{longestMessage};
 ghost use Rattle.station.specs.Messages.{owedAt, owedInto, lower, sending, sendTold, sendPool, dropping, dropTold, dropPool};
 use crate::wide;
 use buffers::Answer;
@@ -8,7 +10,9 @@ use buffers::ends_number;
 use buffers::on;
 use buffers::refused;
 use buffers::when_off;
-use wire::Written;
+use letters::Written;
+use numbers::LONGEST_MESSAGE;
+use numbers::NODES_END;
 
 // Of two numbers the lower that is not 0.
 pub(crate) fn lower(m: u8, n: u8) -> u8
@@ -23,18 +27,21 @@ pub(crate) fn lower(m: u8, n: u8) -> u8
     if m < n { m } else { n }
 }
 
-// Writes what is due where the node's record stands, 2 where that is damaged; for what is no node, what a blank record owes.
+// Writes what is due where the node's record stands, 2 where that is damaged; 4 for what is no node.
 fn write_at(records: &[u8], node: u8, to: u8, object: u8, out: &mut [u8]) -> Written
-    requires { ⌜ (length (now records) ≡ 3913) × (length (now out) ≡ 128) ⌝ }
+    requires { ⌜ (length (now records) ≡ recordsSize) × (length (now out) ≡ longestMessage) ⌝ }
     ensures { λ r. ⌜ r ≡ owedAt (now (records .entry)) node to object ⌝ }
     ensures { λ r. ⌜ now (out .exit) ≡ owedInto (now (records .entry)) node to object (now (out .entry)) ⌝ }
 {
-    if node < 13 {
+    if node < NODES_END {
         let start = record::SIZE * wide(node);
         let end = start + record::SIZE;
-        record::write_due(&records[start..end], node, to, object, out)
+        record_due::write_due(&records[start..end], node, to, object, out)
     } else {
-        due::write(coordinator::blank(), node, to, object, out)
+        Written {
+            number: numbers::STRANGER,
+            length: 0,
+        }
     }
 }
 
@@ -47,7 +54,7 @@ pub fn send(records: &[u8], pool: &mut [u8], own: &[u8], node: u8, to: u8, objec
     if number != 0 {
         return refused(number);
     }
-    let mut b = [0u8; 128];
+    let mut b = [0u8; LONGEST_MESSAGE];
     let w = write_at(records, node, to, object, &mut b);
     if w.number == numbers::DAMAGED {
         return refused(numbers::DAMAGED);
@@ -58,7 +65,7 @@ pub fn send(records: &[u8], pool: &mut [u8], own: &[u8], node: u8, to: u8, objec
     if w.number != 0 {
         return refused(w.number);
     }
-    if pool::SLOTS <= pool::count(pool) {
+    if numbers::MOST_WAITING <= pool::count(pool) {
         return refused(numbers::POOL_FULL);
     }
     let n = wide(w.length);

@@ -7,6 +7,8 @@ use native.Mathlib.Omega.{arith}
 use lib.Dec.{eqb}
 use lib.ListN.{length, take, drop}
 use borrow.Author.Tests.{eq-eqb, ne-eqb, eqb-true, eqb-false, le-ltb, ltb-false, not-true}
+use Rattle.record.specs.Layout.{recordSize}
+use Rattle.numbers.specs.Sizes.{nodes, everyNode}
 use Rattle.mask.specs.Mask.{contains}
 use Rattle.coordinator.specs.declared.Coordinator.{Coordinator}
 use Rattle.coordinator.specs.declared.Step.{Step}
@@ -18,7 +20,8 @@ use Rattle.record.specs.Call.{calledOf, kept, recordAfter}
 use Rattle.replica.proofs.Delivered.{past, or-neither}
 use Rattle.steps.specs.Station.{putAt}
 use Rattle.steps.specs.Step.{Outcome, whenOff, hosted}
-use Rattle.buffers.specs.Buffers.{withRecordAt, recordDamaged, onOf, ownDamaged, wrong, stationOf, answerWith, told, recordsAfter, ends, hostFirst, recordAt}
+use Rattle.buffers.specs.Buffers.{withRecordAt, recordDamaged, onOf, ownDamaged, wrong, stationOf, ownSize}
+use Rattle.buffers.specs.Buffers.{answerWith, told, recordsAfter, ends, hostFirst, recordAt, recordsSize}
 use Rattle.buffers.specs.Buffers.{recordIn}
 use Rattle.buffers.specs.declared.Answer.{Answer}
 use Rattle.station_calls.specs.Calls.{isOn, answerOf}
@@ -32,22 +35,22 @@ unfolding recordsAfter
 records-first n m o k l e h = simp (ne-eqb m 0 (λ z. h (e ∙ z)))
 
 pub record Sound (records own : List ℕ) (n : ℕ) : Type 0 where
-  pub records-long : length records ≡ 3913
-  pub own-long : length own ≡ 2
-  pub mask : onOf own ≤ 8191
+  pub records-long : length records ≡ recordsSize
+  pub own-long : length own ≡ ownSize
+  pub mask : onOf own ≤ everyNode
   pub fine : recordDamaged records n ≡ false
 
 pub sound : (R O : List ℕ) (n : ℕ) → hostFirst (ends R O) n ≡ 0 → Sound R O n
 unfolding hostFirst
 sound R O n e =
-    let a = past (wrong R 3913 || wrong O 2) 0 _ e in
-    let w = or-neither (wrong R 3913) (wrong O 2) (a .0) in
+    let a = past (wrong R recordsSize || wrong O ownSize) 0 _ e in
+    let w = or-neither (wrong R recordsSize) (wrong O ownSize) (a .0) in
     let b = past (ownDamaged O) 1 _ (a .1) in
     let d = past (recordDamaged R n) 1 0 (b .1) in
     record {
-      records-long = long R 3913 (w .0);
-      own-long = long O 2 (w .1);
-      mask = ltb-false 8191 (onOf O) (b .0);
+      records-long = long R recordsSize (w .0);
+      own-long = long O ownSize (w .1);
+      mask = ltb-false everyNode (onOf O) (b .0);
       fine = d .0;
     }
 
@@ -86,22 +89,22 @@ both true b e = (refl, e)
 both false b e = absurd (let z : _≡_ {A = ℕ} 0 1 = ap (λ (t : Bool). cond t 1 0) e in omega arith)
 
 pub record On (R O : List ℕ) (n : ℕ) : Type 0 where
-  pub records-long : length R ≡ 3913
-  pub own-long : length O ≡ 2
-  pub mask : onOf O ≤ 8191
+  pub records-long : length R ≡ recordsSize
+  pub own-long : length O ≡ ownSize
+  pub mask : onOf O ≤ everyNode
   pub on : contains (onOf O) n ≡ true
-  pub node : n < 13
+  pub node : n < nodes
 
 pub on-is : (R O : List ℕ) (n : ℕ) → isOn (length R) O n ≡ true → On R O n
 unfolding isOn
 on-is R O n e =
     let a = both _ _ e in
-    let w = or-neither (not (eqb (length R) 3913)) (wrong O 2) (not-true _ (a .0)) in
+    let w = or-neither (not (eqb (length R) recordsSize)) (wrong O ownSize) (not-true _ (a .0)) in
     let d = both _ _ (a .1) in
-    let m = ltb-false 8191 (onOf O) (not-true _ (d .0)) in
+    let m = ltb-false everyNode (onOf O) (not-true _ (d .0)) in
     record {
-      records-long = long R 3913 (w .0);
-      own-long = long O 2 (w .1);
+      records-long = long R recordsSize (w .0);
+      own-long = long O ownSize (w .1);
       mask = m;
       on = d .1;
       node = node-on (onOf O) n m (d .1);
@@ -112,7 +115,7 @@ pub off-is : (R O : List ℕ) (n : ℕ) → hostFirst (ends R O) n ≡ 0 → isO
 unfolding isOn
 off-is R O n z e =
     let s = sound R O n z in
-    sym (simp (eq-eqb (length R) 3913 (s .records-long), eq-eqb (length O) 2 (s .own-long), le-ltb 8191 (onOf O) (s .mask))) ∙ e
+    sym (simp (eq-eqb (length R) recordsSize (s .records-long), eq-eqb (length O) ownSize (s .own-long), le-ltb everyNode (onOf O) (s .mask))) ∙ e
 
 pub off-all : (R O : List ℕ) (n : ℕ) → hostFirst (ends R O) n ≡ 0 → isOn (length R) O n ≡ false
     → (s t : Step) → s ≡ t → (k : ℕ) → k ≡ whenOff (s .number) → (a : Answer) → a ≡ answerWith k 0
@@ -141,8 +144,8 @@ module _ (R O : List ℕ) (n : ℕ) (f : Coordinator → Step) (t : On R O n) wh
 
   first-is : (b : Bool) → recordDamaged R n ≡ b → first ≡ cond b 2 0
   unfolding hostFirst
-  first-is true e = simp (eq-eqb (length R) 3913 (t .records-long), eq-eqb (length O) 2 (t .own-long), le-ltb 8191 (onOf O) (t .mask), e)
-  first-is false e = simp (eq-eqb (length R) 3913 (t .records-long), eq-eqb (length O) 2 (t .own-long), le-ltb 8191 (onOf O) (t .mask), e)
+  first-is true e = simp (eq-eqb (length R) recordsSize (t .records-long), eq-eqb (length O) ownSize (t .own-long), le-ltb everyNode (onOf O) (t .mask), e)
+  first-is false e = simp (eq-eqb (length R) recordsSize (t .records-long), eq-eqb (length O) ownSize (t .own-long), le-ltb everyNode (onOf O) (t .mask), e)
 
   abbrev Goal : Type 0
   Goal = (answerOf (calledOf f l) ≡ told first here) × (withRecordAt R n (recordAfter f l) ≡ recordsAfter first here n R)
@@ -184,14 +187,15 @@ module _ (R O : List ℕ) (n : ℕ) (f : Coordinator → Step) (t : On R O n) wh
       by false e = broken e
 
   -- the part is lent onward, and what the call leaves of it comes back
-  pub on-lent : (w : ℕ) → w ≡ n → (r : Called) → r ≡ calledOf f (take (301 * w + 301 - 301 * w) (drop (301 * w) R))
-      → (m : List ℕ) → m ≡ recordAfter f (take (301 * w + 301 - 301 * w) (drop (301 * w) R)) → (a : Answer) → a ≡ answerOf r
-      → (a ≡ told first here) × (take (301 * w) R ++ (m ++ drop (301 * w + 301 - 301 * w) (drop (301 * w) R)) ≡ recordsAfter first here n R)
+  pub on-lent : (w : ℕ) → w ≡ n → (r : Called) → r ≡ calledOf f (take (recordSize * w + recordSize - recordSize * w) (drop (recordSize * w) R))
+      → (m : List ℕ) → m ≡ recordAfter f (take (recordSize * w + recordSize - recordSize * w) (drop (recordSize * w) R)) → (a : Answer) → a ≡ answerOf r
+      → (a ≡ told first here) × (take (recordSize * w) R ++ (m ++ drop (recordSize * w + recordSize - recordSize * w) (drop (recordSize * w) R)) ≡
+      recordsAfter first here n R)
   unfolding recordAt withRecordAt part
   on-lent w i r p m q a g =
-      let e : 301 * w + 301 - 301 * w ≡ 301 = omega arith in
-      let j : take (301 * w + 301 - 301 * w) (drop (301 * w) R) ≡ recordAt R n = rw (e, i) in (
+      let e : recordSize * w + recordSize - recordSize * w ≡ recordSize = omega arith in
+      let j : take (recordSize * w + recordSize - recordSize * w) (drop (recordSize * w) R) ≡ recordAt R n = rw (e, i) in (
         g ∙ ap answerOf (p ∙ ap (calledOf f) j) ∙ on-bytes .0,
-        lent (recordAfter f) 301 (301 * w) (301 * w + 301 - 301 * w) R m e q
-            ∙ ap (λ (k : ℕ). splice 301 (301 * k) (recordAfter f (part 301 (301 * k) R)) R) i ∙ on-bytes .1,
+        lent (recordAfter f) recordSize (recordSize * w) (recordSize * w + recordSize - recordSize * w) R m e q
+            ∙ ap (λ (k : ℕ). splice recordSize (recordSize * k) (recordAfter f (part recordSize (recordSize * k) R)) R) i ∙ on-bytes .1,
       )

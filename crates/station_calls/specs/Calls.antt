@@ -3,6 +3,7 @@ use mathlib.Core.Bool.{Bool, cond, not, _&&_, _||_}
 use mathlib.Core.List.{List, [], _∷_}
 use Prim.Native.Nat.{ℕ, zero, suc, _*_}
 use lib.Dec.{eqb, ltb}
+use Rattle.numbers.specs.Sizes.{nodes, everyNode}
 use Rattle.numbers.specs.Numbers.{wrongLength, stranger}
 use Rattle.numbers.specs.Refusal.{refuse, firstOf}
 use Rattle.octets.specs.Octets.{put}
@@ -10,7 +11,7 @@ use Rattle.parts.specs.Parts.{splice}
 use Rattle.mask.specs.Mask.{contains}
 use Rattle.image.specs.Layout.{shape, imageSize}
 use Rattle.image.specs.Blank.{blankAs}
-use Rattle.coordinator.specs.State.{thirteen, everyNode, blankRecord}
+use Rattle.coordinator.specs.State.{blankRecord}
 use Rattle.record.specs.Layout.{recordSize}
 use Rattle.record.specs.Record.{bytesOf}
 use Rattle.pool.specs.Pool.{poolSize}
@@ -68,4 +69,4 @@ blankNumber b on =
 unfoldable pub blankAfter : Buffers → ℕ → Buffers
 blankAfter b on =
     cond (eqb (blankNumber b on) 0)
-    (all (imagesBlank thirteen (b .images)) (recordsBlank thirteen (b .records)) blankPool (put 2 (b .own) 0 on)) b
+    (all (imagesBlank nodes (b .images)) (recordsBlank nodes (b .records)) blankPool (put 2 (b .own) 0 on)) b

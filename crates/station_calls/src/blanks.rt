@@ -1,13 +1,14 @@
 // The maker of a blank station.
 ghost use mathlib.Core.Path.{_≡_};
 ghost use lib.ListN.{length};
-ghost use Rattle.buffers.specs.Buffers.{all};
+ghost use Rattle.numbers.specs.Sizes.{nodes};
+ghost use Rattle.buffers.specs.Buffers.{all, imagesSize, recordsSize};
 ghost use Rattle.station_calls.specs.Calls.{imagesBlank, recordsBlank, blankNumber, blankAfter};
 use buffers::IMAGES;
 use buffers::OWN;
 use buffers::RECORDS;
-use coordinator::EVERY_NODE;
-use coordinator::NODES;
+use numbers::EVERY_NODE;
+use numbers::NODES;
 use numbers::either;
 use numbers::refuse;
 
@@ -23,8 +24,8 @@ fn blank_number(images: &[u8], records: &[u8], pool: &[u8], own: &[u8], on: u16)
 
 // Every image becomes blank.
 fn blank_images(images: &mut [u8])
-    requires { ⌜ length (now images) ≡ 15691 ⌝ }
-    ensures { λ r. ⌜ now (images .exit) ≡ imagesBlank 13 (now (images .entry)) ⌝ }
+    requires { ⌜ length (now images) ≡ imagesSize ⌝ }
+    ensures { λ r. ⌜ now (images .exit) ≡ imagesBlank nodes (now (images .entry)) ⌝ }
 {
     let mut n = 0;
     while n < NODES {
@@ -37,8 +38,8 @@ fn blank_images(images: &mut [u8])
 
 // Every record becomes blank.
 fn blank_records(records: &mut [u8])
-    requires { ⌜ length (now records) ≡ 3913 ⌝ }
-    ensures { λ r. ⌜ now (records .exit) ≡ recordsBlank 13 (now (records .entry)) ⌝ }
+    requires { ⌜ length (now records) ≡ recordsSize ⌝ }
+    ensures { λ r. ⌜ now (records .exit) ≡ recordsBlank nodes (now (records .entry)) ⌝ }
 {
     let mut n = 0;
     while n < NODES {

@@ -1,11 +1,11 @@
 // The host's calls at a node: on the bytes of its record where the node is on, else the buffers' own numbers first and then the call's at a node that is off.
 ghost use mathlib.Core.Path.{_≡_};
-ghost use Rattle.steps.specs.Step.{begin, openRead, openWrite, setValue, found, reselect, requestCommit, abort};
-ghost use Rattle.buffers.specs.Buffers.{ends, hostFirst};
+ghost use mathlib.Core.Bool.{cond};
+ghost use lib.Dec.{eqb};
+ghost use Rattle.numbers.specs.Numbers.{damaged};
+ghost use Rattle.steps.specs.Step.{begin, openRead, openWrite, setValue, found, reselect, requestCommit, abort, whenOff};
+ghost use Rattle.buffers.specs.Buffers.{ends};
 ghost use Rattle.station_calls.specs.Calls.{isOn, answerOf, hostTold, hostRecords};
-use crate::common::is_damaged;
-use crate::common::record_of;
-use crate::common::wide;
 use buffers::Answer;
 use buffers::OWN;
 use buffers::RECORDS;
@@ -14,24 +14,17 @@ use buffers::on;
 use buffers::refused;
 use buffers::when_off;
 use coordinator::BeginWith;
-use coordinator::EVERY_NODE;
-use coordinator::NODES;
+use numbers::EVERY_NODE;
+use numbers::NODES;
+use numbers::NODES_END;
 use numbers::either;
 use record::Called;
 
-// The number of the buffers that a host call reads.
-fn host_number(records: &[u8], own: &[u8], node: u8) -> u8
-    ensures { λ r. ⌜ r ≡ hostFirst (ends (now (records .entry)) (now (own .entry))) node ⌝ }
+// A byte as a count.
+fn wide(x: u8) -> usize
+    ensures { λ r. ⌜ r ≡ x ⌝ }
 {
-    let number = ends_number(records.len(), own);
-    if number != 0 {
-        return number;
-    }
-    if is_damaged(records, node) {
-        numbers::DAMAGED
-    } else {
-        0
-    }
+    x as usize
 }
 
 // Whether the buffers have their lengths, the mask names nodes alone, and the node is on: then the call works on the bytes of its record.
@@ -61,6 +54,16 @@ fn answered(c: Called) -> Answer
     }
 }
 
+// The number of a host call at a node that is off, from the one on the bytes of its record: 2 stays.
+fn off_number(number: u8) -> u8
+    ensures { λ r. ⌜ r ≡ cond (eqb number damaged) damaged (whenOff number) ⌝ }
+{
+    if number == numbers::DAMAGED {
+        return number;
+    }
+    when_off(number)
+}
+
 // Begins a transaction at a node; answers the chosen read quorum. Ruled out: another node's record begun; a begin at a node that is off.
 pub fn begin(records: &mut [u8], own: &[u8], node: u8, w: BeginWith) -> Answer
     ensures { λ r. ⌜ r ≡ hostTold (ends (now (records .entry)) (now (own .entry))) node (begin node w) ⌝ }
@@ -69,15 +72,20 @@ pub fn begin(records: &mut [u8], own: &[u8], node: u8, w: BeginWith) -> Answer
     if is_on(records.len(), own, node) {
         let start = record::SIZE * wide(node);
         let end = start + record::SIZE;
-        let c = record::begin(&mut records[start..end], node, w);
+        let c = record_calls::begin(&mut records[start..end], node, w);
         return answered(c);
     }
-    let number = host_number(records, own, node);
+    let number = ends_number(records.len(), own);
     if number != 0 {
         return refused(number);
     }
-    let s = coordinator::begin(record_of(records, node), node, w);
-    refused(when_off(s.number))
+    if NODES_END <= node {
+        return refused(numbers::STRANGER);
+    }
+    let start = record::SIZE * wide(node);
+    let end = start + record::SIZE;
+    let alone = record_calls::begin_number(&records[start..end], node, w);
+    refused(off_number(alone))
 }
 
 // Opens an object to read it. Ruled out: it is opened to be written; a byte of another node's record altered.
@@ -88,15 +96,20 @@ pub fn open_read(records: &mut [u8], own: &[u8], node: u8, object: u8) -> Answer
     if is_on(records.len(), own, node) {
         let start = record::SIZE * wide(node);
         let end = start + record::SIZE;
-        let c = record::open_read(&mut records[start..end], node, object);
+        let c = record_calls::open_read(&mut records[start..end], node, object);
         return answered(c);
     }
-    let number = host_number(records, own, node);
+    let number = ends_number(records.len(), own);
     if number != 0 {
         return refused(number);
     }
-    let s = coordinator::open_read(record_of(records, node), node, object);
-    refused(when_off(s.number))
+    if NODES_END <= node {
+        return refused(numbers::STRANGER);
+    }
+    let start = record::SIZE * wide(node);
+    let end = start + record::SIZE;
+    let alone = record_calls::open_number(&records[start..end], node, object);
+    refused(off_number(alone))
 }
 
 // Opens an object to write it. Ruled out: it is opened to be read; 5 for a node above 12.
@@ -107,15 +120,20 @@ pub fn open_write(records: &mut [u8], own: &[u8], node: u8, object: u8) -> Answe
     if is_on(records.len(), own, node) {
         let start = record::SIZE * wide(node);
         let end = start + record::SIZE;
-        let c = record::open_write(&mut records[start..end], node, object);
+        let c = record_calls::open_write(&mut records[start..end], node, object);
         return answered(c);
     }
-    let number = host_number(records, own, node);
+    let number = ends_number(records.len(), own);
     if number != 0 {
         return refused(number);
     }
-    let s = coordinator::open_write(record_of(records, node), node, object);
-    refused(when_off(s.number))
+    if NODES_END <= node {
+        return refused(numbers::STRANGER);
+    }
+    let start = record::SIZE * wide(node);
+    let end = start + record::SIZE;
+    let alone = record_calls::open_number(&records[start..end], node, object);
+    refused(off_number(alone))
 }
 
 // Gives a written object its new value. Ruled out: the value of another object set; a damaged record taken.
@@ -126,15 +144,20 @@ pub fn set_value(records: &mut [u8], own: &[u8], node: u8, object: u8, value: u6
     if is_on(records.len(), own, node) {
         let start = record::SIZE * wide(node);
         let end = start + record::SIZE;
-        let c = record::set_value(&mut records[start..end], node, object, value);
+        let c = record_calls::set_value(&mut records[start..end], node, object, value);
         return answered(c);
     }
-    let number = host_number(records, own, node);
+    let number = ends_number(records.len(), own);
     if number != 0 {
         return refused(number);
     }
-    let s = coordinator::set_value(record_of(records, node), node, object, value);
-    refused(when_off(s.number))
+    if NODES_END <= node {
+        return refused(numbers::STRANGER);
+    }
+    let start = record::SIZE * wide(node);
+    let end = start + record::SIZE;
+    let alone = record_calls::set_number(&records[start..end], node, object);
+    refused(off_number(alone))
 }
 
 // Answers the value found for a ready object. Ruled out: the new value; the value found at another node.
@@ -145,15 +168,20 @@ pub fn found(records: &mut [u8], own: &[u8], node: u8, object: u8) -> Answer
     if is_on(records.len(), own, node) {
         let start = record::SIZE * wide(node);
         let end = start + record::SIZE;
-        let c = record::found(&mut records[start..end], node, object);
+        let c = record_calls::found(&mut records[start..end], node, object);
         return answered(c);
     }
-    let number = host_number(records, own, node);
+    let number = ends_number(records.len(), own);
     if number != 0 {
         return refused(number);
     }
-    let s = coordinator::found(record_of(records, node), node, object);
-    refused(when_off(s.number))
+    if NODES_END <= node {
+        return refused(numbers::STRANGER);
+    }
+    let start = record::SIZE * wide(node);
+    let end = start + record::SIZE;
+    let alone = record_calls::found_number(&records[start..end], node, object);
+    refused(off_number(alone))
 }
 
 // Takes a fresh live mask and distances. Ruled out: the old quorum answered; the old distances kept.
@@ -170,15 +198,20 @@ pub fn reselect(
     if is_on(records.len(), own, node) {
         let start = record::SIZE * wide(node);
         let end = start + record::SIZE;
-        let c = record::reselect(&mut records[start..end], node, live, distances);
+        let c = record_calls::reselect(&mut records[start..end], node, live, distances);
         return answered(c);
     }
-    let number = host_number(records, own, node);
+    let number = ends_number(records.len(), own);
     if number != 0 {
         return refused(number);
     }
-    let s = coordinator::reselect(record_of(records, node), node, live, distances);
-    refused(when_off(s.number))
+    if NODES_END <= node {
+        return refused(numbers::STRANGER);
+    }
+    let start = record::SIZE * wide(node);
+    let end = start + record::SIZE;
+    let alone = record_calls::reselect_number(&records[start..end], node, live, distances);
+    refused(off_number(alone))
 }
 
 // Asks for votes; answers the participants. Ruled out: 8 before 11; a record that stays open.
@@ -189,15 +222,20 @@ pub fn request_commit(records: &mut [u8], own: &[u8], node: u8) -> Answer
     if is_on(records.len(), own, node) {
         let start = record::SIZE * wide(node);
         let end = start + record::SIZE;
-        let c = record::request_commit(&mut records[start..end], node);
+        let c = record_calls::request_commit(&mut records[start..end], node);
         return answered(c);
     }
-    let number = host_number(records, own, node);
+    let number = ends_number(records.len(), own);
     if number != 0 {
         return refused(number);
     }
-    let s = coordinator::request_commit(record_of(records, node), node);
-    refused(when_off(s.number))
+    if NODES_END <= node {
+        return refused(numbers::STRANGER);
+    }
+    let start = record::SIZE * wide(node);
+    let end = start + record::SIZE;
+    let alone = record_calls::request_number(&records[start..end], node);
+    refused(off_number(alone))
 }
 
 // Gives the transaction up. Ruled out: 0 at a node that is off; number 0 with the record left as it was.
@@ -208,13 +246,18 @@ pub fn abort(records: &mut [u8], own: &[u8], node: u8) -> Answer
     if is_on(records.len(), own, node) {
         let start = record::SIZE * wide(node);
         let end = start + record::SIZE;
-        let c = record::abort(&mut records[start..end], node);
+        let c = record_calls::abort(&mut records[start..end], node);
         return answered(c);
     }
-    let number = host_number(records, own, node);
+    let number = ends_number(records.len(), own);
     if number != 0 {
         return refused(number);
     }
-    let s = coordinator::abort(record_of(records, node), node);
-    refused(when_off(s.number))
+    if NODES_END <= node {
+        return refused(numbers::STRANGER);
+    }
+    let start = record::SIZE * wide(node);
+    let end = start + record::SIZE;
+    let alone = record_calls::abort_number(&records[start..end], node);
+    refused(off_number(alone))
 }

@@ -1,7 +1,6 @@
 // A host's calls at a station's nodes, switching a node on or off, and the maker of a blank station, over the lent buffers.
 mod blanks;
 mod calls;
-mod common;
 mod switches;
 
 pub use blanks::blank;

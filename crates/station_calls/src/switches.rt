@@ -7,6 +7,7 @@ use buffers::Answer;
 use buffers::on;
 use buffers::own_number;
 use buffers::refused;
+use numbers::NODES_END;
 
 // A mask with the nodes of another, or without them.
 fn changed(m: u16, one: u16, up: bool) -> u16
@@ -28,7 +29,7 @@ pub fn switch(own: &mut [u8], node: u8, up: bool) -> Answer
     if number != 0 {
         return refused(number);
     }
-    if 13 <= node {
+    if NODES_END <= node {
         return refused(numbers::STRANGER);
     }
     let m = changed(on(own), mask::single(node), up);

@@ -2,6 +2,7 @@
 // It moves bytes only: what is done and written for what is read is `scenario`.
 use libc::STDIN_FILENO;
 use libc::STDOUT_FILENO;
+use numbers::EVERY_NODE;
 use scenario::Reader;
 
 // The reader, and whether to go on.
@@ -96,13 +97,13 @@ fn all(
 
 fn main() {
     let mut input = [0u8; 1];
-    let mut images = [0u8; 15691];
-    let mut records = [0u8; 3913];
-    let mut pool = [0u8; 16513];
-    let mut own = [0u8; 2];
-    let mut sheet = [0u64; 1819];
+    let mut images = [0u8; buffers::IMAGES];
+    let mut records = [0u8; buffers::RECORDS];
+    let mut pool = [0u8; pool::SIZE];
+    let mut own = [0u8; buffers::OWN];
+    let mut sheet = [0u64; replay::SIZE];
     let mut out = [0u8; 16384];
-    runs::start(&mut images, &mut records, &mut pool, &mut own, 8191);
+    runs::start(&mut images, &mut records, &mut pool, &mut own, EVERY_NODE);
     replay::blank(&mut sheet);
     let r = all(
         &mut input,

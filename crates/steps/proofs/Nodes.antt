@@ -6,18 +6,19 @@ use native.Mathlib.Omega.{arith}
 use lib.Dec.{eqb, ltb}
 use lib.Pow.{pow-mono}
 use borrow.Author.Tests.{eqb-true, ltb-true, ltb-false}
+use Rattle.numbers.specs.Sizes.{nodes, everyNode}
 use Rattle.mask.specs.Mask.{contains}
 use Rattle.mask.proofs.Laws.{bit-high}
 use Rattle.steps.specs.Step.{whenOff}
 
 -- a node that is on is below 13
-pub node-on : (on n : ℕ) → on ≤ 8191 → contains on n ≡ true → n < 13
-node-on on n h e = by (ltb n 13) refl
+pub node-on : (on n : ℕ) → on ≤ everyNode → contains on n ≡ true → n < nodes
+node-on on n h e = by (ltb n nodes) refl
   where
-    by : (b : Bool) → ltb n 13 ≡ b → n < 13
-    by true t = ltb-true n 13 t
+    by : (b : Bool) → ltb n nodes ≡ b → n < nodes
+    by true t = ltb-true n nodes t
     by false t =
-        let p : 2 ^ 13 ≤ 2 ^ n = pow-mono (ltb-false n 13 t) in
+        let p : 2 ^ nodes ≤ 2 ^ n = pow-mono (ltb-false n nodes t) in
         let z : _≡_ {A = ℕ} 0 1 = sym (bit-high on n (omega arith)) ∙ eqb-true _ 1 e in
         absurd (let w : ⊥ = omega arith in w)
 

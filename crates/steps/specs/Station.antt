@@ -5,10 +5,11 @@ use mathlib.Core.List.{List, [], _++_, _∷_}
 use Prim.Native.Nat.{ℕ, _+_, _<_}
 use lib.Dec.{eqb}
 use lib.ListN.{take, drop}
+use Rattle.numbers.specs.Sizes.{nodes}
 use Rattle.image.specs.Layout.{shape}
 use Rattle.image.specs.Blank.{blankAs}
 use Rattle.coordinator.specs.declared.Coordinator.{Coordinator}
-use Rattle.coordinator.specs.State.{thirteen, idlePhase, blankRecord}
+use Rattle.coordinator.specs.State.{idlePhase, blankRecord}
 
 -- What is of the station itself and of none of its nodes: the mask of the nodes that are on.
 pub record Own : Type 0 where
@@ -22,10 +23,7 @@ pub record Station : Type 0 where
   pub pool : List (List ℕ)
   pub own : Own
 
--- "The pool lists up to 128 messages in sending order."
-abbrev pub poolSize : ℕ
-poolSize = 128
-
+-- the station's own part of a blank station
 abbrev pub blankOwn : ℕ → Own
 blankOwn on = record { on = on }
 
@@ -35,7 +33,7 @@ blankStation on = record { images = λ n. blankAs shape; records = λ n. blankRe
 
 -- "At rest, every booking end is idle."
 abbrev pub Quiescent : Station → Type 0
-Quiescent st = (n : ℕ) → n < thirteen → st .records n .phase ≡ idlePhase
+Quiescent st = (n : ℕ) → n < nodes → st .records n .phase ≡ idlePhase
 
 -- ---- changes
 -- the table f with v for n

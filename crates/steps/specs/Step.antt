@@ -6,13 +6,14 @@ use mathlib.Core.Option.{Option, none, some}
 use Prim.Native.Nat.{ℕ}
 use lib.Dec.{eqb, ltb}
 use lib.ListN.{length, getD}
+use Rattle.numbers.specs.Sizes.{longestMessage, mostWaiting}
 use Rattle.mask.specs.Mask.{contains, only, joined, minus}
 use Rattle.numbers.specs.Numbers.{garbled, stranger, outOfTurn, busy, poolFull}
 use Rattle.numbers.specs.Refusal.{refuse, firstOf}
 use Rattle.wire.specs.Message.{Message}
 use Rattle.wire.specs.Formed.{wellFormed}
 use Rattle.wire.specs.Encode.{encode}
-use Rattle.wire.specs.Decode.{kindOf, toOf, longest, checkOf}
+use Rattle.wire.specs.Decode.{kindOf, toOf, checkOf}
 use Rattle.replica.specs.Steps.{Answer, silent, says}
 use Rattle.replica.specs.Receive.{Delivered, deliver}
 use Rattle.coordinator.specs.declared.Coordinator.{Coordinator}
@@ -23,7 +24,7 @@ use Rattle.coordinator.specs.Calls.{noNode, beginOf, openOf, setOf, foundOf, re
 use Rattle.arrivals.specs.Receive.{forReplica, receiveOf}
 use Rattle.due.specs.Kind.{noKind, dueKind, dueRefusals}
 use Rattle.due.specs.Due.{messageDue}
-use Rattle.steps.specs.Station.{Station, poolSize, withImage, withRecord, withPool, withOn, sent, without}
+use Rattle.steps.specs.Station.{Station, withImage, withRecord, withPool, withOn, sent, without}
 
 -- ---- what a step is asked to do; a number is a node's unless it says otherwise
 pub data Call : Type 0 where
@@ -72,7 +73,7 @@ hosted st n s =
 
 -- ---- a send: 4, 5, 6, then 12 for a full pool even where nothing is due. (3: a record that no run from blank has, whose message is not well formed)
 abbrev pub full : Station → Bool
-full st = not (ltb (length (st .pool)) poolSize)
+full st = not (ltb (length (st .pool)) mostWaiting)
 
 unfoldable pub sendNumber : Station → ℕ → ℕ → ℕ → Message → Bool → ℕ
 sendNumber st n to object m due =
@@ -101,7 +102,7 @@ answered st k kept n l (says m) = cond (kept && full st) (refusedWith poolFull s
 
 unfoldable pub atReplica : Station → ℕ → Bool → ℕ → List ℕ → Outcome
 atReplica st k kept n b =
-    let d = deliver longest (st .images n) n b in
+    let d = deliver longestMessage (st .images n) n b in
     cond (eqb (d .number) 0) (answered st k kept n (d .image) (d .answer)) (refusedWith (d .number) st)
 
 -- at a coordinator: the step's answer is what the message brought about

@@ -3,7 +3,4 @@ pub mod Made
 pub mod Accepted
 pub mod Stores
 pub mod RoundTrip
-pub mod ByOwner
 pub mod Theorems
-pub mod Sending
-pub mod Votes

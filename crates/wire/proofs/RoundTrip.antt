@@ -154,27 +154,27 @@ module _ (m : Message) (f : Fits m) where
   at12 : drop 12 bytes ≡ tail1
   at12 = next bytes 8 4 (le 4 (m .stamp)) tail1 (length-le 4 (m .stamp)) at8
 
-  at13 : drop 13 bytes ≡ es ++ tail2
+  at13 : drop entriesPlace bytes ≡ es ++ tail2
   at13 = next bytes 12 1 (length (m .entries) ∷ []) (es ++ tail2) refl at12
 
   count-entries : entryCount bytes ≡ length (m .entries)
   count-entries = byte-at bytes 12 (length (m .entries)) (es ++ tail2) at12
 
-  at-rivals : drop (13 + 14 * length (m .entries)) bytes ≡ tail2
-  at-rivals = next bytes 13 (14 * length (m .entries)) es tail2 (length-together encodeEntry 14 length-entry (m .entries)) at13
+  at-rivals : drop (entriesPlace + 14 * length (m .entries)) bytes ≡ tail2
+  at-rivals = next bytes entriesPlace (14 * length (m .entries)) es tail2 (length-together encodeEntry 14 length-entry (m .entries)) at13
 
   count-rivals : rivalCount bytes ≡ length (m .rivals)
   count-rivals =
-      ap (λ (n : ℕ). getD bytes (13 + 14 * n) 0) count-entries
-      ∙ byte-at bytes (13 + 14 * length (m .entries)) (length (m .rivals)) (rs ++ tail3) at-rivals
+      ap (λ (n : ℕ). getD bytes (entriesPlace + 14 * n) 0) count-entries
+      ∙ byte-at bytes (entriesPlace + 14 * length (m .entries)) (length (m .rivals)) (rs ++ tail3) at-rivals
 
-  place-rivals : rivalsPlace bytes ≡ 13 + 14 * length (m .entries) + 1
-  place-rivals = ap (λ (n : ℕ). 13 + 14 * n + 1) count-entries
+  place-rivals : rivalsPlace bytes ≡ entriesPlace + 14 * length (m .entries) + 1
+  place-rivals = ap (λ (n : ℕ). entriesPlace + 14 * n + 1) count-entries
 
   at-rivals1 : drop (rivalsPlace bytes) bytes ≡ rs ++ tail3
   at-rivals1 =
       ap (λ (i : ℕ). drop i bytes) place-rivals
-      ∙ next bytes (13 + 14 * length (m .entries)) 1 (length (m .rivals) ∷ []) (rs ++ tail3) refl at-rivals
+      ∙ next bytes (entriesPlace + 14 * length (m .entries)) 1 (length (m .rivals) ∷ []) (rs ++ tail3) refl at-rivals
 
   at-words : drop (rivalsPlace bytes + 5 * length (m .rivals)) bytes ≡ tail3
   at-words = next bytes (rivalsPlace bytes) (5 * length (m .rivals)) rs tail3 (length-together encodeRival 5 length-rival (m .rivals)) at-rivals1
@@ -193,8 +193,8 @@ module _ (m : Message) (f : Fits m) where
   unfolding decode encode itemsFrom rivalAt entryAt
   decode-encode =
       made-message refl refl refl refl (number-at bytes 4 4 (m .serial) _ (f .serial) at4) (number-at bytes 4 8 (m .stamp) _ (f .stamp) at8)
-      (ap (λ (n : ℕ). itemsFrom entryAt 14 n bytes 13) count-entries
-      ∙ items-at bytes entryAt encodeEntry 14 EntryFits length-entry (entry-at bytes) (m .entries) 13 tail2 (f .entries) at13)
+      (ap (λ (n : ℕ). itemsFrom entryAt 14 n bytes entriesPlace) count-entries
+      ∙ items-at bytes entryAt encodeEntry 14 EntryFits length-entry (entry-at bytes) (m .entries) entriesPlace tail2 (f .entries) at13)
       (ap (λ (n : ℕ). itemsFrom rivalAt 5 n bytes (rivalsPlace bytes)) count-rivals
       ∙ items-at bytes rivalAt encodeRival 5 RivalFits length-rival (rival-at bytes) (m .rivals) (rivalsPlace bytes) tail3 (f .rivals) at-rivals1)
       (ap (λ (n : ℕ). itemsFrom wordAt 1 n bytes (wordsPlace bytes)) count-words
@@ -266,7 +266,7 @@ module _ (l : List ℕ) (b : Bytes l) where
       let size : length l ≡ 15 + 14 * n + 5 * r + w =
       e ∙ ap₂ (λ (x : ℕ) (y : ℕ × ℕ). 15 + 14 * x + 5 * y .0 + y .1) (length-items entryAt 14 l n entriesPlace)
       (ap₂ (λ (x y : ℕ). (x, y)) (length-items rivalAt 5 l r (rivalsPlace l)) (length-items wordAt 1 l w (wordsPlace l))) in
-      let es = section encodeEntry (itemsFrom entryAt 14 n l 13) in
+      let es = section encodeEntry (itemsFrom entryAt 14 n l entriesPlace) in
       let rs = section encodeRival (itemsFrom rivalAt 5 r l (rivalsPlace l)) in
       let ws = section encodeWord (itemsFrom wordAt 1 w l (wordsPlace l)) in
       let s4 = le 4 (get 4 l 4) in
@@ -275,8 +275,8 @@ module _ (l : List ℕ) (b : Bytes l) where
       let p3 : drop (rivalsPlace l + 5 * r) l ≡ ws =
       peel-section wordAt encodeWord 1 peel-word (rivalsPlace l + 5 * r) (omega arith)
       ∙ ap (λ (j : ℕ). ws ++ drop j l) z ∙ ap (_++_ ws) (drop-length l) ∙ append-nil ws in
-      let p2 : drop (13 + 14 * n) l ≡ rs ++ ws =
-      peel-section rivalAt encodeRival 5 peel-rival (13 + 14 * n) (omega arith) ∙ ap (_++_ rs) p3 in
+      let p2 : drop (entriesPlace + 14 * n) l ≡ rs ++ ws =
+      peel-section rivalAt encodeRival 5 peel-rival (entriesPlace + 14 * n) (omega arith) ∙ ap (_++_ rs) p3 in
       let p1 : drop 12 l ≡ es ++ (rs ++ ws) = peel-section entryAt encodeEntry 14 peel-entry 12 (omega arith) ∙ ap (_++_ es) p2 in
       let p0 : drop 4 l ≡ (s4 ++ s8) ++ (es ++ (rs ++ ws)) =
       peel-number 4 4 (omega arith) ∙ ap (_++_ s4) (peel-number 4 8 (omega arith) ∙ ap (_++_ s8) p1) ∙ sym (append-assoc s4 s8 (es ++ (rs ++ ws))) in

@@ -7,6 +7,7 @@ use native.Mathlib.Omega.{arith}
 use lib.Dec.{T, eqb, ltb, leb}
 use borrow.Author.Tests.{eq-eqb, eqb-true, le-ltb, leb-true}
 use lib.ListN.{length}
+use Rattle.numbers.specs.Sizes.{mostOpen, longestMessage}
 use Rattle.octets.specs.Octets.{le}
 use Rattle.octets.proofs.Laws.{Bytes, get-small}
 use Rattle.wire.specs.declared.Entry.{Entry}
@@ -50,22 +51,22 @@ unfolding countsOk
 counts-small k n r w x =
     cases (Small n r w) (between 1 2 k) (eqb n 1 && (eqb r 0 && eqb w 0)) _
     (λ b e. let p = eqb-true n 1 (both-left (eqb n 1) _ e) in let q = two r w 0 0 (both-right (eqb n 1) _ e) in omega arith)
-    (cases (Small n r w) (eqb k 3) (between 1 8 n && (eqb r 0 && eqb w 0)) _
-    (λ b e. let p = leb-true n 8 (both-right (leb 1 n) _ (both-left (between 1 8 n) _ e)) in let q = two r w 0 0
-    (both-right (between 1 8 n) _ e) in omega arith)
+    (cases (Small n r w) (eqb k 3) (between 1 mostOpen n && (eqb r 0 && eqb w 0)) _
+    (λ b e. let p = leb-true n mostOpen (both-right (leb 1 n) _ (both-left (between 1 mostOpen n) _ e)) in let q = two r w 0 0
+    (both-right (between 1 mostOpen n) _ e) in omega arith)
     (cases (Small n r w) (eqb k 4) (cond (eqb x 1) (leb r 12) (eqb x 0 && eqb r 0) && (eqb n 0 && eqb w 1)) _
     (λ b e. let p = on-word x r 12 (leb r 12) (leb-true r 12) (both-left _ (eqb n 0 && eqb w 1) e) in let q = two n w 0 1
     (both-right (cond (eqb x 1) (leb r 12) (eqb x 0 && eqb r 0)) _ e) in omega arith)
-    (cases (Small n r w) (eqb k 5) (cond (eqb x 1) (between 1 8 n) (eqb x 0 && eqb n 0) && (eqb r 0 && eqb w 1)) _
-    (λ b e. let p = on-word x n 8 (between 1 8 n) (λ q. leb-true n 8 (both-right (leb 1 n) _ q))
-    (both-left _ (eqb r 0 && eqb w 1) e) in let q = two r w 0 1 (both-right (cond (eqb x 1) (between 1 8 n) (eqb x 0 && eqb n 0)) _ e) in omega arith)
+    (cases (Small n r w) (eqb k 5) (cond (eqb x 1) (between 1 mostOpen n) (eqb x 0 && eqb n 0) && (eqb r 0 && eqb w 1)) _
+    (λ b e. let p = on-word x n mostOpen (between 1 mostOpen n) (λ q. leb-true n mostOpen (both-right (leb 1 n) _ q))
+    (both-left _ (eqb r 0 && eqb w 1) e) in let q = two r w 0 1 (both-right (cond (eqb x 1) (between 1 mostOpen n) (eqb x 0 && eqb n 0)) _ e) in omega arith)
     (cases (Small n r w) (eqb k 6) (eqb n 0 && (eqb r 0 && eqb w 0)) _
     (λ b e. let p = eqb-true n 0 (both-left (eqb n 0) _ e) in let q = two r w 0 0 (both-right (eqb n 0) _ e) in omega arith)
     (cases (Small n r w) (eqb k 7) (eqb r 1 && (eqb n 0 && eqb w 0)) _
     (λ b e. let p = eqb-true r 1 (both-left (eqb r 1) _ e) in let q = two n w 0 0 (both-right (eqb r 1) _ e) in omega arith) false-true)))))
 
 -- the longest message has 128 bytes, the shortest 15
-pub length-bounds : (m : Message) → wellFormed m ≡ true → (15 ≤ length (encode m)) × (length (encode m) ≤ 128)
+pub length-bounds : (m : Message) → wellFormed m ≡ true → (15 ≤ length (encode m)) × (length (encode m) ≤ longestMessage)
 unfolding wellFormed
 length-bounds m e =
     let n = length (m .entries) in
@@ -99,7 +100,7 @@ pub shortest-occurs : (wellFormed aDone ≡ true) × (length (encode aDone) ≡ 
 unfolding wellFormed countsOk entriesOk rivalsOk ascend encode together le
 shortest-occurs = (refl, refl)
 
-pub longest-occurs : (wellFormed aCommit ≡ true) × (length (encode aCommit) ≡ 128)
+pub longest-occurs : (wellFormed aCommit ≡ true) × (length (encode aCommit) ≡ longestMessage)
 unfolding wellFormed countsOk entriesOk rivalsOk ascend entryOk encode encodeEntry together le
 longest-occurs = (refl, refl)
 
@@ -115,7 +116,7 @@ pub encoded-checked : (m : Message) → Fits m → wellFormed m ≡ true → che
 unfolding checkOf
 encoded-checked m f e =
     let b = length-bounds m e in
-    simp (le-ltb (length (encode m)) 15 (b .0), le-ltb 128 (length (encode m)) (b .1), encoded-accepted m f ∙ e)
+    simp (le-ltb (length (encode m)) 15 (b .0), le-ltb longestMessage (length (encode m)) (b .1), encoded-accepted m f ∙ e)
 
 -- bytes that are read fit the bytes that they have
 items-fit : {A : Type 0} (P : A → Type 0) (at : List ℕ → ℕ → A) (size : ℕ) (l : List ℕ) → ((i : ℕ) → P (at l i)) → (n i : ℕ) → All P
@@ -149,7 +150,7 @@ checked-accepted false false e = absurd (let z : ⊥ = omega arith in z)
 
 pub accepted-of-check : (l : List ℕ) → checkOf l ≡ 0 → accepted l ≡ true
 unfolding checkOf
-accepted-of-check l e = checked-accepted (ltb (length l) 15 || ltb 128 (length l)) (accepted l) e
+accepted-of-check l e = checked-accepted (ltb (length l) 15 || ltb longestMessage (length l)) (accepted l) e
 
 pub checked-encoded : (l : List ℕ) → Bytes l → checkOf l ≡ 0 → (m : Message) × (wellFormed m ≡ true) × Fits m × (encode m ≡ l)
 unfolding accepted

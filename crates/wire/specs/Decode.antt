@@ -4,6 +4,7 @@ use mathlib.Core.List.{List, [], _∷_}
 use Prim.Native.Nat.{ℕ, zero, suc, _+_, _*_}
 use lib.Dec.{eqb, ltb}
 use lib.ListN.{length, getD}
+use Rattle.numbers.specs.Sizes.{shortestMessage, longestMessage}
 use Rattle.numbers.specs.Numbers.{wrongLength, garbled}
 use Rattle.octets.specs.Octets.{get}
 use Rattle.wire.specs.declared.Entry.{Entry}
@@ -80,16 +81,10 @@ decode l =
     }
 
 -- ---- which bytes are accepted
-abbrev pub shortest : ℕ
-shortest = 15
-
-abbrev pub longest : ℕ
-longest = 128
-
 -- the sections fill the bytes, none left over and none missing, and the message is well formed
 unfoldable pub accepted : List ℕ → Bool
 accepted l = eqb (length l) (sizeOf (decode l)) && wellFormed (decode l)
 
 -- the number of a received message: 1 length, 3 garbled, 0 neither
 unfoldable pub checkOf : List ℕ → ℕ
-checkOf l = cond (ltb (length l) shortest || ltb longest (length l)) wrongLength (cond (accepted l) 0 garbled)
+checkOf l = cond (ltb (length l) shortestMessage || ltb longestMessage (length l)) wrongLength (cond (accepted l) 0 garbled)

@@ -4,6 +4,7 @@ use mathlib.Core.List.{List, [], _∷_, map}
 use Prim.Native.Nat.{ℕ, _+_, _%_}
 use lib.Dec.{eqb, ltb, leb}
 use lib.ListN.{length, getD}
+use Rattle.numbers.specs.Sizes.{nodes, objects, mostOpen, highest}
 use Rattle.wire.specs.declared.Entry.{Entry}
 use Rattle.wire.specs.declared.Rival.{Rival}
 use Rattle.wire.specs.Message.{Message, fetch, copy, ask, vote, outcome, done, yield}
@@ -16,9 +17,9 @@ between lo hi n = leb lo n && leb n hi
 unfoldable pub countsOk : ℕ → ℕ → ℕ → ℕ → ℕ → Bool
 countsOk kind entries rivals words word =
     cond (between fetch copy kind) (eqb entries 1 && (eqb rivals 0 && eqb words 0))
-    (cond (eqb kind ask) (between 1 8 entries && (eqb rivals 0 && eqb words 0))
+    (cond (eqb kind ask) (between 1 mostOpen entries && (eqb rivals 0 && eqb words 0))
     (cond (eqb kind vote) (cond (eqb word 1) (leb rivals 12) (eqb word 0 && eqb rivals 0) && (eqb entries 0 && eqb words 1))
-    (cond (eqb kind outcome) (cond (eqb word 1) (between 1 8 entries) (eqb word 0 && eqb entries 0) && (eqb rivals 0 && eqb words 1))
+    (cond (eqb kind outcome) (cond (eqb word 1) (between 1 mostOpen entries) (eqb word 0 && eqb entries 0) && (eqb rivals 0 && eqb words 1))
     (cond (eqb kind done) (eqb entries 0 && (eqb rivals 0 && eqb words 0))
     (cond (eqb kind yield) (eqb rivals 1 && (eqb entries 0 && eqb words 0)) false)))))
 
@@ -28,7 +29,7 @@ wordOf m = getD (m .words) 0 0
 
 -- no node above 12 is named; serial and stamp are from 1
 abbrev pub namesOk : Message → Bool
-namesOk m = ltb (m .from) 13 && (ltb (m .to) 13 && (ltb (m .owner) 13 && (leb 1 (m .serial) && leb 1 (m .stamp))))
+namesOk m = ltb (m .from) nodes && (ltb (m .to) nodes && (ltb (m .owner) nodes && (leb 1 (m .serial) && leb 1 (m .stamp))))
 
 -- kinds 1, 3, 5, 7 come from the owner; 2, 4, 6 go to it
 abbrev pub directionOk : Message → Bool
@@ -47,15 +48,15 @@ every f (x ∷ xs) = f x && every f xs
 abbrev pub contentOk : ℕ → Entry → Bool
 contentOk kind e =
     cond (eqb kind fetch) (eqb (e .version) 0 && eqb (e .value) 0)
-    (eqb kind copy || cond (eqb (e .mode) 0) (eqb (e .value) 0) (ltb (e .version) 4294967295))
+    (eqb kind copy || cond (eqb (e .mode) 0) (eqb (e .value) 0) (ltb (e .version) highest))
 
 -- objects are 0 to 63, the mode is 0 to read or 1 to write
 unfoldable pub entryOk : ℕ → Entry → Bool
-entryOk kind e = ltb (e .object) 64 && (ltb (e .mode) 2 && contentOk kind e)
+entryOk kind e = ltb (e .object) objects && (ltb (e .mode) 2 && contentOk kind e)
 
 -- a rival is another owner, with a serial from 1; a yield goes to its rival's owner
 unfoldable pub rivalOk : ℕ → ℕ → ℕ → Rival → Bool
-rivalOk kind owner to r = ltb (r .owner) 13 && (not (eqb (r .owner) owner) && (leb 1 (r .serial) && (not (eqb kind yield) || eqb (r .owner) to)))
+rivalOk kind owner to r = ltb (r .owner) nodes && (not (eqb (r .owner) owner) && (leb 1 (r .serial) && (not (eqb kind yield) || eqb (r .owner) to)))
 
 -- entries and rivals ascend strictly
 unfoldable pub entriesOk : Message → Bool

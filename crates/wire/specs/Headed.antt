@@ -1,4 +1,4 @@
--- A message as a header and its sections, as the private functions take it.
+-- A message as a header and its sections, as the tests and the writers take it.
 use mathlib.Core.Bool.{Bool, _&&_}
 use mathlib.Core.List.{List, []}
 use Prim.Native.Nat.{ℕ}

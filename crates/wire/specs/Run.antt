@@ -1,4 +1,4 @@
--- What the private functions of the check compute; proofs/Accepted.antt shows that it is `accepted`.
+-- What the functions of the check compute; proofs/Accepted.antt shows that it is `accepted`.
 use mathlib.Core.Bool.{Bool, true, cond, _&&_}
 use mathlib.Core.List.{List, [], _∷_}
 use Prim.Native.Nat.{ℕ, _+_, _*_}

@@ -1,7 +1,6 @@
-// Messages: bytes checked, read in place and written.
+// Messages: bytes checked and read in place. The tests of a message's counts, header, entries and rivals are for its writers too.
 mod read;
 mod verify;
-mod write;
 
 pub use read::entries;
 pub use read::from;
@@ -14,14 +13,15 @@ pub use read::serial;
 pub use read::stamp;
 pub use read::to;
 pub use read::word;
+pub use verify::above;
 pub use verify::check;
-pub use write::write_ask;
-pub use write::write_copy;
-pub use write::write_done;
-pub use write::write_fetch;
-pub use write::write_outcome;
-pub use write::write_vote;
-pub use write::write_yield;
+pub use verify::counts_ok;
+pub use verify::entry_fits;
+pub use verify::entry_ok;
+pub use verify::head_ok;
+pub use verify::outcome_counts;
+pub use verify::rival_ok;
+pub use verify::vote_counts;
 
 // One object of a message (document 01: tally): which, in which mode (0 read, 1 write), the version and the value.
 #[repr(C)]
@@ -39,27 +39,16 @@ pub struct Rival {
 }
 
 // The header of a message: kind, from, to, and the transaction that it speaks of.
-struct Head {
-    kind: u8,
-    from: u8,
-    to: u8,
-    owner: u8,
-    serial: u32,
-    stamp: u32,
+pub struct Head {
+    pub kind: u8,
+    pub from: u8,
+    pub to: u8,
+    pub owner: u8,
+    pub serial: u32,
+    pub stamp: u32,
 }
 
-// What a writer answers: a number, and how many bytes it filled.
-#[repr(C)]
-pub struct Written {
-    pub number: u8,
-    pub length: u8,
-}
-
-// Sizes in bytes: the shortest and the longest message, the header, an entry, a rival.
-pub const SHORTEST: usize = 15;
-
-pub const LONGEST: usize = 128;
-
+// Sizes in bytes: the header, an entry, a rival.
 pub const HEADER: usize = 12;
 
 pub const ENTRY: usize = 14;

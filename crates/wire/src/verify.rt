@@ -14,10 +14,8 @@ use crate::ENTRY;
 use crate::Entry;
 use crate::HEADER;
 use crate::Head;
-use crate::LONGEST;
 use crate::RIVAL;
 use crate::Rival;
-use crate::SHORTEST;
 use crate::read::count_at;
 use crate::read::entries;
 use crate::read::entry_at;
@@ -25,10 +23,16 @@ use crate::read::head;
 use crate::read::kind;
 use crate::read::rival_at;
 use crate::read::word_at;
+use numbers::HIGHEST;
+use numbers::LONGEST_MESSAGE;
+use numbers::NODES_END;
+use numbers::OBJECTS_END;
+use numbers::SHORTEST_MESSAGE;
 use numbers::both;
 
 // The counts of a vote: a no (word 0) names no rivals.
-pub(crate) fn vote_counts(entries: usize, rivals: usize, words: usize, word: u8) -> bool
+// Ruled out: a no with a rival; a yes with 13 rivals.
+pub fn vote_counts(entries: usize, rivals: usize, words: usize, word: u8) -> bool
     ensures { λ r. ⌜ r ≡ countsOk 4 entries rivals words word ⌝ }
 {
     let rest = both(entries == 0, words == 1);
@@ -43,7 +47,8 @@ pub(crate) fn vote_counts(entries: usize, rivals: usize, words: usize, word: u8)
 }
 
 // The counts of an outcome: an abort (word 0) has no entries, a commit 1 to 8.
-pub(crate) fn outcome_counts(entries: usize, rivals: usize, words: usize, word: u8) -> bool
+// Ruled out: a commit of nothing; an abort with entries.
+pub fn outcome_counts(entries: usize, rivals: usize, words: usize, word: u8) -> bool
     ensures { λ r. ⌜ r ≡ countsOk 5 entries rivals words word ⌝ }
 {
     let rest = both(rivals == 0, words == 1);
@@ -58,7 +63,8 @@ pub(crate) fn outcome_counts(entries: usize, rivals: usize, words: usize, word: 
 }
 
 // The kind decides the counts of entries, rivals and words.
-pub(crate) fn counts_ok(kind: u8, entries: usize, rivals: usize, words: usize, word: u8) -> bool
+// Ruled out: an ask for nine objects; kind 8.
+pub fn counts_ok(kind: u8, entries: usize, rivals: usize, words: usize, word: u8) -> bool
     ensures { λ r. ⌜ r ≡ countsOk kind entries rivals words word ⌝ }
 {
     match kind {
@@ -96,21 +102,26 @@ fn content_ok(kind: u8, e: Entry) -> bool
             if e.mode == 0 {
                 e.value == 0
             } else {
-                e.version < 4294967295
+                e.version < HIGHEST
             }
         }
     }
 }
 
 // An entry is well formed.
-pub(crate) fn entry_ok(kind: u8, e: Entry) -> bool
+// Ruled out: object 64; a fetch that names a version; an ask that reads with a value.
+pub fn entry_ok(kind: u8, e: Entry) -> bool
     ensures { λ r. ⌜ r ≡ entryOk kind e ⌝ }
 {
-    both(e.object < 64, both(e.mode < 2, content_ok(kind, e)))
+    both(
+        e.object < OBJECTS_END,
+        both(e.mode < 2, content_ok(kind, e)),
+    )
 }
 
 // One more entry: its object is at least lo, and it is well formed.
-pub(crate) fn entry_fits(kind: u8, lo: usize, e: Entry) -> bool
+// Ruled out: the same object twice; an entry that ascends and is not well formed.
+pub fn entry_fits(kind: u8, lo: usize, e: Entry) -> bool
     ensures { λ r. ⌜ r ≡ (leb lo (e .object) && entryOk kind e) ⌝ }
 {
     both(lo <= e.object as usize, entry_ok(kind, e))
@@ -124,11 +135,12 @@ fn placed(kind: u8, rival: u8, to: u8) -> bool
 }
 
 // A rival is well formed.
-pub(crate) fn rival_ok(kind: u8, owner: u8, to: u8, r: Rival) -> bool
+// Ruled out: the owner as its own rival; a yield to another than its rival's owner.
+pub fn rival_ok(kind: u8, owner: u8, to: u8, r: Rival) -> bool
     ensures { λ x. ⌜ x ≡ rivalOk kind owner to r ⌝ }
 {
     both(
-        r.owner < 13,
+        r.owner < NODES_END,
         both(
             r.owner != owner,
             both(1 <= r.serial, placed(kind, r.owner, to)),
@@ -144,7 +156,8 @@ fn rival_fits(kind: u8, owner: u8, to: u8, lo: usize, r: Rival) -> bool
 }
 
 // One above an item's key.
-pub(crate) fn above(key: u8) -> usize
+// Ruled out: 0 above 255; the key itself.
+pub fn above(key: u8) -> usize
     ensures { λ r. ⌜ r ≡ key + 1 ⌝ }
 {
     key as usize + 1
@@ -152,7 +165,7 @@ pub(crate) fn above(key: u8) -> usize
 
 // The entries ascend strictly, and each is well formed.
 fn entries_ok(s: &[u8], kind: u8, n: usize) -> bool
-    requires { ⌜ (n < 256) × (13 + 14 * n ≤ length (now s)) ⌝ }
+    requires { ⌜ (n < 256) × (entriesPlace + 14 * n ≤ length (now s)) ⌝ }
     ensures { λ r. ⌜ r ≡ run objectOf (entryOk kind) 0 (itemsFrom entryAt entrySize n (now (s .entry)) entriesPlace) ⌝ }
 {
     let mut lo: usize = 0;
@@ -193,14 +206,15 @@ fn rivals_ok(s: &[u8], kind: u8, owner: u8, to: u8, place: usize, n: usize) -> b
 }
 
 // The names of nodes, serial and stamp; odd kinds come from the owner, even ones go to it.
-pub(crate) fn head_ok(h: Head) -> bool
+// Ruled out: node 13; serial 0; a vote that goes to another than the owner.
+pub fn head_ok(h: Head) -> bool
     ensures { λ r. ⌜ r ≡ headOk h ⌝ }
 {
     let named = both(
-        h.from < 13,
+        h.from < NODES_END,
         both(
-            h.to < 13,
-            both(h.owner < 13, both(1 <= h.serial, 1 <= h.stamp)),
+            h.to < NODES_END,
+            both(h.owner < NODES_END, both(1 <= h.serial, 1 <= h.stamp)),
         ),
     );
     both(named, directed(h))
@@ -221,9 +235,9 @@ fn sized(s: &[u8], n: usize, r: usize, w: usize) -> bool
     requires { ⌜ (n < 256) × (r < 256) × (w < 256) ⌝ }
     ensures { λ x. ⌜ x ≡ (eqb (length (now (s .entry))) (sizeWith n r w) && countsOk (kindOf (now (s .entry))) n r w (wordWith (now (s .entry)) n r w)) ⌝ }
 {
-    let word = word_at(s, SHORTEST + ENTRY * n + RIVAL * r, w);
+    let word = word_at(s, SHORTEST_MESSAGE + ENTRY * n + RIVAL * r, w);
     both(
-        s.len() == SHORTEST + ENTRY * n + RIVAL * r + w,
+        s.len() == SHORTEST_MESSAGE + ENTRY * n + RIVAL * r + w,
         counts_ok(kind(s), n, r, w, word),
     )
 }
@@ -255,10 +269,10 @@ fn is_accepted(s: &[u8]) -> bool
 pub fn check(s: &[u8]) -> u8
     ensures { λ r. ⌜ r ≡ checkOf (now (s .entry)) ⌝ }
 {
-    if s.len() < SHORTEST {
+    if s.len() < SHORTEST_MESSAGE {
         return numbers::LENGTH;
     }
-    if LONGEST < s.len() {
+    if LONGEST_MESSAGE < s.len() {
         return numbers::LENGTH;
     }
     if is_accepted(s) { 0 } else { numbers::GARBLED }

@@ -18,8 +18,8 @@ returns : tie.Need-returns
 unfolding withCopy
 returns c =
     simp (
-      c .before .before .before .before .before .join .ensures,
-      c .before .before .before .before .before .before .single .ensures,
+      c .before .before .before .join .ensures,
+      c .before .before .before .before .single .ensures,
       sym (c .before .either .ensures) ∙ c .if1 .taken,
     )
 
@@ -27,8 +27,8 @@ returns-2 : tie.Need-returns-2
 unfolding withCopy
 returns-2 c =
     simp (
-      c .before .before .before .before .before .join .ensures,
-      c .before .before .before .before .before .before .single .ensures,
+      c .before .before .before .join .ensures,
+      c .before .before .before .before .single .ensures,
       sym (c .before .either .ensures) ∙ c .if1 .left,
     )
 

@@ -5,6 +5,7 @@ use lib.Dec.{ltb}
 use lib.ListN.{length}
 use native.Mathlib.Omega.{arith}
 use borrow.Author.Needs.{needs}
+use Rattle.numbers.specs.Sizes.{objects as objectsEnd, mostOpen}
 use Rattle.due.specs.Gather.{Lists}
 use Rattle.due.specs.Due.{entriesBelow, entriesOf}
 use Rattle.due.proofs.Gather.{first-fits, second-fits, Gathers, gathers-none, gathers-more, gathers-same}
@@ -12,10 +13,10 @@ use Rattle.due.proofs.entries_of.Statement.{statement}
 use Rattle.due.proofs.entries_of.Tie as tie
 
 abbrev Inv-loop : tie.InvT-loop
-Inv-loop objects places entries₀ count₀ n₀ entries count n = (n ≤ 64) × ((length entries ≡ 8) × Gathers objects places entries count n)
+Inv-loop objects places entries₀ count₀ n₀ entries count n = (n ≤ objectsEnd) × ((length entries ≡ mostOpen) × Gathers objects places entries count n)
 
 abbrev μ-loop : tie.MeasureT-loop
-μ-loop objects places entries₀ count₀ n₀ entries count n = 64 - n
+μ-loop objects places entries₀ count₀ n₀ entries count n = objectsEnd - n
 
 places-of-requires : tie.Need-places-of-requires Inv-loop μ-loop
 places-of-requires c κs = search needs
@@ -44,13 +45,13 @@ mul-entry-for : tie.Need-mul-entry-for Inv-loop μ-loop
 mul-entry-for c =
     let b = c .before .before in
     let t = sym (c .before .both .ensures) ∙ c .if1 .taken in
-    let q = first-fits (b .wide .result) 8 (ltb (b .before .before .loop .count) 8) t in
+    let q = first-fits (b .wide .result) mostOpen (ltb (b .before .before .loop .count) mostOpen) t in
     search needs
 
 array-copy-out-entry-for : tie.Need-array-copy-out-entry-for Inv-loop μ-loop
 array-copy-out-entry-for c =
     let b = c .before .before in
-    first-fits (b .wide .result) 8 (ltb (b .before .before .loop .count) 8) (sym (c .before .both .ensures) ∙ c .if1 .taken)
+    first-fits (b .wide .result) mostOpen (ltb (b .before .before .loop .count) mostOpen) (sym (c .before .both .ensures) ∙ c .if1 .taken)
 
 entry-for-requires : tie.Need-entry-for-requires Inv-loop μ-loop
 entry-for-requires c κs = search needs
@@ -59,20 +60,20 @@ mul-entries : tie.Need-mul-entries Inv-loop μ-loop
 mul-entries c =
     let b = c .before .before .before in
     let t = sym (b .both .ensures) ∙ c .before .before .if1 .taken in
-    let q = second-fits (ltb (b .before .wide .result) 8) (b .before .before .before .loop .count) 8 t in
+    let q = second-fits (ltb (b .before .wide .result) mostOpen) (b .before .before .before .loop .count) mostOpen t in
     search needs
 
 array-set-from-entries : tie.Need-array-set-from-entries Inv-loop μ-loop
 array-set-from-entries c =
     let b = c .before .before .before in
     let t = sym (b .both .ensures) ∙ c .before .before .if1 .taken in
-    second-fits (ltb (b .before .wide .result) 8) (b .before .before .before .loop .count) 8 t
+    second-fits (ltb (b .before .wide .result) mostOpen) (b .before .before .before .loop .count) mostOpen t
 
 add-count : tie.Need-add-count Inv-loop μ-loop
 add-count c =
     let b = c .before .before .before in
     let t = sym (b .both .ensures) ∙ c .before .before .if1 .taken in
-    let q = second-fits (ltb (b .before .wide .result) 8) (b .before .before .before .loop .count) 8 t in
+    let q = second-fits (ltb (b .before .wide .result) mostOpen) (b .before .before .before .loop .count) mostOpen t in
     omega arith
 
 loop-less : tie.Need-loop-less Inv-loop μ-loop
@@ -117,7 +118,7 @@ returns c =
     let l = c .before .loop in
     let p = c .before .before .before in
     let x = p .before .before .args in
-    let last : l .n ≡ 64 = omega arith in
+    let last : l .n ≡ objectsEnd = omega arith in
     subst (λ (n : ℕ). Lists (record { entries = l .entries; count = l .count }) (entriesBelow (x .c) n)) last
     (l .inv .1 .1 (x .c) refl (p .places-of .ensures .1))
 

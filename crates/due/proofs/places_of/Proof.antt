@@ -5,12 +5,13 @@ use lib.Dec.{ltb}
 use lib.ListN.{length}
 use native.Mathlib.Omega.{arith}
 use borrow.Author.Needs.{needs}
+use Rattle.numbers.specs.Sizes.{objects as objectsEnd, mostOpen}
 use Rattle.due.proofs.Gather.{second-fits, Marks, marks-start, marks-put, marks-keep, marks-whole}
 use Rattle.due.proofs.places_of.Statement.{statement}
 use Rattle.due.proofs.places_of.Tie as tie
 
 abbrev Inv-loop : tie.InvT-loop
-Inv-loop count objects places₀ i₀ places i = (i ≤ 8) × ((length places ≡ 64) × Marks places objects count i)
+Inv-loop count objects places₀ i₀ places i = (i ≤ mostOpen) × ((length places ≡ objectsEnd) × Marks places objects count i)
 
 abbrev μ-loop : tie.MeasureT-loop
 μ-loop count objects places₀ i₀ places i = i
@@ -40,7 +41,7 @@ array-write-places : tie.Need-array-write-places Inv-loop μ-loop
 array-write-places c =
     let b = c .before in
     let l = b .before .before .before .before in
-    second-fits (ltb (l .loop .i - 1) (l .before .args .count)) (b .before .wide .result) 64 (sym (b .both .ensures) ∙ c .if1 .taken)
+    second-fits (ltb (l .loop .i - 1) (l .before .args .count)) (b .before .wide .result) objectsEnd (sym (b .both .ensures) ∙ c .if1 .taken)
 
 loop-less : tie.Need-loop-less Inv-loop μ-loop
 loop-less c = omega arith
@@ -52,7 +53,7 @@ loop-again c =
     let l = b .before .before .before .before in
     let x = l .before .args in
     let t = sym (b .both .ensures) ∙ c .if1 .taken in
-    let small : w .result < 64 = second-fits (ltb (l .loop .i - 1) (x .count)) (w .result) 64 t in (
+    let small : w .result < objectsEnd = second-fits (ltb (l .loop .i - 1) (x .count)) (w .result) objectsEnd t in (
       omega arith,
       (
         search needs,

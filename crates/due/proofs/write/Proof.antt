@@ -3,6 +3,7 @@ use mathlib.Core.Path.{sym, _∙_}
 use denote.Ref.{now}
 use lib.ListN.{length}
 use borrow.Author.Tests.{lt-ltb, le-ltb}
+use Rattle.numbers.specs.Sizes.{longestMessage}
 use Rattle.coordinator.specs.System.{tree}
 use Rattle.due.proofs.Tell.{short-not, short-written, due-test, written-taken, written-left, buffer-taken, buffer-left}
 use borrow.Author.Needs.{needs}
@@ -12,7 +13,7 @@ use Rattle.due.proofs.write.Tie as tie
 returns : tie.Need-returns
 returns c =
     let x = c .before .before .args in
-    let t = lt-ltb (length (now (x .out))) 128 (c .if1 .taken) in
+    let t = lt-ltb (length (now (x .out))) longestMessage (c .if1 .taken) in
     let f = short-not tree (x .c) (x .me) (x .node) (x .object) (length (now (x .out))) t in (
       short-written tree (x .c) (x .me) (x .node) (x .object) (length (now (x .out))) t,
       buffer-left tree (x .c) (x .me) (x .node) (x .object) (now (x .out)) f,
@@ -36,7 +37,7 @@ returns-2 c =
     let z = b .before .before .before .before in
     let x = z .before .before .args in
     let d = b .before .before .before .due .ensures in
-    let l = le-ltb (length (now (x .out))) 128 (z .if1 .left) in
+    let l = le-ltb (length (now (x .out))) longestMessage (z .if1 .left) in
     let t = due-test tree (x .c) (x .me) (x .node) (x .object) (length (now (x .out))) l _ d
     (sym (b .both .ensures) ∙ c .before .before .before .before .if2 .taken) in
     let w = c .before .before .send .ensures in (
@@ -50,7 +51,7 @@ returns-3 c =
     let z = b .before .before .before .before in
     let x = z .before .before .args in
     let d = b .before .before .before .due .ensures in
-    let l = le-ltb (length (now (x .out))) 128 (z .if1 .left) in
+    let l = le-ltb (length (now (x .out))) longestMessage (z .if1 .left) in
     let t = due-test tree (x .c) (x .me) (x .node) (x .object) (length (now (x .out))) l _ d
     (sym (b .both .ensures) ∙ c .if2 .left) in (
       written-left tree (x .c) (x .me) (x .node) (x .object) (length (now (x .out))) l t _ d,

@@ -7,16 +7,17 @@ use borrow.Author.Count.{below-more}
 use lib.ListN.{length, getD, length-set}
 use lib.Seq.{getD-set-same, getD-set-other}
 use denote.Ref.{now}
+use Rattle.numbers.specs.Sizes.{nodes}
 use Rattle.octets.specs.Octets.{get}
 use Rattle.host.proofs.Laws.{all-distances}
 use Rattle.host.proofs.distances_of.Statement.{statement}
 use Rattle.host.proofs.distances_of.Tie as tie
 
 abbrev Inv-loop : tie.InvT-loop
-Inv-loop bytes d₀ i₀ d i = (i ≤ 13) × (length d ≡ 13) × ((j : ℕ) → j < i → getD d j 0 ≡ get 2 bytes (2 * j))
+Inv-loop bytes d₀ i₀ d i = (i ≤ nodes) × (length d ≡ nodes) × ((j : ℕ) → j < i → getD d j 0 ≡ get 2 bytes (2 * j))
 
 abbrev μ-loop : tie.MeasureT-loop
-μ-loop bytes d₀ i₀ d i = 13 - i
+μ-loop bytes d₀ i₀ d i = nodes - i
 
 loop-holds : tie.Need-loop-holds Inv-loop μ-loop
 loop-holds c = (omega arith, refl, λ j h. absurd (omega arith))

@@ -19,7 +19,7 @@ lesser-requires-2 : tie.Need-lesser-requires-2
 lesser-requires-2 c κs = search needs
 
 returns : tie.Need-returns
-returns c = cc
+returns c = rw (c .lesser2 .ensures, c .before .lesser .ensures)
 
 pub choose-pair-spec : {M : Type 1} → statement M
 choose-pair-spec =

@@ -16,7 +16,7 @@ rooted-by-requires : tie.Need-rooted-by-requires
 rooted-by-requires c κs = search needs
 
 returns : tie.Need-returns
-returns c = cc
+returns c = rw (c .rooted-by .ensures, c .before .pair-after .ensures, c .before .before .has .ensures)
 
 pub in-hall-spec : {M : Type 1} → statement M
 in-hall-spec = tie.close (tie.spec has-requires mul-pair-after pair-after-requires rooted-by-requires returns)

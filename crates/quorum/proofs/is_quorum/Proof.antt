@@ -24,7 +24,17 @@ rooted-by-requires c κs = search needs
 
 returns : tie.Need-returns
 unfolding isQuorum
-returns c = cc
+returns c =
+    let h = c .before .before in
+    let a = h .before .before .before in
+    rw (
+      c .rooted-by .ensures,
+      c .before .two-of .ensures,
+      h .has .ensures,
+      h .before .in-hall3 .ensures,
+      h .before .before .in-hall2 .ensures,
+      a .in-hall .ensures,
+    )
 
 pub is-quorum-spec : {M : Type 1} → statement M
 is-quorum-spec =

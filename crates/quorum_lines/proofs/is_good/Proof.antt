@@ -2,6 +2,7 @@
 use mathlib.Core.Bool.{not, _&&_}
 use mathlib.Core.Path.{sym}
 use lib.Dec.{eqb}
+use Rattle.numbers.specs.Sizes.{nodes}
 use Rattle.quorum_lines.specs.Line.{isGood}
 use Rattle.quorum_lines.proofs.is_good.Statement.{statement}
 use Rattle.quorum_lines.proofs.is_good.Tie as tie
@@ -14,7 +15,7 @@ returns-2 : tie.Need-returns-2
 unfolding isGood
 returns-2 c =
     let k = c .before .before .before .args .line .count in
-    sym (λ j. not (c .before .before .if1 .left j) && (c .before .if2 .taken j && eqb k 13))
+    sym (λ j. not (c .before .before .if1 .left j) && (c .before .if2 .taken j && eqb k nodes))
 
 returns-3 : tie.Need-returns-3
 unfolding isGood

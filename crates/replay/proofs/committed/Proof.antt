@@ -2,6 +2,7 @@
 use mathlib.Core.Path.{_≡_, sym, _∙_}
 use denote.Ref.{now}
 use lib.ListN.{length}
+use Rattle.numbers.specs.Sizes.{objects}
 use Rattle.replay.specs.Sheet.{ownerNumber, allTaken, committedAfter}
 use Rattle.replay.proofs.Steps.{unless-done, unless-refused}
 use borrow.Author.Needs.{needs}
@@ -32,7 +33,7 @@ returns-2 c =
     let x = c .before .before .before .before .before .before .before .before .args in
     let l = now (x .sheet) in
     let e : ownerNumber (length l) (x .owner) ≡ 0 = cc in
-    let done = unless-done _ l (allTaken 64 l (x .owner) 0) e in
+    let done = unless-done _ l (allTaken objects l (x .owner) 0) e in
     (sym e, cc)
 
 pub committed-spec : {M : Type 1} → statement M

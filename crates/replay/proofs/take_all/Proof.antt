@@ -5,16 +5,17 @@ use Prim.Native.Nat.{ℕ, _+_, _-_, _≤_}
 use native.Mathlib.Omega.{arith}
 use lib.ListN.{length}
 use borrow.Author.Needs.{needs}
+use Rattle.numbers.specs.Sizes.{objects}
 use Rattle.replay.specs.Sheet.{allTaken}
 use Rattle.replay.proofs.Steps.{taken-step}
 use Rattle.replay.proofs.take_all.Statement.{statement}
 use Rattle.replay.proofs.take_all.Tie as tie
 
 abbrev Inv-loop : tie.InvT-loop
-Inv-loop sheet₀ o t₀ sheet t = (t ≤ 64) × (length sheet ≡ length sheet₀) × (allTaken (64 - t) sheet o t ≡ allTaken 64 sheet₀ o 0)
+Inv-loop sheet₀ o t₀ sheet t = (t ≤ objects) × (length sheet ≡ length sheet₀) × (allTaken (objects - t) sheet o t ≡ allTaken objects sheet₀ o 0)
 
 abbrev μ-loop : tie.MeasureT-loop
-μ-loop sheet₀ o t₀ sheet t = 64 - t
+μ-loop sheet₀ o t₀ sheet t = objects - t
 
 loop-holds : tie.Need-loop-holds Inv-loop μ-loop
 loop-holds c = (omega arith, refl, refl)
@@ -33,11 +34,11 @@ loop-again c =
     let l = c .before .before .before .before .before .loop in
     let k = c .before .before .take in
     let o = c .before .before .before .before .before .before .before .args .o in
-    let e : 64 - (l .t + 1) ≡ 64 - l .t - 1 = omega arith in (
+    let e : objects - (l .t + 1) ≡ objects - l .t - 1 = omega arith in (
       omega arith,
       k .kept .0 ∙ l .inv .1,
       ap₂ (λ (n : ℕ) (d : List ℕ). allTaken n d o (l .t + 1)) e (k .ensures)
-          ∙ taken-step (64 - l .t) (l .sheet) o (l .t) (omega arith) ∙ l .inv .2,
+          ∙ taken-step (objects - l .t) (l .sheet) o (l .t) (omega arith) ∙ l .inv .2,
     )
 
 same-length : tie.Need-same-length Inv-loop μ-loop
@@ -47,7 +48,7 @@ returns : tie.Need-returns Inv-loop μ-loop
 unfolding allTaken
 returns c =
     let l = c .before .loop in
-    let e : 64 - l .t ≡ 0 = omega arith in
+    let e : objects - l .t ≡ 0 = omega arith in
     ap (λ (n : ℕ). allTaken n (l .sheet) (c .before .before .before .args .o) (l .t)) (sym e) ∙ l .inv .2
 
 pub take-all-spec : {M : Type 1} → statement M

@@ -1,6 +1,5 @@
 -- `report::digits`: each way through the tests computes the definition.
 use Rattle.report.specs.Page.{ink, page}
-use Rattle.decimal.specs.Decimal.{decimal}
 use borrow.Author.Needs.{needs}
 use Rattle.report.proofs.digits.Statement.{statement}
 use Rattle.report.proofs.digits.Tie as tie

@@ -1,211 +1,23 @@
--- `report::kind_word`: each way through the tests computes the definition.
-use borrow.Author.Tests.{eq-eqb, ne-eqb}
-use Rattle.report.specs.Texts.{kindWord}
+-- `report::kind_word`: the row of the kind is its word.
+use Rattle.report.proofs.Rows.{kind-row}
 use borrow.Author.Needs.{needs}
 use Rattle.report.proofs.kind_word.Statement.{statement}
 use Rattle.report.proofs.kind_word.Tie as tie
 
-slice-aggregate-text : tie.Need-slice-aggregate-text
-slice-aggregate-text c = search needs
+kind-row-requires : tie.Need-kind-row-requires
+kind-row-requires c κs = search needs
 
-text-requires : tie.Need-text-requires
-text-requires c κs = search needs
+row-requires : tie.Need-row-requires
+row-requires c κs = search needs
 
 same-length : tie.Need-same-length
 same-length c = search needs
 
 returns : tie.Need-returns
-unfolding kindWord
-returns c = simp (eq-eqb _ _ (c .before .before .before .before .before .if1 .taken)) (c .before .before .text .ensures)
-
-slice-aggregate-text-2 : tie.Need-slice-aggregate-text-2
-slice-aggregate-text-2 c = search needs
-
-text-requires-2 : tie.Need-text-requires-2
-text-requires-2 c κs = search needs
-
-same-length-2 : tie.Need-same-length-2
-same-length-2 c = search needs
-
-returns-2 : tie.Need-returns-2
-unfolding kindWord
-returns-2 c = simp (
-  eq-eqb _ _ (c .before .before .before .before .before .if2 .taken),
-  ne-eqb _ _ (c .before .before .before .before .before .before .if1 .left),
-) (c .before .before .text2 .ensures)
-
-slice-aggregate-text-3 : tie.Need-slice-aggregate-text-3
-slice-aggregate-text-3 c = search needs
-
-text-requires-3 : tie.Need-text-requires-3
-text-requires-3 c κs = search needs
-
-same-length-3 : tie.Need-same-length-3
-same-length-3 c = search needs
-
-returns-3 : tie.Need-returns-3
-unfolding kindWord
-returns-3 c = simp (
-  eq-eqb _ _ (c .before .before .before .before .before .if3 .taken),
-  ne-eqb _ _ (c .before .before .before .before .before .before .if2 .left),
-  ne-eqb _ _ (c .before .before .before .before .before .before .before .if1 .left),
-) (c .before .before .text3 .ensures)
-
-slice-aggregate-text-4 : tie.Need-slice-aggregate-text-4
-slice-aggregate-text-4 c = search needs
-
-text-requires-4 : tie.Need-text-requires-4
-text-requires-4 c κs = search needs
-
-same-length-4 : tie.Need-same-length-4
-same-length-4 c = search needs
-
-returns-4 : tie.Need-returns-4
-unfolding kindWord
-returns-4 c = simp (
-  eq-eqb _ _ (c .before .before .before .before .before .if5 .taken),
-  eq-eqb _ _ (c .before .before .before .before .before .before .if4 .taken),
-  ne-eqb _ _ (c .before .before .before .before .before .before .before .if3 .left),
-  ne-eqb _ _ (c .before .before .before .before .before .before .before .before .if2 .left),
-  ne-eqb _ _ (c .before .before .before .before .before .before .before .before .before .if1 .left),
-) (c .before .before .text4 .ensures)
-
-slice-aggregate-text-5 : tie.Need-slice-aggregate-text-5
-slice-aggregate-text-5 c = search needs
-
-text-requires-5 : tie.Need-text-requires-5
-text-requires-5 c κs = search needs
-
-same-length-5 : tie.Need-same-length-5
-same-length-5 c = search needs
-
-returns-5 : tie.Need-returns-5
-unfolding kindWord
-returns-5 c = simp (
-  ne-eqb _ _ (c .before .before .before .before .before .if5 .left),
-  eq-eqb _ _ (c .before .before .before .before .before .before .if4 .taken),
-  ne-eqb _ _ (c .before .before .before .before .before .before .before .if3 .left),
-  ne-eqb _ _ (c .before .before .before .before .before .before .before .before .if2 .left),
-  ne-eqb _ _ (c .before .before .before .before .before .before .before .before .before .if1 .left),
-) (c .before .before .text5 .ensures)
-
-slice-aggregate-text-6 : tie.Need-slice-aggregate-text-6
-slice-aggregate-text-6 c = search needs
-
-text-requires-6 : tie.Need-text-requires-6
-text-requires-6 c κs = search needs
-
-same-length-6 : tie.Need-same-length-6
-same-length-6 c = search needs
-
-returns-6 : tie.Need-returns-6
-unfolding kindWord
-returns-6 c = simp (
-  eq-eqb _ _ (c .before .before .before .before .before .if7 .taken),
-  eq-eqb _ _ (c .before .before .before .before .before .before .if6 .taken),
-  ne-eqb _ _ (c .before .before .before .before .before .before .before .if4 .left),
-  ne-eqb _ _ (c .before .before .before .before .before .before .before .before .if3 .left),
-  ne-eqb _ _ (c .before .before .before .before .before .before .before .before .before .if2 .left),
-  ne-eqb _ _ (c .before .before .before .before .before .before .before .before .before .before .if1 .left),
-) (c .before .before .text6 .ensures)
-
-slice-aggregate-text-7 : tie.Need-slice-aggregate-text-7
-slice-aggregate-text-7 c = search needs
-
-text-requires-7 : tie.Need-text-requires-7
-text-requires-7 c κs = search needs
-
-same-length-7 : tie.Need-same-length-7
-same-length-7 c = search needs
-
-returns-7 : tie.Need-returns-7
-unfolding kindWord
-returns-7 c = simp (
-  ne-eqb _ _ (c .before .before .before .before .before .if7 .left),
-  eq-eqb _ _ (c .before .before .before .before .before .before .if6 .taken),
-  ne-eqb _ _ (c .before .before .before .before .before .before .before .if4 .left),
-  ne-eqb _ _ (c .before .before .before .before .before .before .before .before .if3 .left),
-  ne-eqb _ _ (c .before .before .before .before .before .before .before .before .before .if2 .left),
-  ne-eqb _ _ (c .before .before .before .before .before .before .before .before .before .before .if1 .left),
-) (c .before .before .text7 .ensures)
-
-slice-aggregate-text-8 : tie.Need-slice-aggregate-text-8
-slice-aggregate-text-8 c = search needs
-
-text-requires-8 : tie.Need-text-requires-8
-text-requires-8 c κs = search needs
-
-same-length-8 : tie.Need-same-length-8
-same-length-8 c = search needs
-
-returns-8 : tie.Need-returns-8
-unfolding kindWord
-returns-8 c = simp (
-  eq-eqb _ _ (c .before .before .before .before .before .if8 .taken),
-  ne-eqb _ _ (c .before .before .before .before .before .before .if6 .left),
-  ne-eqb _ _ (c .before .before .before .before .before .before .before .if4 .left),
-  ne-eqb _ _ (c .before .before .before .before .before .before .before .before .if3 .left),
-  ne-eqb _ _ (c .before .before .before .before .before .before .before .before .before .if2 .left),
-  ne-eqb _ _ (c .before .before .before .before .before .before .before .before .before .before .if1 .left),
-) (c .before .before .text8 .ensures)
-
-slice-aggregate-text-9 : tie.Need-slice-aggregate-text-9
-slice-aggregate-text-9 c = search needs
-
-text-requires-9 : tie.Need-text-requires-9
-text-requires-9 c κs = search needs
-
-same-length-9 : tie.Need-same-length-9
-same-length-9 c = search needs
-
-returns-9 : tie.Need-returns-9
-unfolding kindWord
-returns-9 c = simp (
-  ne-eqb _ _ (c .before .before .before .before .before .if8 .left),
-  ne-eqb _ _ (c .before .before .before .before .before .before .if6 .left),
-  ne-eqb _ _ (c .before .before .before .before .before .before .before .if4 .left),
-  ne-eqb _ _ (c .before .before .before .before .before .before .before .before .if3 .left),
-  ne-eqb _ _ (c .before .before .before .before .before .before .before .before .before .if2 .left),
-  ne-eqb _ _ (c .before .before .before .before .before .before .before .before .before .before .if1 .left),
-) (c .before .before .text9 .ensures)
+returns c =
+    let b = c .before .before .before in
+    let x = b .before .before .before in
+    rw (← kind-row (x .args .kind) (x .args .word) (search needs), ← b .kind-row .ensures .0) (c .before .before .row .ensures)
 
 pub kind-word-spec : {M : Type 1} → statement M
-kind-word-spec =
-    tie.close
-    (tie.spec
-    slice-aggregate-text
-    text-requires
-    same-length
-    returns
-    slice-aggregate-text-2
-    text-requires-2
-    same-length-2
-    returns-2
-    slice-aggregate-text-3
-    text-requires-3
-    same-length-3
-    returns-3
-    slice-aggregate-text-4
-    text-requires-4
-    same-length-4
-    returns-4
-    slice-aggregate-text-5
-    text-requires-5
-    same-length-5
-    returns-5
-    slice-aggregate-text-6
-    text-requires-6
-    same-length-6
-    returns-6
-    slice-aggregate-text-7
-    text-requires-7
-    same-length-7
-    returns-7
-    slice-aggregate-text-8
-    text-requires-8
-    same-length-8
-    returns-8
-    slice-aggregate-text-9
-    text-requires-9
-    same-length-9
-    returns-9)
+kind-word-spec = tie.close (tie.spec kind-row-requires row-requires same-length returns)

@@ -6,7 +6,7 @@ use native.Mathlib.Omega.{arith}
 use denote.Ref.{now}
 use lib.ListN.{take, drop}
 use Rattle.parts.specs.Parts.{part}
-use Rattle.image.specs.Layout.{version, value}
+use Rattle.image.specs.Layout.{version, value, imageSize, shape}
 use Rattle.buffers.specs.Buffers.{imageAt}
 use Rattle.closing.specs.declared.Best.{Best}
 use Rattle.closing.specs.Copies.{copyAt}
@@ -56,9 +56,10 @@ returns c =
     let w = c .before .before .before .before .before .wide in
     let x = c .before .before .before .before .before .before .before .args in
     let l = now (x .images) in
-    let e : 1207 * w .result + 1207 - 1207 * w .result ≡ 1207 = omega arith in
-    let k : take (1207 * w .result + 1207 - 1207 * w .result) (drop (1207 * w .result) l) ≡ take 1207 (drop (1207 * x .node) l) =
-    ap₂ (λ (m n : ℕ). take m (drop (1207 * n) l)) e (w .ensures) in
+    let e : imageSize shape * w .result + imageSize shape - imageSize shape * w .result ≡ imageSize shape = omega arith in
+    let k : take (imageSize shape * w .result + imageSize shape - imageSize shape * w .result) (drop (imageSize shape * w .result) l) ≡
+    take (imageSize shape) (drop (imageSize shape * x .node) l) =
+    ap₂ (λ (m n : ℕ). take m (drop (imageSize shape * n) l)) e (w .ensures) in
     let f = c .before .before .before .version .ensures ∙ ap (λ (m : List ℕ). version m (x .object)) k in
     let g = c .before .value .ensures ∙ ap (λ (m : List ℕ). value m (x .object)) k in
     λ i. record { version = f i; value = g i; nodes = c .single .ensures i }

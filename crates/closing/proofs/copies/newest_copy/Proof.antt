@@ -5,6 +5,7 @@ use Prim.Native.Nat.{ℕ, _+_, _-_, _≤_}
 use native.Mathlib.Numerals.{add-one}
 use native.Mathlib.Omega.{arith}
 use denote.Ref.{now}
+use Rattle.numbers.specs.Sizes.{nodes}
 use Rattle.closing.specs.declared.Best.{Best}
 use Rattle.closing.specs.Copies.{newerOf, copyAt, newestOf}
 use borrow.Author.Needs.{needs}
@@ -16,10 +17,10 @@ unfolding newestOf
 newest-more l t n = ap (newestOf l t) (add-one n)
 
 abbrev Inv-loop : tie.InvT-loop
-Inv-loop images object b₀ i₀ b i = (i ≤ 13) × (b ≡ newestOf images object i)
+Inv-loop images object b₀ i₀ b i = (i ≤ nodes) × (b ≡ newestOf images object i)
 
 abbrev μ-loop : tie.MeasureT-loop
-μ-loop images object b₀ i₀ b i = 13 - i
+μ-loop images object b₀ i₀ b i = nodes - i
 
 none-requires : tie.Need-none-requires Inv-loop μ-loop
 none-requires c κs = search needs
@@ -50,7 +51,7 @@ returns : tie.Need-returns Inv-loop μ-loop
 returns c =
     let l = c .before .loop in
     let x = c .before .before .before .before .args in
-    let e : l .i ≡ 13 = omega (arith, c .loop-test .left) in
+    let e : l .i ≡ nodes = omega (arith, c .loop-test .left) in
     l .inv .1 ∙ ap (newestOf (now (x .images)) (x .object)) e
 
 pub newest-copy-spec : {M : Type 1} → statement M

@@ -3,6 +3,7 @@ use Prim.Native.Nat.{ℕ, _-_}
 use native.Mathlib.Omega.{arith}
 use mathlib.Core.Path.{ap₂, _∙_}
 use denote.Ref.{now}
+use Rattle.numbers.specs.Sizes.{objects}
 use Rattle.report.specs.Page.{page, inks}
 use Rattle.report.specs.Each.{Going, none-yet, one-more, all-put}
 use Rattle.closing.specs.declared.Best.{Best}
@@ -12,15 +13,15 @@ use Rattle.closing.proofs.copies.objects.Statement.{statement}
 use Rattle.closing.proofs.copies.objects.Tie as tie
 
 abbrev Inv-loop : tie.InvT-loop
-Inv-loop images sheet out₀ at a₀ t₀ out a t = Going (nthObjectTexts images sheet) 64 out₀ at out a t
+Inv-loop images sheet out₀ at a₀ t₀ out a t = Going (nthObjectTexts images sheet) objects out₀ at out a t
 
 abbrev μ-loop : tie.MeasureT-loop
-μ-loop images sheet out₀ at a₀ t₀ out a t = 64 - t
+μ-loop images sheet out₀ at a₀ t₀ out a t = objects - t
 
 loop-holds : tie.Need-loop-holds Inv-loop μ-loop
 loop-holds c =
     let x = c .before .before .before .args in
-    none-yet (nthObjectTexts (now (x .images)) (now (x .sheet))) 64 (now (x .out)) (x .at)
+    none-yet (nthObjectTexts (now (x .images)) (now (x .sheet))) objects (now (x .out)) (x .at)
 
 newest-requires : tie.Need-newest-requires Inv-loop μ-loop
 newest-requires c κs = search needs
@@ -45,7 +46,7 @@ loop-again c =
     let o = c .before .before .object in
     let e = o .ensures ∙ ap₂ (λ (b : Best) (v : ℕ). inks (page (l .out) (l .a)) (objectTexts (l .t) b v))
     (c .before .before .before .before .before .newest .ensures) (c .before .before .before .before .value .ensures) in
-    one-more (nthObjectTexts (now (x .images)) (now (x .sheet))) 64 (now (x .out)) (x .at) (l .out) (l .a) (l .t) (o .last .0) (o .result)
+    one-more (nthObjectTexts (now (x .images)) (now (x .sheet))) objects (now (x .out)) (x .at) (l .out) (l .a) (l .t) (o .last .0) (o .result)
     (w .loop-test .taken) (l .inv) e
 
 same-length : tie.Need-same-length Inv-loop μ-loop
@@ -56,7 +57,7 @@ unfolding objectsTexts
 returns c =
     let l = c .before .loop in
     let x = c .before .before .before .before .before .args in
-    all-put (nthObjectTexts (now (x .images)) (now (x .sheet))) 64 (now (x .out)) (x .at) (l .out) (l .a) (l .t) (omega (arith, c .loop-test .left))
+    all-put (nthObjectTexts (now (x .images)) (now (x .sheet))) objects (now (x .out)) (x .at) (l .out) (l .a) (l .t) (omega (arith, c .loop-test .left))
     (l .inv)
 
 pub objects-spec : {M : Type 1} → statement M

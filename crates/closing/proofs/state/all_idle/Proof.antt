@@ -3,6 +3,7 @@ use mathlib.Core.Path.{refl}
 use Prim.Native.Nat.{_-_}
 use native.Mathlib.Omega.{arith}
 use denote.Ref.{now}
+use Rattle.numbers.specs.Sizes.{nodes}
 use Rattle.closing.specs.State.{idleAt, allIdle}
 use Rattle.closing.proofs.Loops.{Tried, none-tried, one-tried, all-tried}
 use borrow.Author.Needs.{needs}
@@ -10,13 +11,13 @@ use Rattle.closing.proofs.state.all_idle.Statement.{statement}
 use Rattle.closing.proofs.state.all_idle.Tie as tie
 
 abbrev Inv-loop : tie.InvT-loop
-Inv-loop records all₀ i₀ all i = Tried (idleAt records) 13 all i
+Inv-loop records all₀ i₀ all i = Tried (idleAt records) nodes all i
 
 abbrev μ-loop : tie.MeasureT-loop
-μ-loop records all₀ i₀ all i = 13 - i
+μ-loop records all₀ i₀ all i = nodes - i
 
 loop-holds : tie.Need-loop-holds Inv-loop μ-loop
-loop-holds c = none-tried (idleAt (now (c .before .args .records))) 13
+loop-holds c = none-tried (idleAt (now (c .before .args .records))) nodes
 
 is-idle-requires : tie.Need-is-idle-requires Inv-loop μ-loop
 is-idle-requires c κs = search needs
@@ -34,14 +35,14 @@ loop-again : tie.Need-loop-again Inv-loop μ-loop
 loop-again c =
     let l = c .before .before .before .loop in
     let r = now (c .before .before .before .before .before .args .records) in
-    one-tried (idleAt r) 13 (l .all) (c .both .result) (c .before .is-idle .result) (l .i) (c .before .before .loop-test .taken) (l .inv)
+    one-tried (idleAt r) nodes (l .all) (c .both .result) (c .before .is-idle .result) (l .i) (c .before .before .loop-test .taken) (l .inv)
     (c .before .is-idle .ensures) (c .both .ensures)
 
 returns : tie.Need-returns Inv-loop μ-loop
 unfolding allIdle
 returns c =
     let l = c .before .loop in
-    all-tried (idleAt (now (c .before .before .before .args .records))) 13 (l .all) (l .i) (omega (arith, c .loop-test .left)) (l .inv)
+    all-tried (idleAt (now (c .before .before .before .args .records))) nodes (l .all) (l .i) (omega (arith, c .loop-test .left)) (l .inv)
 
 pub all-idle-spec : {M : Type 1} → statement M
 all-idle-spec =

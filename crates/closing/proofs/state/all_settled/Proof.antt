@@ -2,6 +2,7 @@
 use Prim.Native.Nat.{_-_}
 use native.Mathlib.Omega.{arith}
 use denote.Ref.{now}
+use Rattle.numbers.specs.Sizes.{nodes}
 use Rattle.closing.specs.State.{settledAt, allSettled}
 use Rattle.closing.proofs.Loops.{Tried, none-tried, one-tried, all-tried}
 use borrow.Author.Needs.{needs}
@@ -9,13 +10,13 @@ use Rattle.closing.proofs.state.all_settled.Statement.{statement}
 use Rattle.closing.proofs.state.all_settled.Tie as tie
 
 abbrev Inv-loop : tie.InvT-loop
-Inv-loop images records all₀ i₀ all i = Tried (settledAt images records) 13 all i
+Inv-loop images records all₀ i₀ all i = Tried (settledAt images records) nodes all i
 
 abbrev μ-loop : tie.MeasureT-loop
-μ-loop images records all₀ i₀ all i = 13 - i
+μ-loop images records all₀ i₀ all i = nodes - i
 
 loop-holds : tie.Need-loop-holds Inv-loop μ-loop
-loop-holds c = let x = c .before .before .args in none-tried (settledAt (now (x .images)) (now (x .records))) 13
+loop-holds c = let x = c .before .before .args in none-tried (settledAt (now (x .images)) (now (x .records))) nodes
 
 settled-at-requires : tie.Need-settled-at-requires Inv-loop μ-loop
 settled-at-requires c κs = search needs
@@ -34,7 +35,7 @@ loop-again c =
     let l = c .before .before .before .loop in
     let x = c .before .before .before .before .before .before .args in
     let s = c .before .settled-at in
-    one-tried (settledAt (now (x .images)) (now (x .records))) 13 (l .all) (c .both .result) (s .result) (l .i) (c .before .before .loop-test .taken)
+    one-tried (settledAt (now (x .images)) (now (x .records))) nodes (l .all) (c .both .result) (s .result) (l .i) (c .before .before .loop-test .taken)
     (l .inv) (s .ensures) (c .both .ensures)
 
 returns : tie.Need-returns Inv-loop μ-loop
@@ -42,7 +43,7 @@ unfolding allSettled
 returns c =
     let l = c .before .loop in
     let x = c .before .before .before .before .args in
-    all-tried (settledAt (now (x .images)) (now (x .records))) 13 (l .all) (l .i) (omega (arith, c .loop-test .left)) (l .inv)
+    all-tried (settledAt (now (x .images)) (now (x .records))) nodes (l .all) (l .i) (omega (arith, c .loop-test .left)) (l .inv)
 
 pub all-settled-spec : {M : Type 1} → statement M
 all-settled-spec =

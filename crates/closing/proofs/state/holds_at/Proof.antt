@@ -4,6 +4,7 @@ use Prim.Native.Nat.{ℕ, _+_, _-_, _*_}
 use native.Mathlib.Omega.{arith}
 use denote.Ref.{now}
 use lib.ListN.{take, drop}
+use Rattle.image.specs.Layout.{imageSize, shape}
 use Rattle.parts.specs.Parts.{part}
 use Rattle.buffers.specs.Buffers.{imageAt}
 use Rattle.closing.specs.State.{holds, holdsAt}
@@ -37,8 +38,8 @@ unfolding holdsAt imageAt part
 returns c =
     let w = c .before .before .wide in
     let x = c .before .before .before .before .args in
-    let e : 1207 * w .result + 1207 - 1207 * w .result ≡ 1207 = omega arith in
-    c .holds .ensures ∙ ap₂ (λ (m n : ℕ). holds (take m (drop (1207 * n) (now (x .images)))) (x .owner) (x .serial)) e (w .ensures)
+    let e : imageSize shape * w .result + imageSize shape - imageSize shape * w .result ≡ imageSize shape = omega arith in
+    c .holds .ensures ∙ ap₂ (λ (m n : ℕ). holds (take m (drop (imageSize shape * n) (now (x .images)))) (x .owner) (x .serial)) e (w .ensures)
 
 pub holds-at-spec : {M : Type 1} → statement M
 holds-at-spec =

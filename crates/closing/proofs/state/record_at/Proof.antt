@@ -4,6 +4,7 @@ use Prim.Native.Nat.{ℕ, _+_, _-_, _*_}
 use native.Mathlib.Omega.{arith}
 use denote.Ref.{now}
 use lib.ListN.{take, drop}
+use Rattle.record.specs.Layout.{recordSize}
 use Rattle.parts.specs.Parts.{part}
 use Rattle.record.specs.Record.{recordOf}
 use Rattle.buffers.specs.Buffers.{recordAt}
@@ -37,8 +38,8 @@ unfolding recordAt part
 returns c =
     let w = c .before .before .wide in
     let x = c .before .before .before .before .args in
-    let e : 301 * w .result + 301 - 301 * w .result ≡ 301 = omega arith in
-    c .read .ensures ∙ ap₂ (λ (m n : ℕ). recordOf (take m (drop (301 * n) (now (x .records))))) e (w .ensures)
+    let e : recordSize * w .result + recordSize - recordSize * w .result ≡ recordSize = omega arith in
+    c .read .ensures ∙ ap₂ (λ (m n : ℕ). recordOf (take m (drop (recordSize * n) (now (x .records))))) e (w .ensures)
 
 pub record-at-spec : {M : Type 1} → statement M
 record-at-spec =

@@ -4,6 +4,7 @@ use mathlib.Core.Bool.{Bool, not, _&&_}
 use Prim.Native.Nat.{_-_}
 use native.Mathlib.Omega.{arith}
 use denote.Ref.{now}
+use Rattle.numbers.specs.Sizes.{nodes}
 use Rattle.closing.specs.State.{releasedAt, released}
 use Rattle.closing.proofs.Loops.{Tried, none-tried, one-tried, all-tried}
 use borrow.Author.Needs.{needs}
@@ -11,15 +12,15 @@ use Rattle.closing.proofs.state.released.Statement.{statement}
 use Rattle.closing.proofs.state.released.Tie as tie
 
 abbrev Inv-loop : tie.InvT-loop
-Inv-loop images participants owner serial all₀ i₀ all i = Tried (releasedAt images participants owner serial) 13 all i
+Inv-loop images participants owner serial all₀ i₀ all i = Tried (releasedAt images participants owner serial) nodes all i
 
 abbrev μ-loop : tie.MeasureT-loop
-μ-loop images participants owner serial all₀ i₀ all i = 13 - i
+μ-loop images participants owner serial all₀ i₀ all i = nodes - i
 
 loop-holds : tie.Need-loop-holds Inv-loop μ-loop
 loop-holds c =
     let x = c .before .args in
-    none-tried (releasedAt (now (x .images)) (x .participants) (x .owner) (x .serial)) 13
+    none-tried (releasedAt (now (x .images)) (x .participants) (x .owner) (x .serial)) nodes
 
 has-requires : tie.Need-has-requires Inv-loop μ-loop
 has-requires c κs = search needs
@@ -45,7 +46,7 @@ loop-again c =
     let x = c .before .before .before .before .before .before .before .args in
     let b = c .before .both in
     let e = b .ensures ∙ ap₂ (λ (p q : Bool). p && q) (c .before .before .before .has .ensures) (c .before .before .holds-at .ensures) in
-    one-tried (releasedAt (now (x .images)) (x .participants) (x .owner) (x .serial)) 13 (l .all) (c .both2 .result) (not (b .result)) (l .i)
+    one-tried (releasedAt (now (x .images)) (x .participants) (x .owner) (x .serial)) nodes (l .all) (c .both2 .result) (not (b .result)) (l .i)
     (c .before .before .before .before .loop-test .taken) (l .inv) (ap not e) (c .both2 .ensures)
 
 returns : tie.Need-returns Inv-loop μ-loop
@@ -53,7 +54,7 @@ unfolding released
 returns c =
     let l = c .before .loop in
     let x = c .before .before .before .args in
-    all-tried (releasedAt (now (x .images)) (x .participants) (x .owner) (x .serial)) 13 (l .all) (l .i) (omega (arith, c .loop-test .left)) (l .inv)
+    all-tried (releasedAt (now (x .images)) (x .participants) (x .owner) (x .serial)) nodes (l .all) (l .i) (omega (arith, c .loop-test .left)) (l .inv)
 
 pub released-spec : {M : Type 1} → statement M
 released-spec =

@@ -5,6 +5,7 @@ use mathlib.Core.Bool.{true}
 use native.Mathlib.Omega.{arith}
 use borrow.Author.Needs.{needs}
 use lib.ListN.{drop}
+use Rattle.numbers.specs.Sizes.{mostOpen}
 use Rattle.coordinator.specs.System.{tree}
 use Rattle.coordinator.specs.State.{across, allSettled, andSettled}
 use Rattle.coordinator.proofs.Across.{across-turn, across-start}
@@ -12,13 +13,13 @@ use Rattle.coordinator.proofs.objects.all_settled.Statement.{statement}
 use Rattle.coordinator.proofs.objects.all_settled.Tie as tie
 
 abbrev Inv-loop : tie.InvT-loop
-Inv-loop count objects ok₀ i₀ ok i = (i ≤ 8) × (ok ≡ across (andSettled tree count) true i (drop i objects))
+Inv-loop count objects ok₀ i₀ ok i = (i ≤ mostOpen) × (ok ≡ across (andSettled tree count) true i (drop i objects))
 
 abbrev μ-loop : tie.MeasureT-loop
 μ-loop count objects ok₀ i₀ ok i = i
 
 loop-holds : tie.Need-loop-holds Inv-loop μ-loop
-loop-holds c = let x = c .args in (omega arith, sym (across-start (andSettled tree (x .count)) true (x .t1) 8 (omega arith)))
+loop-holds c = let x = c .args in (omega arith, sym (across-start (andSettled tree (x .count)) true (x .t1) mostOpen (omega arith)))
 
 sub-i : tie.Need-sub-i Inv-loop μ-loop
 sub-i c = omega arith

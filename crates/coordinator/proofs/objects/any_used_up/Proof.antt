@@ -5,19 +5,20 @@ use mathlib.Core.Bool.{false}
 use native.Mathlib.Omega.{arith}
 use borrow.Author.Needs.{needs}
 use lib.ListN.{drop}
+use Rattle.numbers.specs.Sizes.{mostOpen}
 use Rattle.coordinator.specs.State.{across, anyUsedUp, orUsedUp}
 use Rattle.coordinator.proofs.Across.{across-turn, across-start}
 use Rattle.coordinator.proofs.objects.any_used_up.Statement.{statement}
 use Rattle.coordinator.proofs.objects.any_used_up.Tie as tie
 
 abbrev Inv-loop : tie.InvT-loop
-Inv-loop count objects found₀ i₀ found i = (i ≤ 8) × (found ≡ across (orUsedUp count) false i (drop i objects))
+Inv-loop count objects found₀ i₀ found i = (i ≤ mostOpen) × (found ≡ across (orUsedUp count) false i (drop i objects))
 
 abbrev μ-loop : tie.MeasureT-loop
 μ-loop count objects found₀ i₀ found i = i
 
 loop-holds : tie.Need-loop-holds Inv-loop μ-loop
-loop-holds c = let x = c .args in (omega arith, sym (across-start (orUsedUp (x .count)) false (x .t1) 8 (omega arith)))
+loop-holds c = let x = c .args in (omega arith, sym (across-start (orUsedUp (x .count)) false (x .t1) mostOpen (omega arith)))
 
 sub-i : tie.Need-sub-i Inv-loop μ-loop
 sub-i c = omega arith

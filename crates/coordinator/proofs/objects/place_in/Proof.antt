@@ -4,19 +4,20 @@ use mathlib.Core.Path.{_≡_, sym, ap, _∙_}
 use native.Mathlib.Omega.{arith}
 use borrow.Author.Needs.{needs}
 use lib.ListN.{drop}
+use Rattle.numbers.specs.Sizes.{mostOpen}
 use Rattle.coordinator.specs.State.{across, placeIn, hereElse}
 use Rattle.coordinator.proofs.Across.{across-turn, across-start}
 use Rattle.coordinator.proofs.objects.place_in.Statement.{statement}
 use Rattle.coordinator.proofs.objects.place_in.Tie as tie
 
 abbrev Inv-loop : tie.InvT-loop
-Inv-loop count object objects at₀ i₀ at i = (i ≤ 8) × (at ≡ across (hereElse object count) 8 i (drop i objects))
+Inv-loop count object objects at₀ i₀ at i = (i ≤ mostOpen) × (at ≡ across (hereElse object count) mostOpen i (drop i objects))
 
 abbrev μ-loop : tie.MeasureT-loop
 μ-loop count object objects at₀ i₀ at i = i
 
 loop-holds : tie.Need-loop-holds Inv-loop μ-loop
-loop-holds c = let x = c .args in (omega arith, sym (across-start (hereElse (x .object) (x .count)) 8 (x .t1) 8 (omega arith)))
+loop-holds c = let x = c .args in (omega arith, sym (across-start (hereElse (x .object) (x .count)) mostOpen (x .t1) mostOpen (omega arith)))
 
 sub-i : tie.Need-sub-i Inv-loop μ-loop
 sub-i c = omega arith
@@ -37,7 +38,7 @@ loop-again : tie.Need-loop-again Inv-loop μ-loop
 loop-again c =
     let l = c .before .before .before .loop in
     let x = c .before .before .before .before .args in
-    (omega arith, rw (across-turn (hereElse (x .object) (x .count)) 8 (x .t1) (l .i) (omega arith) (search needs)) (cc))
+    (omega arith, rw (across-turn (hereElse (x .object) (x .count)) mostOpen (x .t1) (l .i) (omega arith) (search needs)) (cc))
 
 returns : tie.Need-returns Inv-loop μ-loop
 unfolding placeIn
@@ -45,7 +46,7 @@ returns c =
     let l = c .before .loop in
     let x = c .before .before .args in
     let last : l .i ≡ 0 = omega arith in
-    l .inv .1 ∙ ap (λ (n : ℕ). across (hereElse (x .object) (x .count)) 8 n (drop n (x .t1))) last
+    l .inv .1 ∙ ap (λ (n : ℕ). across (hereElse (x .object) (x .count)) mostOpen n (drop n (x .t1))) last
 
 pub place-in-spec : {M : Type 1} → statement M
 place-in-spec =

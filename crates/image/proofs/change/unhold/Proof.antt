@@ -3,12 +3,12 @@ use native.Mathlib.Omega.{arith}
 use Prim.Native.Nat.{_-_, _≤_}
 use mathlib.Core.Path.{_≡_, refl, sym, _∙_}
 use lib.ListN.{length}
+use Rattle.numbers.specs.Sizes.{nobody}
 use Rattle.image.specs.Field.{changedAll}
 use Rattle.image.specs.Layout.{shape, holderField}
 use Rattle.image.proofs.Lens.{all-more}
 use denote.Ref.{now}
 use Rattle.image.specs.Blank.{unheld}
-use Rattle.image.specs.Valid.{nobody}
 use borrow.Author.Needs.{needs}
 use Rattle.image.proofs.change.unhold.Statement.{statement}
 use Rattle.image.proofs.change.unhold.Tie as tie

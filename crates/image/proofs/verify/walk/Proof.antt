@@ -4,7 +4,8 @@ use Prim.Native.Nat.{ℕ, _-_, _≤_}
 use mathlib.Core.Path.{_≡_, refl, sym}
 use lib.Dec.{eqb}
 use denote.Ref.{now}
-use Rattle.image.specs.Layout.{owners, state, ownerOf}
+use Rattle.numbers.specs.Sizes.{nodes}
+use Rattle.image.specs.Layout.{state, ownerOf}
 use Rattle.image.specs.Valid.{each}
 use Rattle.image.specs.Pass.{ownerFits}
 use Rattle.image.proofs.Each.{each-more}
@@ -15,11 +16,11 @@ use Rattle.image.proofs.verify.walk.Tie as tie
 
 abbrev Inv-loop : tie.InvT-loop
 Inv-loop image ok₀ listed₀ held₀ o₀ ok listed held o =
-    (o ≤ owners) × (ok ≡ each o (ownerFits image)) × Marks listed o (λ (k : ℕ). eqb (state image k) 1)
+    (o ≤ nodes) × (ok ≡ each o (ownerFits image)) × Marks listed o (λ (k : ℕ). eqb (state image k) 1)
     × Marks held o (λ (k : ℕ). eqb (state image k) 2)
 
 abbrev μ-loop : tie.MeasureT-loop
-μ-loop image ok₀ listed₀ held₀ o₀ ok listed held o = owners - o
+μ-loop image ok₀ listed₀ held₀ o₀ ok listed held o = nodes - o
 
 loop-holds : tie.Need-loop-holds Inv-loop μ-loop
 unfolding each
@@ -68,7 +69,7 @@ loop-again c =
 returns : tie.Need-returns Inv-loop μ-loop
 returns c =
     let l = c .before .loop in
-    let e : l .o ≡ owners = omega arith in
+    let e : l .o ≡ nodes = omega arith in
     record { each-fits = rw e at (l .inv .1); in-listed = rw e at (l .inv .2); in-held = rw e at (l .inv .3) }
 
 pub walk-spec : {M : Type 1} → statement M

@@ -4,6 +4,7 @@ use native.Mathlib.Omega.{arith}
 use mathlib.Core.Path.{_≡_, refl, _∙_}
 use lib.ListN.{length, getD, length-set}
 use denote.Ref.{now}
+use Rattle.numbers.specs.Sizes.{mostOpen}
 use Rattle.coordinator.specs.State.{noObject}
 use Rattle.record.specs.Record.{objectsOf, objectOf}
 use Rattle.record.proofs.Items.{one-more, items-all}
@@ -12,10 +13,10 @@ use Rattle.record.proofs.load.objects_of.Statement.{statement}
 use Rattle.record.proofs.load.objects_of.Tie as tie
 
 abbrev Inv-loop : tie.InvT-loop
-Inv-loop bytes a₀ i₀ a i = (i ≤ 8) × (length a ≡ 8) × ((j : ℕ) → j < i → getD a j noObject ≡ objectOf bytes (43 + 25 * j))
+Inv-loop bytes a₀ i₀ a i = (i ≤ mostOpen) × (length a ≡ mostOpen) × ((j : ℕ) → j < i → getD a j noObject ≡ objectOf bytes (43 + 25 * j))
 
 abbrev μ-loop : tie.MeasureT-loop
-μ-loop bytes a₀ i₀ a i = 8 - i
+μ-loop bytes a₀ i₀ a i = mostOpen - i
 
 loop-holds : tie.Need-loop-holds Inv-loop μ-loop
 loop-holds c = (omega arith, refl, λ j h. absurd (omega arith))
@@ -46,7 +47,7 @@ loop-again c =
     let l = c .before .before .loop in
     let x = c .before .before .before .before .args in
     let v = c .object-of .result in
-    let full : length (l .a) ≡ 8 = l .inv .1 in (
+    let full : length (l .a) ≡ mostOpen = l .inv .1 in (
       omega arith,
       length-set (l .a) (l .i) v ∙ l .inv .1,
       one-more (objectOf) 25 (now (x .bytes)) noObject (l .a) (l .i) 43 v (omega arith) (l .inv .2) (c .object-of .ensures),
@@ -56,7 +57,7 @@ returns : tie.Need-returns Inv-loop μ-loop
 unfolding objectsOf
 returns c =
     let l = c .before .loop in
-    items-all (objectOf) 25 (now (c .before .before .before .args .bytes)) noObject 8 43 (l .a) (l .inv .1) (λ j h. l .inv .2 j (omega arith))
+    items-all (objectOf) 25 (now (c .before .before .before .args .bytes)) noObject mostOpen 43 (l .a) (l .inv .1) (λ j h. l .inv .2 j (omega arith))
 
 pub objects-of-spec : {M : Type 1} → statement M
 objects-of-spec =

@@ -4,6 +4,7 @@ use native.Mathlib.Omega.{arith}
 use mathlib.Core.Path.{_≡_, refl, _∙_}
 use lib.ListN.{length, getD, length-set}
 use denote.Ref.{now}
+use Rattle.numbers.specs.Sizes.{nodes}
 use Rattle.octets.specs.Octets.{get}
 use Rattle.record.specs.Record.{rivalsOf}
 use Rattle.record.proofs.Items.{one-more, items-all}
@@ -12,10 +13,10 @@ use Rattle.record.proofs.load.rivals_of.Statement.{statement}
 use Rattle.record.proofs.load.rivals_of.Tie as tie
 
 abbrev Inv-loop : tie.InvT-loop
-Inv-loop bytes a₀ i₀ a i = (i ≤ 13) × (length a ≡ 13) × ((j : ℕ) → j < i → getD a j 0 ≡ get 4 bytes (249 + 4 * j))
+Inv-loop bytes a₀ i₀ a i = (i ≤ nodes) × (length a ≡ nodes) × ((j : ℕ) → j < i → getD a j 0 ≡ get 4 bytes (249 + 4 * j))
 
 abbrev μ-loop : tie.MeasureT-loop
-μ-loop bytes a₀ i₀ a i = 13 - i
+μ-loop bytes a₀ i₀ a i = nodes - i
 
 loop-holds : tie.Need-loop-holds Inv-loop μ-loop
 loop-holds c = (omega arith, refl, λ j h. absurd (omega arith))
@@ -46,7 +47,7 @@ loop-again c =
     let l = c .before .before .loop in
     let x = c .before .before .before .before .args in
     let v = c .get-u32 .result in
-    let full : length (l .a) ≡ 13 = l .inv .1 in (
+    let full : length (l .a) ≡ nodes = l .inv .1 in (
       omega arith,
       length-set (l .a) (l .i) v ∙ l .inv .1,
       one-more (get 4) 4 (now (x .bytes)) 0 (l .a) (l .i) 249 v (omega arith) (l .inv .2) (c .get-u32 .ensures),
@@ -56,7 +57,7 @@ returns : tie.Need-returns Inv-loop μ-loop
 unfolding rivalsOf
 returns c =
     let l = c .before .loop in
-    items-all (get 4) 4 (now (c .before .before .before .args .bytes)) 0 13 249 (l .a) (l .inv .1) (λ j h. l .inv .2 j (omega arith))
+    items-all (get 4) 4 (now (c .before .before .before .args .bytes)) 0 nodes 249 (l .a) (l .inv .1) (λ j h. l .inv .2 j (omega arith))
 
 pub rivals-of-spec : {M : Type 1} → statement M
 rivals-of-spec =

@@ -3,6 +3,7 @@ use mathlib.Core.Path.{sym, _∙_}
 use denote.Ref.{now}
 use native.Mathlib.Omega.{arith}
 use lib.ListN.{List·getD-eq-default}
+use Rattle.numbers.specs.Sizes.{mostOpen}
 use Rattle.wire.specs.Decode.{itemsFrom}
 use Rattle.wire.proofs.Accepted.{length-items}
 use Rattle.coordinator.specs.State.{noObject}
@@ -23,15 +24,15 @@ object-of-requires c κs = search needs
 
 returns : tie.Need-returns
 unfolding objectsOf
-returns c = c .object-of .ensures ∙ sym (getD-items objectOf 25 (now (c .before .before .before .args .bytes)) noObject 8 43
+returns c = c .object-of .ensures ∙ sym (getD-items objectOf 25 (now (c .before .before .before .args .bytes)) noObject mostOpen 43
     (c .before .before .before .args .p) (omega arith))
 
 returns-2 : tie.Need-returns-2
 unfolding objectsOf
 returns-2 c =
     let l = now (c .before .before .args .bytes) in
-    let m = length-items objectOf 25 l 8 43 in
-    sym (List·getD-eq-default (itemsFrom objectOf 25 8 l 43) noObject (omega (arith, m, c .if1 .left)))
+    let m = length-items objectOf 25 l mostOpen 43 in
+    sym (List·getD-eq-default (itemsFrom objectOf 25 mostOpen l 43) noObject (omega (arith, m, c .if1 .left)))
 
 pub object-at-spec : {M : Type 1} → statement M
 object-at-spec =

@@ -5,6 +5,7 @@ use mathlib.Core.Path.{_≡_, refl, ap, _∙_}
 use mathlib.Core.List.{List}
 use lib.ListN.{length, getD, drop}
 use lib.Seq.{sets, length-sets}
+use Rattle.numbers.specs.Sizes.{nodes}
 use Rattle.wire.specs.Encode.{together}
 use Rattle.wire.proofs.Stores.{together-again, together-end}
 use Rattle.octets.specs.Octets.{le}
@@ -16,11 +17,11 @@ use Rattle.record.proofs.store.put_distances.Tie as tie
 
 abbrev Inv-loop : tie.InvT-loop
 Inv-loop bytes₀ list i₀ bytes i =
-    (i ≤ 13) × (length bytes ≡ length bytes₀) ×
+    (i ≤ nodes) × (length bytes ≡ length bytes₀) ×
     (sets bytes (12 + 2 * i) (together (le 2) (drop i list)) ≡ sets bytes₀ 12 (together (le 2) list))
 
 abbrev μ-loop : tie.MeasureT-loop
-μ-loop bytes₀ list i₀ bytes i = 13 - i
+μ-loop bytes₀ list i₀ bytes i = nodes - i
 
 loop-holds : tie.Need-loop-holds Inv-loop μ-loop
 loop-holds c = (omega arith, refl, refl)
@@ -50,7 +51,7 @@ loop-again : tie.Need-loop-again Inv-loop μ-loop
 loop-again c =
     let l = c .before .before .before .before .before .loop in
     let a = c .before .before .before .before .before .before .before .args in
-    let full : length (a .t2) ≡ 13 = search needs in
+    let full : length (a .t2) ≡ nodes = search needs in
     let p : c .before .before .put-u16 .last .0 ≡ sets (l .bytes) (12 + 2 * l .i) (le 2 (getD (a .t2) (l .i) 0)) =
     c .before .before .put-u16 .ensures ∙ put-le 2 (l .bytes) (12 + 2 * l .i) (getD (a .t2) (l .i) 0) in (
       omega arith,
@@ -66,7 +67,7 @@ returns : tie.Need-returns Inv-loop μ-loop
 returns c =
     let l = c .before .loop in
     let a = c .before .before .before .args in
-    let full : length (a .t2) ≡ 13 = search needs in
+    let full : length (a .t2) ≡ nodes = search needs in
     (together-end (le 2) 2 (length-le 2) (a .t2) (l .bytes) _ 12 (l .i) (omega arith) (l .inv .2), full)
 
 pub put-distances-spec : {M : Type 1} → statement M

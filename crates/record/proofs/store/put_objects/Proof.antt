@@ -5,6 +5,7 @@ use mathlib.Core.Path.{_≡_, refl, ap, _∙_}
 use mathlib.Core.List.{List}
 use lib.ListN.{length, getD, drop}
 use lib.Seq.{sets, length-sets}
+use Rattle.numbers.specs.Sizes.{mostOpen}
 use Rattle.wire.specs.Encode.{together}
 use Rattle.wire.proofs.Stores.{together-again, together-end}
 use Rattle.coordinator.specs.State.{noObject}
@@ -17,11 +18,11 @@ use Rattle.record.proofs.store.put_objects.Tie as tie
 
 abbrev Inv-loop : tie.InvT-loop
 Inv-loop bytes₀ list i₀ bytes i =
-    (i ≤ 8) × (length bytes ≡ length bytes₀) ×
+    (i ≤ mostOpen) × (length bytes ≡ length bytes₀) ×
     (sets bytes (43 + 25 * i) (together (objectBytes) (drop i list)) ≡ sets bytes₀ 43 (together (objectBytes) list))
 
 abbrev μ-loop : tie.MeasureT-loop
-μ-loop bytes₀ list i₀ bytes i = 8 - i
+μ-loop bytes₀ list i₀ bytes i = mostOpen - i
 
 loop-holds : tie.Need-loop-holds Inv-loop μ-loop
 loop-holds c = (omega arith, refl, refl)
@@ -52,7 +53,7 @@ loop-again c =
     let b8 = c .before .before .before .before .before .before .before .before in
     let l = c .before .before .before .before .before .before .loop in
     let a = b8 .args in
-    let full : length (a .t2) ≡ 8 = search needs in
+    let full : length (a .t2) ≡ mostOpen = search needs in
     let p : c .before .before .put-object .last .0 ≡ sets (l .bytes) (43 + 25 * l .i) (objectBytes (getD (a .t2) (l .i) noObject)) =
     c .before .before .put-object .ensures in (
       omega arith,
@@ -68,7 +69,7 @@ returns : tie.Need-returns Inv-loop μ-loop
 returns c =
     let l = c .before .loop in
     let a = c .before .before .before .args in
-    let full : length (a .t2) ≡ 8 = search needs in
+    let full : length (a .t2) ≡ mostOpen = search needs in
     (together-end (objectBytes) 25 length-object (a .t2) (l .bytes) _ 43 (l .i) (omega arith) (l .inv .2), full)
 
 pub put-objects-spec : {M : Type 1} → statement M

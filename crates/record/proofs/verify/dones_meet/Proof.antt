@@ -15,8 +15,8 @@ get-u16-requires c κs = search needs
 get-u8-requires : tie.Need-get-u8-requires
 get-u8-requires c κs = search needs
 
-awaited-by-requires : tie.Need-awaited-by-requires
-awaited-by-requires c κs = search needs
+awaited-in-requires : tie.Need-awaited-in-requires
+awaited-in-requires c κs = search needs
 
 subset-requires : tie.Need-subset-requires
 subset-requires c κs = search needs
@@ -48,7 +48,7 @@ dones-meet-spec =
     (tie.spec
     get-u16-requires
     get-u8-requires
-    awaited-by-requires
+    awaited-in-requires
     subset-requires
     subset-requires-2
     both-requires

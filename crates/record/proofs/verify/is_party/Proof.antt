@@ -3,6 +3,7 @@ use denote.Ref.{now}
 use native.Mathlib.Omega.{arith}
 use mathlib.Core.Path.{_∙_}
 use borrow.Author.Tests.{eq-eqb, ne-eqb}
+use Rattle.numbers.specs.Sizes.{nodes}
 use Rattle.octets.specs.Octets.{get}
 use Rattle.record.specs.Record.{recordOf, rivalsOf}
 use Rattle.record.specs.Valid.{partyIs}
@@ -31,7 +32,7 @@ unfolding partyIs recordOf rivalsOf
 returns c =
     let c4 = c .before .before .before .before in
     let l = now (c4 .before .args .bytes) in
-    simp (eq-eqb (get 2 l 243) 0 (omega arith)) (c .are-zero .ensures ∙ zero-numbers 4 l 13 249)
+    simp (eq-eqb (get 2 l 243) 0 (omega arith)) (c .are-zero .ensures ∙ zero-numbers 4 l nodes 249)
 
 is-quorum-requires : tie.Need-is-quorum-requires
 is-quorum-requires c κs = search needs

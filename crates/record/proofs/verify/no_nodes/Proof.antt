@@ -1,6 +1,7 @@
 -- `record::verify::no_nodes`: the tests in the definition's order.
 use denote.Ref.{now}
 use mathlib.Core.Path.{_∙_}
+use Rattle.numbers.specs.Sizes.{nodes}
 use Rattle.clauses.specs.Clauses.{noNodes}
 use Rattle.record.specs.Record.{recordOf, distancesOf}
 use Rattle.record.proofs.Zero.{zero-numbers}
@@ -44,7 +45,7 @@ returns c =
     let c4 = c .before .before .before .before in
     let c8 = c4 .before .before .before .before in
     let l = now (c8 .before .args .bytes) in
-    let z = c4 .before .before .are-zero .ensures ∙ zero-numbers 2 l 13 12 in
+    let z = c4 .before .before .are-zero .ensures ∙ zero-numbers 2 l nodes 12 in
     cc
 
 pub no-nodes-spec : {M : Type 1} → statement M

@@ -5,6 +5,7 @@ use mathlib.Core.Path.{_≡_, sym, ap, _∙_}
 use Prim.Native.Nat.{ℕ}
 use borrow.Author.Tests.{lt-leb, le-leb, not-true, not-false}
 use lib.ListN.{getD}
+use Rattle.numbers.specs.Sizes.{mostOpen}
 use Rattle.clauses.specs.Clauses.{zeros}
 use Rattle.record.specs.Record.{recordOf}
 use Rattle.record.specs.Valid.{placesOk, pastBytes, objectsOk}
@@ -23,7 +24,7 @@ unfolding objectsOk recordOf
 returns c =
     let c4 = c .before .before .before .before in
     let l = now (c4 .args .bytes) in
-    simp (lt-leb (getD l 42 0) 8 (omega arith))
+    simp (lt-leb (getD l 42 0) mostOpen (omega arith))
 
 places-meet-requires : tie.Need-places-meet-requires
 places-meet-requires c κs = search needs
@@ -35,7 +36,7 @@ returns-2 c =
     let l = now (c4 .before .before .args .bytes) in
     let n : c .before .before .before .wide .result ≡ getD l 42 0 = cc in
     let p = sym (c .before .places-meet .ensures ∙ ap (λ (k : ℕ). placesOk k l) n) ∙ not-true _ (c .if2 .taken) in
-    simp (le-leb (getD l 42 0) 8 (omega arith), p)
+    simp (le-leb (getD l 42 0) mostOpen (omega arith), p)
 
 mul-from : tie.Need-mul-from
 mul-from c = search needs
@@ -63,7 +64,7 @@ returns-3 c =
     let l = now (c8 .args .bytes) in
     let n : c4 .before .wide .result ≡ getD l 42 0 = cc in
     let p = sym (c .before .before .before .places-meet .ensures ∙ ap (λ (k : ℕ). placesOk k l) n) ∙ not-false _ (c .before .before .if2 .left) in
-    simp (le-leb (getD l 42 0) 8 (omega arith), p) (c .are-zero .ensures ∙ ap (λ (k : ℕ). zeros (pastBytes k l)) n)
+    simp (le-leb (getD l 42 0) mostOpen (omega arith), p) (c .are-zero .ensures ∙ ap (λ (k : ℕ). zeros (pastBytes k l)) n)
 
 pub objects-meet-spec : {M : Type 1} → statement M
 objects-meet-spec =

@@ -1,5 +1,4 @@
 -- `replica::answer::silence`: by its fields.
-use borrow.Author.Needs.{needs}
 use mathlib.Core.Path.{refl}
 use Rattle.replica.specs.Given.{writtenAs}
 use Rattle.replica.proofs.answer.silence.Statement.{statement}

@@ -10,7 +10,8 @@ use mathlib.Core.Bool.{true}
 use Rattle.wire.specs.Formed.{every}
 use Rattle.replica.specs.Steps.{applied}
 use Rattle.replica.specs.Given.{raisable}
-use Rattle.replica.proofs.Passes.{rest, rest-first, applied-again, applied-end, every-next}
+use Rattle.judge.proofs.Passes.{rest, rest-first}
+use Rattle.replica.proofs.Passes.{applied-again, applied-end, every-next}
 use Rattle.replica.proofs.change.apply.Statement.{statement}
 use Rattle.replica.proofs.change.apply.Tie as tie
 

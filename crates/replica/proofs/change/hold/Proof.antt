@@ -7,9 +7,9 @@ use denote.Ref.{now}
 use lib.ListN.{length}
 use Rattle.wire.specs.Decode.{decode}
 use Rattle.wire.specs.Decode.{ownerOf}
-use Prim.Native.Nat.{ℕ}
-use Rattle.replica.specs.Steps.{holdingOne, holding}
-use Rattle.replica.proofs.Passes.{rest, rest-first, holding-again, holding-end}
+use Rattle.replica.specs.Steps.{holding}
+use Rattle.judge.proofs.Passes.{rest, rest-first}
+use Rattle.replica.proofs.Passes.{holding-again, holding-end}
 use Rattle.replica.proofs.change.hold.Statement.{statement}
 use Rattle.replica.proofs.change.hold.Tie as tie
 

@@ -1,5 +1,4 @@
 -- `replica::change::settle`: late, early, or of the transaction here.
-use mathlib.Core.Path.{_≡_, refl, sym, ap, _∙_}
 use borrow.Author.Tests.{eq-eqb, ne-eqb}
 use Rattle.wire.specs.Decode.{decode}
 use Rattle.replica.specs.Steps.{decided, outcomeImage}

@@ -1,5 +1,5 @@
 -- `replica::delivery::receive`: refused, or the step written whole.
-use mathlib.Core.Path.{_≡_, refl, sym, ap, _∙_}
+use mathlib.Core.Path.{sym, _∙_}
 use denote.Ref.{now}
 use Rattle.replica.specs.Receive.{lengthOf, filled}
 use Rattle.replica.proofs.Delivered.{refused-is, received-is, image-is, buffer-is, raises-is}

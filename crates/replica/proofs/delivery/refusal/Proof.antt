@@ -1,6 +1,5 @@
 -- `replica::delivery::refusal`: the list of refusals, in order.
 
-use mathlib.Core.Path.{_≡_, refl, sym, ap, _∙_}
 use borrow.Author.Tests.{eq-eqb, ne-eqb}
 use Rattle.wire.specs.Decode.{decode}
 use Rattle.replica.specs.Receive.{refusals, refusal}

@@ -1,8 +1,7 @@
 -- `replica::steps::fetch`: the copy as it was found, then the lists.
 
-use mathlib.Core.Path.{_≡_, refl, sym, ap, _∙_}
+use mathlib.Core.Path.{sym, ap, _∙_}
 use denote.Ref.{now}
-use Prim.Native.Nat.{ℕ}
 use Rattle.replica.specs.Given.{writtenAs, filledBy}
 use Rattle.replica.specs.Steps.{copyHere, fetchImage, fetchAnswer}
 use Rattle.wire.specs.Decode.{decode}

@@ -1,42 +1,24 @@
 -- `replica::steps::judge`: a no, or a yes.
-use mathlib.Core.Path.{_≡_, sym, _∙_}
-use mathlib.Core.Bool.{Bool, _||_}
-use mathlib.Core.List.{List}
-use Prim.Native.Nat.{ℕ}
-use denote.Ref.{now}
-use Rattle.wire.specs.Decode.{ownerOf, decode}
-use Rattle.replica.specs.declared.Weighed.{Weighed}
-use Rattle.replica.specs.Judge.{olderAmong, votesNo}
-use Rattle.replica.specs.Given.{writtenAs, filledBy, Weighs}
+use mathlib.Core.Path.{sym, ap, _∙_}
+use Rattle.wire.specs.Decode.{decode}
+use Rattle.judge.specs.declared.Verdict.{Verdict}
+use Rattle.replica.specs.Given.{writtenAs, filledBy}
 use Rattle.replica.specs.Steps.{judgedImage, judgedAnswer}
 use borrow.Author.Needs.{needs}
 use Rattle.replica.proofs.steps.judge.Statement.{statement}
 use Rattle.replica.proofs.steps.judge.Tie as tie
 
--- what was weighed, and whether a rival is older, make the vote
-voted : (l b : List ℕ) (w : Weighed) (o : ℕ) (r old : Bool) → Weighs l (decode b) w → o ≡ ownerOf b → old ≡ olderAmong l (w .rivals) o
-    → r ≡ (w .barred || old) → r ≡ votesNo l (decode b)
-unfolding votesNo decode
-voted l b w o r old k e f g = rw (g, k .bars, f, k .rivals, e)
-
 owner-requires : tie.Need-owner-requires
 owner-requires c κs = search needs
 
-weigh-requires : tie.Need-weigh-requires
-weigh-requires c κs = search needs
-
-older-among-requires : tie.Need-older-among-requires
-older-among-requires c κs = search needs
-
-either-requires : tie.Need-either-requires
-either-requires c κs = search needs
+judged-requires : tie.Need-judged-requires
+judged-requires c κs = search needs
 
 leave-requires : tie.Need-leave-requires
 unfolding decode
 leave-requires c κs =
-    let c7 = c .before .before .before .before .before .before .before in
-    let c11 = c7 .before .before .before .before in
-    λ n. rw (c7 .owner .ensures) (c11 .pre n)
+    let c5 = c .before .before .before .before in
+    λ n. rw (c5 .owner .ensures) (c5 .before .before .before .before .pre n)
 
 say-vote-requires : tie.Need-say-vote-requires
 say-vote-requires c κs = search needs
@@ -51,19 +33,11 @@ returns : tie.Need-returns
 unfolding writtenAs filledBy judgedImage judgedAnswer decode
 returns c =
     let c6 = c .before .before .before .before .before .before in
-    let c8 = c6 .before .before in
-    let c9 = c8 .before in
-    let c10 = c9 .before in
-    let c12 = c10 .before .before in
-    let c14 = c12 .before .before in
-    let c18 = c14 .before .before .before .before in
-    let x = c18 .args in
-    let w = c12 .weigh in
-    let v = voted (now (x .image)) (now (x .message)) (w .result) (c14 .owner .result) (c9 .either .result) (c10 .older-among .result) (w .ensures)
-    (c14 .owner .ensures) (c10 .older-among .ensures) (c9 .either .ensures) in
-    let t = sym v ∙ c8 .if1 .taken in (
+    let c9 = c6 .before .before .before in
+    let c11 = c9 .before .before in
+    let t = sym (ap (λ (v : Verdict). v .no) (c9 .judged .ensures)) ∙ c6 .before .before .if1 .taken in (
       simp t (c .before .before .say-vote .ensures .0),
-      (simp t (rw (c6 .leave .ensures, c14 .owner .ensures)), simp t (c .before .before .say-vote .ensures .1)),
+      (simp t (rw (c6 .leave .ensures, c11 .owner .ensures)), simp t (c .before .before .say-vote .ensures .1)),
     )
 
 serials-of-requires : tie.Need-serials-of-requires
@@ -72,9 +46,8 @@ serials-of-requires c κs = search needs
 leave-requires-2 : tie.Need-leave-requires-2
 unfolding decode
 leave-requires-2 c κs =
-    let c9 = c .before .before .before .before .before .before .before .before .before in
-    let c13 = c9 .before .before .before .before in
-    λ n. rw (c9 .owner .ensures) (c13 .pre n)
+    let c6 = c .before .before .before .before .before .before in
+    λ n. rw (c6 .owner .ensures) (c6 .before .before .before .before .pre n)
 
 hold-requires : tie.Need-hold-requires
 hold-requires c κs = search needs
@@ -94,21 +67,14 @@ returns-2 c =
     let c6 = c .before .before .before .before .before .before in
     let c10 = c6 .before .before .before .before in
     let c12 = c10 .before .before in
-    let c14 = c12 .before .before in
-    let c15 = c14 .before in
-    let c16 = c15 .before in
-    let c18 = c16 .before .before in
-    let c20 = c18 .before .before in
-    let c24 = c20 .before .before .before .before in
-    let x = c24 .args in
-    let w = c18 .weigh in
-    let v = voted (now (x .image)) (now (x .message)) (w .result) (c20 .owner .result) (c15 .either .result) (c16 .older-among .result) (w .ensures)
-    (c20 .owner .ensures) (c16 .older-among .ensures) (c15 .either .ensures) in
-    let t = sym v ∙ c14 .if1 .left in (
-      simp t (rw (c .before .before .say-vote2 .ensures .0, c12 .serials-of .ensures, w .ensures .rivals)),
+    let c15 = c12 .before .before .before in
+    let c17 = c15 .before .before in
+    let v = c15 .judged .ensures in
+    let t = sym (ap (λ (v : Verdict). v .no) v) ∙ c12 .before .before .if1 .left in (
+      simp t (rw (c .before .before .say-vote2 .ensures .0, c12 .serials-of .ensures, v)),
       (
-        simp t (rw (c6 .hold .ensures, c10 .leave2 .ensures, c20 .owner .ensures)),
-        simp t (rw (c .before .before .say-vote2 .ensures .1, c12 .serials-of .ensures, w .ensures .rivals)),
+        simp t (rw (c6 .hold .ensures, c10 .leave2 .ensures, c17 .owner .ensures)),
+        simp t (rw (c .before .before .say-vote2 .ensures .1, c12 .serials-of .ensures, v)),
       ),
     )
 
@@ -117,9 +83,7 @@ judge-spec =
     tie.close
     (tie.spec
     owner-requires
-    weigh-requires
-    older-among-requires
-    either-requires
+    judged-requires
     leave-requires
     say-vote-requires
     same-length

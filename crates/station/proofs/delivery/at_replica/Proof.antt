@@ -7,6 +7,7 @@ use native.Mathlib.Omega.{arith}
 use denote.Ref.{now}
 use lib.ListN.{length, replicate}
 use lib.Seq.{length-take-le}
+use Rattle.numbers.specs.Sizes.{longestMessage}
 use Rattle.station.proofs.Delivering.{blocked-here, refused-here, taken-here, fits-here}
 use borrow.Author.Needs.{needs}
 use Rattle.station.proofs.delivery.at_replica.Statement.{statement}
@@ -79,7 +80,7 @@ array-share-prefix-b c =
     let f = fits-here (now (x .images)) (now (x .images)) (now (x .pool)) (now (x .pool)) (x .node) (x .k) (x .kept) (c6 .before .hand .result)
     (c6 .before .hand .ensures .0) in
     let i = c .before .wide .ensures in
-    let g : length (c6 .before .hand .last .1 .1 .1 .1 .0) ≡ 128 = search needs in
+    let g : length (c6 .before .hand .last .1 .1 .1 .1 .0) ≡ longestMessage = search needs in
     omega arith
 
 slice-aggregate-exchange : tie.Need-slice-aggregate-exchange
@@ -91,7 +92,7 @@ slice-aggregate-exchange c =
     let f = fits-here (now (x .images)) (now (x .images)) (now (x .pool)) (now (x .pool)) (x .node) (x .k) (x .kept) (c6 .before .before .hand .result)
     (c6 .before .before .hand .ensures .0) in
     let i = c .before .before .wide .ensures in
-    let g : length (c6 .before .before .hand .last .1 .1 .1 .1 .0) ≡ 128 = search needs in
+    let g : length (c6 .before .before .hand .last .1 .1 .1 .1 .0) ≡ longestMessage = search needs in
     sym (length-take-le (c .before .before .wide .result) (c6 .before .before .hand .last .1 .1 .1 .1 .0) (omega arith))
 
 exchange-requires : tie.Need-exchange-requires
@@ -123,10 +124,10 @@ returns-3 c =
     let r = c12 .hand .result in
     let o = c12 .hand .last .1 .1 .1 .1 .0 in
     let j = c6 .wide .ensures in (
-      (λ R O. c .refused3 .ensures ∙ taken-here I R P O (x .node) (x .k) (x .kept) l p w r (h .0) f b (replicate 128 0) o (h .1 .1) _ j .0),
+      (λ R O. c .refused3 .ensures ∙ taken-here I R P O (x .node) (x .k) (x .kept) l p w r (h .0) f b (replicate longestMessage 0) o (h .1 .1) _ j .0),
       (
-        (λ R O. h .1 .0 ∙ taken-here I R P O (x .node) (x .k) (x .kept) l p w r (h .0) f b (replicate 128 0) o (h .1 .1) _ j .1 .0),
-        (λ R O. c .before .before .before .exchange .ensures ∙ taken-here I R P O (x .node) (x .k) (x .kept) l p w r (h .0) f b (replicate 128 0) o
+        (λ R O. h .1 .0 ∙ taken-here I R P O (x .node) (x .k) (x .kept) l p w r (h .0) f b (replicate longestMessage 0) o (h .1 .1) _ j .1 .0),
+        (λ R O. c .before .before .before .exchange .ensures ∙ taken-here I R P O (x .node) (x .k) (x .kept) l p w r (h .0) f b (replicate longestMessage 0) o
             (h .1 .1) _ j .1 .1),
       ),
     )

@@ -4,6 +4,7 @@ use mathlib.Core.Bool.{Bool, true, false, cond}
 use Prim.Native.Nat.{ℕ, _<_}
 use denote.Ref.{now}
 use borrow.Author.Tests.{not-true, not-false}
+use Rattle.numbers.specs.Sizes.{nodes}
 use Rattle.mask.specs.Mask.{contains}
 use Rattle.wire.specs.Decode.{toOf}
 use Rattle.pool.specs.Pool.{messageAt}
@@ -149,7 +150,7 @@ at-replica-requires c κs =
     let w = waits-of P (x .k) (sym (c6 .before .before .before .before .before .message-number .ensures) ∙ c6 .before .before .before .before .if2 .left) in
     let n = c6 .before .before .receiver .ensures in
     let s = sized I R P O z in
-    (s .images, subst (λ (y : ℕ). y < 13) (sym n) (receiver-node (messageAt P (x .k)) (w .well)), s .pool, w .message)
+    (s .images, subst (λ (y : ℕ). y < nodes) (sym n) (receiver-node (messageAt P (x .k)) (w .well)), s .pool, w .message)
 
 same-length-4 : tie.Need-same-length-4
 same-length-4 c = search needs
@@ -194,7 +195,7 @@ at-coordinator-requires c κs =
     let w = waits-of P (x .k) (sym (c8 .before .before .before .message-number .ensures) ∙ c8 .before .before .if2 .left) in
     let n = c8 .receiver .ensures in
     let s = sized I R P O z in
-    (s .records, subst (λ (y : ℕ). y < 13) (sym n) (receiver-node (messageAt P (x .k)) (w .well)), s .pool, w .message, w .well)
+    (s .records, subst (λ (y : ℕ). y < nodes) (sym n) (receiver-node (messageAt P (x .k)) (w .well)), s .pool, w .message, w .well)
 
 same-length-6 : tie.Need-same-length-6
 same-length-6 c = search needs

@@ -5,7 +5,7 @@ use Prim.Native.Nat.{ℕ}
 use native.Mathlib.Omega.{arith}
 use denote.Ref.{now}
 use lib.Dec.{ltb}
-use Rattle.wire.specs.Decode.{longest}
+use Rattle.numbers.specs.Sizes.{longestMessage}
 use Rattle.replica.specs.Receive.{deliver, spoken}
 use Rattle.pool.specs.Pool.{count, messageAt}
 use Rattle.buffers.specs.Buffers.{imageAt}
@@ -32,7 +32,8 @@ returns c =
     let f = ap (_&&_ (x .kept)) (full-as _ (count (now (x .pool))) (c .before .before .before .count .ensures .0)) in
     let t = sym f ∙ sym (c .before .before .both .ensures) ∙ c .before .if1 .taken in
     c .will-answer .ensures
-    ∙ ap (λ (b : Bool). b && spoken (deliver longest (imageAt (now (x .images)) (x .node)) (x .node) (messageAt (now (x .pool)) (x .k)) .answer)) (sym t)
+    ∙ ap (λ (b : Bool). b && spoken (deliver longestMessage (imageAt (now (x .images)) (x .node)) (x .node) (messageAt (now (x .pool)) (x .k))
+    .answer)) (sym t)
 
 returns-2 : tie.Need-returns-2
 unfolding blocked
@@ -40,7 +41,7 @@ returns-2 c =
     let x = c .before .before .before .before .before .args in
     let f = ap (_&&_ (x .kept)) (full-as _ (count (now (x .pool))) (c .before .before .count .ensures .0)) in
     let t = sym f ∙ sym (c .before .both .ensures) ∙ c .if1 .left in
-    ap (λ (b : Bool). b && spoken (deliver longest (imageAt (now (x .images)) (x .node)) (x .node) (messageAt (now (x .pool)) (x .k)) .answer)) (sym t)
+    ap (λ (b : Bool). b && spoken (deliver longestMessage (imageAt (now (x .images)) (x .node)) (x .node) (messageAt (now (x .pool)) (x .k)) .answer)) (sym t)
 
 pub is-blocked-spec : {M : Type 1} → statement M
 is-blocked-spec =

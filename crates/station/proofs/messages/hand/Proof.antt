@@ -4,6 +4,7 @@ use Prim.Native.Nat.{ℕ, _+_, _≤_}
 use native.Mathlib.Omega.{arith}
 use mathlib.Core.List.{List}
 use denote.Ref.{now}
+use Rattle.image.specs.Layout.{imageSize, shape}
 use Rattle.buffers.proofs.Waiting.{message-lent, Inside, inside}
 use mathlib.Core.Path.{ap₂}
 use Prim.Native.Nat.{_*_, _-_}
@@ -17,7 +18,8 @@ use borrow.Author.Needs.{needs}
 use Rattle.station.proofs.messages.hand.Statement.{statement}
 use Rattle.station.proofs.messages.hand.Tie as tie
 
-image-lent : (I : List ℕ) (n w : ℕ) → 1207 * w + 1207 - 1207 * w ≡ 1207 → w ≡ n → take (1207 * w + 1207 - 1207 * w) (drop (1207 * w) I) ≡ imageAt I n
+image-lent : (I : List ℕ) (n w : ℕ) → imageSize shape * w + imageSize shape - imageSize shape * w ≡ imageSize shape → w ≡ n
+    → take (imageSize shape * w + imageSize shape - imageSize shape * w) (drop (imageSize shape * w) I) ≡ imageAt I n
 unfolding imageAt part
 image-lent I n w e i = rw (e, i)
 
@@ -85,19 +87,23 @@ returns c =
     let I = now (x .images) in
     let out = now (x .answer) in
     let w = c6 .before .before .before .before .wide .result in
-    let e : 1207 * w + 1207 - 1207 * w ≡ 1207 = omega arith in
+    let e : imageSize shape * w + imageSize shape - imageSize shape * w ≡ imageSize shape = omega arith in
     let i = c6 .before .before .before .before .wide .ensures in
     let m = message-lent (now (x .pool)) (x .k) _ _ (c6 .before .before .before .place .ensures) (c6 .before .before .length .ensures) in
     let s = c6 .before .before .before .place .result in
     let n = c6 .before .before .length .result in
     let b : List ℕ = take (s + n - s) (drop s (now (x .pool))) in
     let t = c .before .before .before .before .receive .ensures in
-    let p : take (1207 * w + 1207 - 1207 * w) (drop (1207 * w) I) ≡ imageAt I (x .node) = image-lent I (x .node) w e i in (
+    let p : take (imageSize shape * w + imageSize shape - imageSize shape * w) (drop (imageSize shape * w) I) ≡ imageAt I (x .node) = image-lent I
+    (x .node) w e i in (
       t .0 ∙ ap₂ (λ (l b : List ℕ). receivedOf (deliver (length out) l (x .node) b)) p m,
       (
-        lent (λ (l : List ℕ). deliver (length out) l (x .node) b .image) 1207 (1207 * w) (1207 * w + 1207 - 1207 * w) I _ e (t .1 .0)
-            ∙ ap (λ (b : List ℕ). splice 1207 (1207 * w) (deliver (length out) (part 1207 (1207 * w) I) (x .node) b .image) I) m
-            ∙ ap (λ (k : ℕ). splice 1207 (1207 * k) (deliver (length out) (part 1207 (1207 * k) I) (x .node) (messageAt (now (x .pool)) (x .k)) .image) I) i,
+        lent (λ (l : List ℕ). deliver (length out) l (x .node) b .image) (imageSize shape) (imageSize shape * w)
+            (imageSize shape * w + imageSize shape - imageSize shape * w) I _ e (t .1 .0)
+            ∙ ap (λ (b : List ℕ). splice (imageSize shape) (imageSize shape * w)
+            (deliver (length out) (part (imageSize shape) (imageSize shape * w) I) (x .node) b .image) I) m
+            ∙ ap (λ (k : ℕ). splice (imageSize shape) (imageSize shape * k)
+            (deliver (length out) (part (imageSize shape) (imageSize shape * k) I) (x .node) (messageAt (now (x .pool)) (x .k)) .image) I) i,
         t .1 .1 ∙ ap₂ (λ (l b : List ℕ). bufferOf out l (x .node) b) p m,
       ),
     )

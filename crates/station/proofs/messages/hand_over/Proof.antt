@@ -5,6 +5,7 @@ use Prim.Native.Nat.{ℕ, _+_, _*_, _-_}
 use native.Mathlib.Omega.{arith}
 use denote.Ref.{now}
 use lib.ListN.{take, drop}
+use Rattle.record.specs.Layout.{recordSize}
 use Rattle.parts.specs.Parts.{part, splice}
 use Rattle.parts.proofs.Laws.{lent}
 use Rattle.pool.specs.Pool.{messageAt}
@@ -12,14 +13,15 @@ use Rattle.coordinator.specs.declared.Coordinator.{Coordinator}
 use Rattle.coordinator.specs.System.{tree}
 use Rattle.arrivals.specs.Receive.{receiveOf}
 use Rattle.record.specs.Call.{recordAfter}
-use Rattle.record.specs.Call.{receivedOf as calledBy}
+use Rattle.record_arrive.specs.Call.{receivedOf as calledBy}
 use Rattle.buffers.specs.Buffers.{recordAt, withRecordAt}
 use Rattle.buffers.proofs.Waiting.{message-lent, Inside, inside}
 use borrow.Author.Needs.{needs}
 use Rattle.station.proofs.messages.hand_over.Statement.{statement}
 use Rattle.station.proofs.messages.hand_over.Tie as tie
 
-record-lent : (R : List ℕ) (n w : ℕ) → 301 * w + 301 - 301 * w ≡ 301 → w ≡ n → take (301 * w + 301 - 301 * w) (drop (301 * w) R) ≡ recordAt R n
+record-lent : (R : List ℕ) (n w : ℕ) → recordSize * w + recordSize - recordSize * w ≡ recordSize → w ≡ n
+    → take (recordSize * w + recordSize - recordSize * w) (drop (recordSize * w) R) ≡ recordAt R n
 unfolding recordAt part
 record-lent R n w e i = rw (e, i)
 
@@ -84,19 +86,21 @@ returns c =
     let x = c8 .before .before .args in
     let R = now (x .records) in
     let w = c4 .before .before .before .wide .result in
-    let e : 301 * w + 301 - 301 * w ≡ 301 = omega arith in
+    let e : recordSize * w + recordSize - recordSize * w ≡ recordSize = omega arith in
     let i = c4 .before .before .before .wide .ensures in
     let m = message-lent (now (x .pool)) (x .k) _ _ (c4 .before .before .place .ensures) (c4 .before .length .ensures) in
     let s = c4 .before .before .place .result in
     let n = c4 .before .length .result in
     let b : List ℕ = take (s + n - s) (drop s (now (x .pool))) in
     let t = c .before .before .receive .ensures in
-    let p : take (301 * w + 301 - 301 * w) (drop (301 * w) R) ≡ recordAt R (x .node) = record-lent R (x .node) w e i in (
+    let p : take (recordSize * w + recordSize - recordSize * w) (drop (recordSize * w) R) ≡ recordAt R (x .node) = record-lent R (x .node) w e i in (
       t .0 ∙ ap₂ (λ (l b : List ℕ). calledBy (x .node) b l) p m,
-      lent (recordAfter (λ (d : Coordinator). receiveOf tree d (x .node) b)) 301 (301 * w) (301 * w + 301 - 301 * w) R _ e (t .1)
-          ∙ ap (λ (b : List ℕ). splice 301 (301 * w) (recordAfter (λ (d : Coordinator). receiveOf tree d (x .node) b) (part 301 (301 * w) R)) R) m
-          ∙ ap (λ (k : ℕ). splice 301 (301 * k) (recordAfter (λ (d : Coordinator). receiveOf tree d (x .node) (messageAt (now (x .pool)) (x .k)))
-          (part 301 (301 * k) R)) R) i,
+      lent (recordAfter (λ (d : Coordinator). receiveOf tree d (x .node) b)) recordSize (recordSize * w)
+          (recordSize * w + recordSize - recordSize * w) R _ e (t .1)
+          ∙ ap (λ (b : List ℕ). splice recordSize (recordSize * w)
+          (recordAfter (λ (d : Coordinator). receiveOf tree d (x .node) b) (part recordSize (recordSize * w) R)) R) m
+          ∙ ap (λ (k : ℕ). splice recordSize (recordSize * k) (recordAfter (λ (d : Coordinator). receiveOf tree d (x .node) (messageAt (now (x .pool)) (x .k)))
+          (part recordSize (recordSize * k) R)) R) i,
     )
 
 pub hand-over-spec : {M : Type 1} → statement M

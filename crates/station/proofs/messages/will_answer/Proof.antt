@@ -4,11 +4,12 @@ use Prim.Native.Nat.{ℕ, _+_, _≤_}
 use native.Mathlib.Omega.{arith}
 use mathlib.Core.List.{List}
 use denote.Ref.{now}
+use Rattle.image.specs.Layout.{imageSize, shape}
+use Rattle.numbers.specs.Sizes.{longestMessage}
 use Rattle.buffers.proofs.Waiting.{message-lent, Inside, inside}
 use Prim.Native.Nat.{_*_, _-_}
 use lib.ListN.{take, drop}
 use Rattle.parts.specs.Parts.{part}
-use Rattle.wire.specs.Decode.{longest}
 use Rattle.replica.specs.Receive.{deliver, spoken}
 use Rattle.buffers.specs.Buffers.{imageAt}
 use borrow.Author.Needs.{needs}
@@ -70,10 +71,11 @@ returns c =
     let c6 = c .before .before .before .before .before .before in
     let x = c6 .before .before .args in
     let w = c .before .before .before .before .before .wide .result in
-    let e : 1207 * w + 1207 - 1207 * w ≡ 1207 = omega arith in
+    let e : imageSize shape * w + imageSize shape - imageSize shape * w ≡ imageSize shape = omega arith in
     let m = message-lent (now (x .pool)) (x .k) _ _ (c .before .before .before .before .place .ensures) (c .before .before .before .length .ensures) in
     c .answers .ensures
-    ∙ ap (λ (b : List ℕ). spoken (deliver longest (take (1207 * w + 1207 - 1207 * w) (drop (1207 * w) (now (x .images)))) (x .node) b .answer)) m
+    ∙ ap (λ (b : List ℕ). spoken (deliver longestMessage
+    (take (imageSize shape * w + imageSize shape - imageSize shape * w) (drop (imageSize shape * w) (now (x .images)))) (x .node) b .answer)) m
     ∙ rw (e, c .before .before .before .before .before .wide .ensures)
 
 pub will-answer-spec : {M : Type 1} → statement M

@@ -7,6 +7,7 @@ use denote.Ref.{now}
 use lib.ListN.{length, length-replicate}
 use lib.Seq.{length-take-le}
 use borrow.Author.Tests.{not-true, not-false}
+use Rattle.numbers.specs.Sizes.{longestMessage, mostWaiting}
 use Rattle.mask.specs.Mask.{contains}
 use Rattle.pool.specs.Pool.{count}
 use Rattle.steps.specs.Step.{send, step}
@@ -176,7 +177,7 @@ returns-5 c =
     let h = c .before .before .before .before .if4 .left in
     let n = c .before .before .count .ensures .0 in
     let t = c .before .if5 .taken in
-    let f : 128 ≤ count P = omega arith in (
+    let f : mostWaiting ≤ count P = omega arith in (
       c .refused5 .ensures ∙ full-told R P O (x .node) (x .to) (x .object) e _ w h f ∙ started-told R P O (x .node) (x .to) (x .object) first,
       full-left R P O (x .node) (x .to) (x .object) e _ w h f ∙ started-pool R P O (x .node) (x .to) (x .object) first,
     )
@@ -195,7 +196,7 @@ array-share-prefix-b c =
     (c6 .before .before .before .before .before .if2 .left) .1 in
     let f = written-fits (recordIn (now (x .records)) (x .node)) (x .node) (x .to) (x .object) _ w in
     let i = c .before .before .wide .ensures in
-    let g : length (c12 .before .before .write-at .last .1 .1 .1 .1 .0) ≡ 128 = search needs in
+    let g : length (c12 .before .before .write-at .last .1 .1 .1 .1 .0) ≡ longestMessage = search needs in
     omega arith
 
 slice-aggregate-add : tie.Need-slice-aggregate-add
@@ -208,7 +209,7 @@ slice-aggregate-add c =
     let w = owed-due (now (x .records)) (x .node) (x .to) (x .object) _ (c12 .before .before .before .write-at .ensures .0) (c12 .if2 .left) .1 in
     let f = written-fits (recordIn (now (x .records)) (x .node)) (x .node) (x .to) (x .object) _ w in
     let i = c .before .before .before .wide .ensures in
-    let g : length (c12 .before .before .before .write-at .last .1 .1 .1 .1 .0) ≡ 128 = search needs in
+    let g : length (c12 .before .before .before .write-at .last .1 .1 .1 .1 .0) ≡ longestMessage = search needs in
     sym (length-take-le (c .before .before .before .wide .result) (c12 .before .before .before .write-at .last .1 .1 .1 .1 .0) (omega arith))
 
 add-requires : tie.Need-add-requires
@@ -241,11 +242,11 @@ returns-6 c =
     let h = c6 .before .before .before .before .before .if4 .left in
     let n = c6 .before .before .before .count .ensures .0 in
     let t = c6 .before .before .if5 .left in
-    let f : count P < 128 = omega arith in
+    let f : count P < mostWaiting = omega arith in
     let p = lower-none _ _ early .1 in
     let out = c18 .before .write-at .ensures .1 ∙ owed-put R (x .node) (x .to) (x .object) _ (due .0) in
     let b = sent-both R P O (x .node) (x .to) (x .object) e _ w h f (let i = c6 .before .wide .ensures in let g = c6 .if6 .taken in omega arith) p _ _
-    (length-replicate {A = ℕ} 128 0) out _ (c6 .before .wide .ensures) in (
+    (length-replicate {A = ℕ} longestMessage 0) out _ (c6 .before .wide .ensures) in (
       c .refused6 .ensures ∙ ap (λ (k : ℕ). answerWith k 0) (c .before .before .before .add .ensures .0) ∙ b .0
           ∙ started-told R P O (x .node) (x .to) (x .object) first,
       c .before .before .before .add .ensures .1 ∙ b .1 ∙ started-pool R P O (x .node) (x .to) (x .object) first,
@@ -279,7 +280,7 @@ returns-7 c =
     let h = c6 .if4 .left in
     let n = c .before .before .before .before .count .ensures .0 in
     let t = c .before .before .before .if5 .left in
-    let f : count P < 128 = omega arith in
+    let f : count P < mostWaiting = omega arith in
     let i = c .before .before .wide .ensures in
     let g = c .before .if6 .left in (
       c .refused7 .ensures ∙ gone-told R P O (x .node) (x .to) (x .object) e _ w h f ∙ started-told R P O (x .node) (x .to) (x .object) first,

@@ -1,4 +1,4 @@
--- `station::pools::write_at`: what is due from the node's part; from a blank record for what is no node.
+-- `station::pools::write_at`: what is due from the node's part; 4 for what is no node.
 use mathlib.Core.Path.{_≡_, ap, ap₂, _∙_}
 use mathlib.Core.List.{List}
 use Prim.Native.Nat.{ℕ, _+_, _-_, _*_}
@@ -6,10 +6,13 @@ use native.Mathlib.Omega.{arith}
 use denote.Ref.{now}
 use lib.ListN.{length, take, drop}
 use borrow.Author.Tests.{le-ltb}
+use Rattle.record.specs.Layout.{recordSize}
+use Rattle.numbers.specs.Sizes.{nodes}
 use Rattle.coordinator.specs.declared.Coordinator.{Coordinator}
 use Rattle.coordinator.specs.System.{tree}
-use Rattle.due.specs.Due.{dueWritten, dueBuffer}
-use Rattle.record.specs.Call.{recordDue, recordDueBuffer}
+use Rattle.due.specs.Kind.{dueRefusals}
+use Rattle.due.specs.Due.{writeRefusals, isDue, dueWritten, dueBuffer}
+use Rattle.record_due.specs.Call.{recordDue, recordDueBuffer}
 use Rattle.parts.specs.Parts.{part}
 use Rattle.buffers.specs.Buffers.{recordAt, recordIn, recordDamaged}
 use Rattle.station.specs.Messages.{owedAt, owedInto}
@@ -39,12 +42,6 @@ part-write-due-end c = search needs
 write-due-requires : tie.Need-write-due-requires
 write-due-requires c κs = search needs
 
-blank-requires : tie.Need-blank-requires
-blank-requires c κs = search needs
-
-write-requires : tie.Need-write-requires
-write-requires c κs = search needs
-
 same-length : tie.Need-same-length
 same-length c = search needs
 
@@ -56,8 +53,8 @@ returns c =
     let q = b .before .before .before .before .pre in
     let R = now (x .records) in
     let n = b .wide .result in
-    let k : 301 * n + 301 - 301 * n ≡ 301 = omega arith in
-    let s : take (301 * n + 301 - 301 * n) (drop (301 * n) R) ≡ recordAt R (x .node) = rw (k, b .wide .ensures) in
+    let k : recordSize * n + recordSize - recordSize * n ≡ recordSize = omega arith in
+    let s : take (recordSize * n + recordSize - recordSize * n) (drop (recordSize * n) R) ≡ recordAt R (x .node) = rw (k, b .wide .ensures) in
     let h = b .before .if1 .taken in
     let r = c .before .before .write-due .ensures in (
       r .0 ∙ ap (λ (l : List ℕ). recordDue l (x .node) (x .to) (x .object) (length (now (x .out)))) s
@@ -66,20 +63,12 @@ returns c =
           ∙ put-here R (x .node) (x .to) (x .object) h (q .0) (now (x .out)) (q .1),
     )
 
-same-length-2 : tie.Need-same-length-2
-same-length-2 c = search needs
-
 returns-2 : tie.Need-returns-2
-unfolding recordIn recordDamaged owedAt owedInto
+unfolding recordDamaged owedAt owedInto dueWritten dueBuffer isDue writeRefusals dueRefusals
 returns-2 c =
-    let b = c .before .before .before .before in
-    let x = b .before .before .before .before .args in
-    let q = b .before .before .before .before .pre in
-    let t = le-ltb _ 13 (b .before .if1 .left) in
-    let r = c .before .before .write .ensures in (
-      r .0 ∙ ap₂ (λ (k : ℕ) (d : Coordinator). dueWritten tree k d (x .node) (x .to) (x .object)) (q .1) (b .blank .ensures) ∙ simp t,
-      r .1 ∙ ap (λ (d : Coordinator). dueBuffer tree d (x .node) (x .to) (x .object) (now (x .out))) (b .blank .ensures) ∙ simp t,
-    )
+    let q = c .before .before .before .pre in
+    let t = le-ltb _ nodes (c .if1 .left) in
+    (simp t, simp (q .1, t))
 
 pub write-at-spec : {M : Type 1} → statement M
 write-at-spec =
@@ -92,9 +81,6 @@ write-at-spec =
     part-write-due-start
     part-write-due-end
     write-due-requires
-    blank-requires
-    write-requires
     same-length
     returns
-    same-length-2
     returns-2)

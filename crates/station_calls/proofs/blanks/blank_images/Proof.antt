@@ -8,9 +8,11 @@ use denote.Ref.{now}
 use lib.ListN.{length}
 use borrow.Author.Tests.{eq-eqb}
 use borrow.Author.Needs.{needs}
+use Rattle.buffers.specs.Buffers.{imagesSize}
+use Rattle.numbers.specs.Sizes.{nodes}
 use Rattle.parts.specs.Parts.{part, splice}
 use Rattle.parts.proofs.Laws.{lent, length-part}
-use Rattle.image.specs.Layout.{shape}
+use Rattle.image.specs.Layout.{shape, imageSize}
 use Rattle.image.specs.Blank.{blankAs, blank}
 use Rattle.image.proofs.Blanks.{length-blank}
 use Rattle.station_calls.specs.Calls.{eachPart, imagesBlank}
@@ -18,15 +20,15 @@ use Rattle.station_calls.proofs.Parted.{part-length}
 use Rattle.station_calls.proofs.blanks.blank_images.Statement.{statement}
 use Rattle.station_calls.proofs.blanks.blank_images.Tie as tie
 
-made : (l : List ℕ) → length l ≡ 1207 → blank l ≡ blankAs shape
+made : (l : List ℕ) → length l ≡ imageSize shape → blank l ≡ blankAs shape
 unfolding blank
-made l e = simp (eq-eqb (length l) 1207 e)
+made l e = simp (eq-eqb (length l) (imageSize shape) e)
 
 abbrev Inv-loop : tie.InvT-loop
-Inv-loop images₀ n₀ images n = (n ≤ 13) × (length images ≡ 15691) × (images ≡ imagesBlank n images₀)
+Inv-loop images₀ n₀ images n = (n ≤ nodes) × (length images ≡ imagesSize) × (images ≡ imagesBlank n images₀)
 
 abbrev μ-loop : tie.MeasureT-loop
-μ-loop images₀ n₀ images n = 13 - n
+μ-loop images₀ n₀ images n = nodes - n
 
 loop-holds : tie.Need-loop-holds Inv-loop μ-loop
 unfolding eachPart
@@ -64,13 +66,17 @@ loop-again c =
     let n = l .n in
     let t = c .before .before .before .before .loop-test .taken in
     let k = l .inv .1 in
-    let e : 1207 * n + 1207 - 1207 * n ≡ 1207 = omega arith in
-    let q : length (part 1207 (1207 * n) (l .images)) ≡ 1207 = length-part 1207 (1207 * n) (l .images) (omega arith) in
-    let b = lent blank 1207 (1207 * n) (1207 * n + 1207 - 1207 * n) (l .images) _ e (c .before .before .blank .ensures .1)
-    ∙ ap (λ (m : List ℕ). splice 1207 (1207 * n) m (l .images)) (made (part 1207 (1207 * n) (l .images)) q) in (
+    let e : imageSize shape * n + imageSize shape - imageSize shape * n ≡ imageSize shape = omega arith in
+    let q : length (part (imageSize shape) (imageSize shape * n) (l .images)) ≡ imageSize shape = length-part (imageSize shape) (imageSize shape * n)
+    (l .images) (omega arith) in
+    let b = lent blank (imageSize shape) (imageSize shape * n) (imageSize shape * n + imageSize shape - imageSize shape * n) (l .images) _ e
+    (c .before .before .blank .ensures .1)
+    ∙ ap (λ (m : List ℕ). splice (imageSize shape) (imageSize shape * n) m (l .images))
+    (made (part (imageSize shape) (imageSize shape * n) (l .images)) q) in (
       omega arith,
-      ap length b ∙ part-length 1207 13 (l .images) (blankAs shape) length-blank k n t,
-      b ∙ ap (splice 1207 (1207 * n) (blankAs shape)) (l .inv .2) ∙ ap (λ (j : ℕ). imagesBlank j (now (c6 .before .args .images))) (sym (add-one n)),
+      ap length b ∙ part-length (imageSize shape) nodes (l .images) (blankAs shape) length-blank k n t,
+      b ∙ ap (splice (imageSize shape) (imageSize shape * n) (blankAs shape)) (l .inv .2)
+          ∙ ap (λ (j : ℕ). imagesBlank j (now (c6 .before .args .images))) (sym (add-one n)),
     )
 
 same-length : tie.Need-same-length Inv-loop μ-loop
@@ -79,7 +85,7 @@ same-length c = let l = c .before .loop .inv .1 in let p = c .before .before .be
 returns : tie.Need-returns Inv-loop μ-loop
 returns c =
     let l = c .before .loop in
-    let e : l .n ≡ 13 = let a = l .inv .0 in let t = c .loop-test .left in omega arith in
+    let e : l .n ≡ nodes = let a = l .inv .0 in let t = c .loop-test .left in omega arith in
     l .inv .2 ∙ ap (λ (j : ℕ). imagesBlank j (now (c .before .before .before .args .images))) e
 
 pub blank-images-spec : {M : Type 1} → statement M

@@ -8,6 +8,9 @@ use denote.Ref.{now}
 use lib.ListN.{length}
 use borrow.Author.Tests.{eq-eqb}
 use borrow.Author.Needs.{needs}
+use Rattle.buffers.specs.Buffers.{recordsSize}
+use Rattle.record.specs.Layout.{recordSize}
+use Rattle.numbers.specs.Sizes.{nodes}
 use Rattle.parts.specs.Parts.{part, splice}
 use Rattle.parts.proofs.Laws.{lent, length-part}
 use Rattle.coordinator.specs.State.{blankRecord}
@@ -20,15 +23,15 @@ use Rattle.station_calls.proofs.Parted.{part-length}
 use Rattle.station_calls.proofs.blanks.blank_records.Statement.{statement}
 use Rattle.station_calls.proofs.blanks.blank_records.Tie as tie
 
-made : (l : List ℕ) → length l ≡ 301 → blankAfter l ≡ bytesOf blankRecord
+made : (l : List ℕ) → length l ≡ recordSize → blankAfter l ≡ bytesOf blankRecord
 unfolding blankAfter
-made l e = simp (eq-eqb (length l) 301 e)
+made l e = simp (eq-eqb (length l) recordSize e)
 
 abbrev Inv-loop : tie.InvT-loop
-Inv-loop records₀ n₀ records n = (n ≤ 13) × (length records ≡ 3913) × (records ≡ recordsBlank n records₀)
+Inv-loop records₀ n₀ records n = (n ≤ nodes) × (length records ≡ recordsSize) × (records ≡ recordsBlank n records₀)
 
 abbrev μ-loop : tie.MeasureT-loop
-μ-loop records₀ n₀ records n = 13 - n
+μ-loop records₀ n₀ records n = nodes - n
 
 loop-holds : tie.Need-loop-holds Inv-loop μ-loop
 unfolding eachPart
@@ -66,13 +69,14 @@ loop-again c =
     let n = l .n in
     let t = c .before .before .before .before .loop-test .taken in
     let k = l .inv .1 in
-    let e : 301 * n + 301 - 301 * n ≡ 301 = omega arith in
-    let q : length (part 301 (301 * n) (l .records)) ≡ 301 = length-part 301 (301 * n) (l .records) (omega arith) in
-    let b = lent blankAfter 301 (301 * n) (301 * n + 301 - 301 * n) (l .records) _ e (c .before .before .blank .ensures .1)
-    ∙ ap (λ (m : List ℕ). splice 301 (301 * n) m (l .records)) (made (part 301 (301 * n) (l .records)) q) in (
+    let e : recordSize * n + recordSize - recordSize * n ≡ recordSize = omega arith in
+    let q : length (part recordSize (recordSize * n) (l .records)) ≡ recordSize = length-part recordSize (recordSize * n) (l .records) (omega arith) in
+    let b = lent blankAfter recordSize (recordSize * n) (recordSize * n + recordSize - recordSize * n) (l .records) _ e (c .before .before .blank .ensures .1)
+    ∙ ap (λ (m : List ℕ). splice recordSize (recordSize * n) m (l .records)) (made (part recordSize (recordSize * n) (l .records)) q) in (
       omega arith,
-      ap length b ∙ part-length 301 13 (l .records) (bytesOf blankRecord) (checked-length (bytesOf blankRecord) blank-checked) k n t,
-      b ∙ ap (splice 301 (301 * n) (bytesOf blankRecord)) (l .inv .2) ∙ ap (λ (j : ℕ). recordsBlank j (now (c6 .before .args .records))) (sym (add-one n)),
+      ap length b ∙ part-length recordSize nodes (l .records) (bytesOf blankRecord) (checked-length (bytesOf blankRecord) blank-checked) k n t,
+      b ∙ ap (splice recordSize (recordSize * n) (bytesOf blankRecord)) (l .inv .2)
+          ∙ ap (λ (j : ℕ). recordsBlank j (now (c6 .before .args .records))) (sym (add-one n)),
     )
 
 same-length : tie.Need-same-length Inv-loop μ-loop
@@ -81,7 +85,7 @@ same-length c = let l = c .before .loop .inv .1 in let p = c .before .before .be
 returns : tie.Need-returns Inv-loop μ-loop
 returns c =
     let l = c .before .loop in
-    let e : l .n ≡ 13 = let a = l .inv .0 in let t = c .loop-test .left in omega arith in
+    let e : l .n ≡ nodes = let a = l .inv .0 in let t = c .loop-test .left in omega arith in
     l .inv .2 ∙ ap (λ (j : ℕ). recordsBlank j (now (c .before .before .before .args .records))) e
 
 pub blank-records-spec : {M : Type 1} → statement M

@@ -1,15 +1,19 @@
 -- `station_calls::calls::begin`: on the bytes of the record of a node that is on, else the number of the buffers or of a node that is off.
-use mathlib.Core.Path.{sym, ap, _∙_}
+use mathlib.Core.Path.{sym, _∙_}
+use Prim.Native.Nat.{_≤_, _<_}
 use native.Mathlib.Omega.{arith}
 use denote.Ref.{now}
+use borrow.Author.Tests.{le-ltb}
+use Rattle.numbers.specs.Sizes.{nodes}
 use Rattle.coordinator.specs.declared.Coordinator.{Coordinator}
 use Rattle.coordinator.specs.declared.Step.{Step}
 use Rattle.coordinator.specs.System.{tree}
-use Rattle.coordinator.specs.Calls.{beginOf}
+use Rattle.coordinator.specs.Calls.{beginRefusals, beginOf}
 use Rattle.steps.specs.Step.{begin, step}
 use Rattle.buffers.specs.Buffers.{stationOf, ends, recordIn}
-use Rattle.station_calls.proofs.Hosted.{sound, records-first, on-is, on-lent, off-all}
-use Rattle.buffers.proofs.First.{told-first}
+use Rattle.buffers.proofs.First.{told-first, ends-stop, ends-long}
+use Rattle.station_calls.proofs.Hosted.{records-first, on-is, on-lent}
+use Rattle.station_calls.proofs.Off.{step-not-two, step-stranger, off-stranger, off-lent}
 use borrow.Author.Needs.{needs}
 use Rattle.station_calls.proofs.calls.begin.Statement.{statement}
 use Rattle.station_calls.proofs.calls.begin.Tie as tie
@@ -61,51 +65,86 @@ returns c =
     let i = c .before .before .before .before .before .wide .ensures in
     on-lent (now (x .records)) (now (x .own)) (x .node) f t _ i _ (w .0) _ (w .1) _ (c .answered .ensures)
 
-host-number-requires : tie.Need-host-number-requires
-host-number-requires c κs = search needs
+ends-number-requires : tie.Need-ends-number-requires
+ends-number-requires c κs = search needs
 
 refused-requires : tie.Need-refused-requires
 refused-requires c κs = search needs
 
-same-length-2 : tie.Need-same-length-2
-same-length-2 c = search needs
-
 returns-2 : tie.Need-returns-2
 returns-2 c =
-    let x = c .before .before .before .before .before .before .before .before .args in
+    let x = c .before .before .before .before .before .before .before .args in
     let o = step (stationOf (ends (now (x .records)) (now (x .own)))) (begin (x .node) (x .w)) in
-    let e = c .before .before .host-number .ensures in
     let h = c .before .if2 .taken in
+    let e = ends-stop (now (x .records)) (now (x .own)) (x .node) _ (c .before .before .ends-number .ensures) h in
     (c .refused .ensures ∙ told-first _ _ o e h, records-first _ _ o (x .node) (now (x .records)) e h)
-
-record-of-requires : tie.Need-record-of-requires
-record-of-requires c κs =
-    let x = c .before .before .before .before .before .before .before .before .args in
-    sound (now (x .records)) (now (x .own)) (x .node) (sym (c .before .before .host-number .ensures) ∙ c .before .if2 .left) .records-long
-
-begin-requires-2 : tie.Need-begin-requires-2
-begin-requires-2 c κs = search needs
-
-when-off-requires : tie.Need-when-off-requires
-when-off-requires c κs = search needs
 
 refused-requires-2 : tie.Need-refused-requires-2
 refused-requires-2 c κs = search needs
 
-same-length-3 : tie.Need-same-length-3
-same-length-3 c = search needs
-
 returns-3 : tie.Need-returns-3
-unfolding step
+unfolding step beginRefusals beginOf
 returns-3 c =
-    let c6 = c .before .before .before .before .before .before in
-    let x = c6 .before .before .before .before .before .before .args in
-    let e = sym (c6 .host-number .ensures) ∙ c .before .before .before .before .before .if2 .left in
-    let z = sym (c6 .before .before .before .is-on .ensures) ∙ c6 .before .before .if1 .left in
-    let f : Coordinator → Step = λ k. beginOf tree k (x .node) (x .w) in
-    let s = c .before .before .begin2 .ensures ∙ ap f (c .before .before .before .record-of .ensures) in
-    off-all (now (x .records)) (now (x .own)) (x .node) e z _ (f (recordIn (now (x .records)) (x .node))) s _ (c .before .when-off .ensures) _
+    let x = c .before .before .before .before .before .before .before .before .args in
+    let e = sym (c .before .before .before .ends-number .ensures) ∙ c .before .before .if2 .left in
+    let z = sym (c .before .before .before .before .before .is-on .ensures) ∙ c .before .before .before .before .if1 .left in
+    let k = recordIn (now (x .records)) (x .node) in
+    let above = c .before .if3 .taken in
+    let h : nodes ≤ x .node = omega (arith, above) in
+    off-stranger (now (x .records)) (now (x .own)) (x .node) e z (beginOf tree k (x .node) (x .w)) above
+    (step-stranger (beginRefusals k (x .node) (x .w) (tree .nearestRead (x .w .live) (x .w .distances))) _ _ _ (simp (le-ltb (x .node) nodes h))) _
     (c .refused2 .ensures)
+
+wide-requires-2 : tie.Need-wide-requires-2
+wide-requires-2 c κs = search needs
+
+mul-start-2 : tie.Need-mul-start-2
+mul-start-2 c = search needs
+
+add-end-2 : tie.Need-add-end-2
+add-end-2 c = search needs
+
+sub-begin-number : tie.Need-sub-begin-number
+sub-begin-number c = search needs
+
+part-begin-number-start : tie.Need-part-begin-number-start
+part-begin-number-start c = search needs
+
+part-begin-number-end : tie.Need-part-begin-number-end
+part-begin-number-end c =
+    let x = c .before .before .before .before .before .before .before .before .before .args in
+    let l = ends-long (now (x .records)) (now (x .own)) (x .node)
+    (sym (c .before .before .before .before .ends-number .ensures) ∙ c .before .before .before .if2 .left) in
+    let n = c .before .before .if3 .left in
+    let w = c .before .wide2 .ensures in
+    omega arith
+
+begin-number-requires : tie.Need-begin-number-requires
+begin-number-requires c κs = search needs
+
+off-number-requires : tie.Need-off-number-requires
+off-number-requires c κs = search needs
+
+refused-requires-3 : tie.Need-refused-requires-3
+refused-requires-3 c κs = search needs
+
+same-length-2 : tie.Need-same-length-2
+same-length-2 c = search needs
+
+returns-4 : tie.Need-returns-4
+unfolding step beginRefusals beginOf
+returns-4 c =
+    let c6 = c .before .before .before .before .before .before in
+    let x = c6 .before .before .before .before .before .before .before .args in
+    let e = sym (c6 .before .before .ends-number .ensures) ∙ c6 .before .if2 .left in
+    let z = sym (c6 .before .before .before .before .is-on .ensures) ∙ c6 .before .before .before .if1 .left in
+    let k = recordIn (now (x .records)) (x .node) in
+    let f : Coordinator → Step = λ k. beginOf tree k (x .node) (x .w) in
+    let h : x .node < nodes = omega (arith, c6 .if3 .left) in
+    off-lent (now (x .records)) (now (x .own)) (x .node) e z f h
+    (step-not-two (beginRefusals k (x .node) (x .w) (tree .nearestRead (x .w .live) (x .w .distances))) _ _ _ tt) _
+    (c .before .before .before .before .before .wide2 .ensures) _
+    (c .before .before .begin-number .ensures) _ (c .before .off-number .ensures) _ (c .refused3 .ensures)
 
 pub begin-spec : {M : Type 1} → statement M
 begin-spec =
@@ -122,13 +161,19 @@ begin-spec =
     answered-requires
     same-length
     returns
-    host-number-requires
+    ends-number-requires
     refused-requires
-    same-length-2
     returns-2
-    record-of-requires
-    begin-requires-2
-    when-off-requires
     refused-requires-2
-    same-length-3
-    returns-3)
+    returns-3
+    wide-requires-2
+    mul-start-2
+    add-end-2
+    sub-begin-number
+    part-begin-number-start
+    part-begin-number-end
+    begin-number-requires
+    off-number-requires
+    refused-requires-3
+    same-length-2
+    returns-4)

@@ -4,6 +4,7 @@ use mathlib.Core.Bool.{true, false, not, cond}
 use Prim.Native.Nat.{ℕ}
 use denote.Ref.{now}
 use borrow.Author.Tests.{eq-eqb, ne-eqb, not-true, not-false, lt-ltb, le-ltb}
+use Rattle.numbers.specs.Sizes.{nodes}
 use Rattle.mask.specs.Mask.{only, joined, minus}
 use Rattle.octets.specs.Octets.{put}
 use Rattle.steps.specs.Step.{step, switchOf}
@@ -39,7 +40,7 @@ returns-2 : tie.Need-returns-2
 unfolding told switchOwn step switchOf
 returns-2 c =
     let e = eq-eqb _ 0 (sym (c .before .before .before .own-number .ensures) ∙ c .before .before .if1 .left) in
-    let h = le-ltb _ 13 (c .before .if2 .taken) in
+    let h = le-ltb _ nodes (c .before .if2 .taken) in
     (simp (e, h) (c .refused2 .ensures), simp (e, h))
 
 on-requires : tie.Need-on-requires
@@ -65,7 +66,7 @@ unfolding told switchOwn step switchOf
 returns-3 c =
     let c6 = c .before .before .before .before .before .before in
     let e = eq-eqb _ 0 (sym (c6 .before .before .before .before .before .own-number .ensures) ∙ c6 .before .before .before .before .if1 .left) in
-    let h = lt-ltb _ 13 (c6 .before .before .before .if2 .left) in
+    let h = lt-ltb _ nodes (c6 .before .before .before .if2 .left) in
     let m = c .before .before .before .before .before .changed .ensures in
     let o = c .before .before .before .before .before .before .single .ensures in
     (simp (e, h) (c .refused3 .ensures), simp (e, h) (rw (c .before .before .before .put-u16 .ensures, m, o, c6 .before .on .ensures)))

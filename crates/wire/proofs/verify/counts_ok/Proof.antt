@@ -1,6 +1,7 @@
 -- `wire::verify::counts_ok`: by the kind, then by the range of the count that varies.
 use borrow.Author.Tests.{ne-eqb, le-leb, lt-leb}
 use native.Mathlib.Nat.{le-of-suc-le-suc}
+use Rattle.numbers.specs.Sizes.{mostOpen}
 use Rattle.wire.specs.Formed.{countsOk}
 use borrow.Author.Needs.{needs}
 use Rattle.wire.proofs.verify.counts_ok.Statement.{statement}
@@ -34,7 +35,7 @@ returns c =
       c .both .ensures,
       c .before .before .before .match .keys1,
       le-leb 1 _ (c .before .before .if1 .left),
-      le-leb _ 8 (le-of-suc-le-suc (c .before .if2 .taken)),
+      le-leb _ mostOpen (le-of-suc-le-suc (c .before .if2 .taken)),
     )
 
 returns-2 : tie.Need-returns-2
@@ -43,7 +44,7 @@ returns-2 c = simp (c .before .match .keys1, lt-leb 1 _ (c .if1 .taken))
 
 returns-3 : tie.Need-returns-3
 unfolding countsOk
-returns-3 c = simp (c .before .before .match .keys1, le-leb 1 _ (c .before .if1 .left), lt-leb _ 8 (c .if2 .left))
+returns-3 c = simp (c .before .before .match .keys1, le-leb 1 _ (c .before .if1 .left), lt-leb _ mostOpen (c .if2 .left))
 
 returns-4 : tie.Need-returns-4
 returns-4 c = simp (c .vote-counts .ensures, c .before .match .keys2)

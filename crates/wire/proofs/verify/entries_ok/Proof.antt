@@ -7,7 +7,7 @@ use denote.Ref.{now}
 use borrow.Author.Tests.{not-true, not-false}
 use Rattle.wire.specs.declared.Entry.{Entry}
 use Rattle.wire.specs.Formed.{entryOk}
-use Rattle.wire.specs.Decode.{entryAt, itemsFrom}
+use Rattle.wire.specs.Decode.{entryAt, itemsFrom, entriesPlace}
 use Rattle.wire.specs.Run.{run, objectOf}
 use Rattle.wire.proofs.Accepted.{items-step, items-end, run-again, run-stop, run-end}
 use Rattle.wire.proofs.RoundTrip.{entry-in}
@@ -17,8 +17,8 @@ use Rattle.wire.proofs.verify.entries_ok.Tie as tie
 
 abbrev Inv-loop : tie.InvT-loop
 Inv-loop s kind n lo₀ at₀ left₀ lo at left =
-    (at + 14 * left ≡ 13 + 14 * n)
-    × (run objectOf (entryOk kind) lo (itemsFrom entryAt 14 left s at) ≡ run objectOf (entryOk kind) 0 (itemsFrom entryAt 14 n s 13))
+    (at + 14 * left ≡ entriesPlace + 14 * n)
+    × (run objectOf (entryOk kind) lo (itemsFrom entryAt 14 left s at) ≡ run objectOf (entryOk kind) 0 (itemsFrom entryAt 14 n s entriesPlace))
 
 abbrev μ-loop : tie.MeasureT-loop
 μ-loop s kind n lo₀ at₀ left₀ lo at left = left

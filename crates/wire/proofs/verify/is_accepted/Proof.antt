@@ -6,7 +6,7 @@ use denote.Ref.{now}
 use lib.ListN.{getD}
 use Rattle.wire.specs.declared.Head.{Head}
 use Rattle.wire.specs.Formed.{entryOk, rivalOk}
-use Rattle.wire.specs.Decode.{kindOf, ownerOf, toOf, entryAt, rivalAt, itemsFrom}
+use Rattle.wire.specs.Decode.{kindOf, ownerOf, toOf, entryAt, rivalAt, itemsFrom, entriesPlace}
 use Rattle.wire.specs.Headed.{headOk}
 use Rattle.wire.specs.Run.{run, objectOf, ownerIn}
 use Rattle.wire.proofs.Accepted.{sized-fits, sized-length, accepted-when, not-accepted}
@@ -86,16 +86,16 @@ returns c =
     let g = c .before .before .before .before .before .before .before in
     let l = now (g .before .before .before .before .before .args .s) in
     let n = g .before .before .before .entries .ensures .0 in
-    let r = g .before .before .count-at .ensures .0 ∙ ap (λ (k : ℕ). getD l (13 + 14 * k) 0) n in
-    let w = g .before .count-at2 .ensures .0 ∙ ap₂ (λ (k j : ℕ). getD l (13 + 14 * k + 1 + 5 * j) 0) n r in
+    let r = g .before .before .count-at .ensures .0 ∙ ap (λ (k : ℕ). getD l (entriesPlace + 14 * k) 0) n in
+    let w = g .before .count-at2 .ensures .0 ∙ ap₂ (λ (k j : ℕ). getD l (entriesPlace + 14 * k + 1 + 5 * j) 0) n r in
     let h = c .before .before .before .before .before .head .ensures in
     let fits = sym (g .sized .ensures ∙ sized-fits l _ _ _ n r w) ∙ c .before .before .before .before .before .before .if1 .taken in
     let e = c .before .before .before .before .entries-ok .ensures
-    ∙ ap₂ (λ (x : Head) (k : ℕ). run objectOf (entryOk (x .kind)) 0 (itemsFrom entryAt 14 k l 13)) h n in
+    ∙ ap₂ (λ (x : Head) (k : ℕ). run objectOf (entryOk (x .kind)) 0 (itemsFrom entryAt 14 k l entriesPlace)) h n in
     let v = c .before .before .before .rivals-ok .ensures
     ∙ ap (λ (x : Head). run ownerIn (rivalOk (x .kind) (x .owner) (x .to)) 0
-    (itemsFrom rivalAt 5 (g .before .before .count-at .result) l (13 + 14 * g .before .before .before .entries .result + 1))) h
-    ∙ ap₂ (λ (k j : ℕ). run ownerIn (rivalOk (kindOf l) (ownerOf l) (toOf l)) 0 (itemsFrom rivalAt 5 j l (13 + 14 * k + 1))) n r in
+    (itemsFrom rivalAt 5 (g .before .before .count-at .result) l (entriesPlace + 14 * g .before .before .before .entries .result + 1))) h
+    ∙ ap₂ (λ (k j : ℕ). run ownerIn (rivalOk (kindOf l) (ownerOf l) (toOf l)) 0 (itemsFrom rivalAt 5 j l (entriesPlace + 14 * k + 1))) n r in
     simp (c .both2 .ensures, c .before .before .both .ensures) (accepted-when l _ _ _ fits (c .before .head-ok .ensures ∙ ap headOk h) e v)
 
 returns-2 : tie.Need-returns-2
@@ -103,8 +103,8 @@ returns-2 c =
     let g = c .before in
     let l = now (g .before .before .before .before .before .args .s) in
     let n = g .before .before .before .entries .ensures .0 in
-    let r = g .before .before .count-at .ensures .0 ∙ ap (λ (k : ℕ). getD l (13 + 14 * k) 0) n in
-    let w = g .before .count-at2 .ensures .0 ∙ ap₂ (λ (k j : ℕ). getD l (13 + 14 * k + 1 + 5 * j) 0) n r in
+    let r = g .before .before .count-at .ensures .0 ∙ ap (λ (k : ℕ). getD l (entriesPlace + 14 * k) 0) n in
+    let w = g .before .count-at2 .ensures .0 ∙ ap₂ (λ (k j : ℕ). getD l (entriesPlace + 14 * k + 1 + 5 * j) 0) n r in
     sym (not-accepted l (sym (g .sized .ensures ∙ sized-fits l _ _ _ n r w) ∙ c .if1 .left))
 
 pub is-accepted-spec : {M : Type 1} → statement M

@@ -1,6 +1,7 @@
 -- `wire::verify::outcome_counts`: by the word, then by the range of the entries.
 use borrow.Author.Tests.{ne-eqb, le-leb, lt-leb}
 use native.Mathlib.Nat.{le-of-suc-le-suc}
+use Rattle.numbers.specs.Sizes.{mostOpen}
 use Rattle.wire.specs.Formed.{countsOk}
 use borrow.Author.Needs.{needs}
 use Rattle.wire.proofs.verify.outcome_counts.Statement.{statement}
@@ -23,7 +24,7 @@ returns-2 c =
       c .before .before .before .both .ensures,
       c .before .before .match .keys2,
       le-leb 1 _ (c .before .if1 .left),
-      le-leb _ 8 (le-of-suc-le-suc (c .if2 .taken)),
+      le-leb _ mostOpen (le-of-suc-le-suc (c .if2 .taken)),
     )
 
 returns-3 : tie.Need-returns-3
@@ -32,7 +33,7 @@ returns-3 c = simp (c .before .match .keys2, lt-leb 1 _ (c .if1 .taken))
 
 returns-4 : tie.Need-returns-4
 unfolding countsOk
-returns-4 c = simp (c .before .before .match .keys2, le-leb 1 _ (c .before .if1 .left), lt-leb _ 8 (c .if2 .left))
+returns-4 c = simp (c .before .before .match .keys2, le-leb 1 _ (c .before .if1 .left), lt-leb _ mostOpen (c .if2 .left))
 
 returns-5 : tie.Need-returns-5
 unfolding countsOk

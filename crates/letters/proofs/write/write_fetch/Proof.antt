@@ -1,0 +1,19 @@
+-- `letters::write::write_fetch`: one entry, of a kind that has one.
+use mathlib.Core.Path.{refl}
+use Rattle.wire.specs.Formed.{countsOk}
+use borrow.Author.Needs.{needs}
+use Rattle.letters.proofs.write.write_fetch.Statement.{statement}
+use Rattle.letters.proofs.write.write_fetch.Tie as tie
+
+send-entry-requires : tie.Need-send-entry-requires
+unfolding countsOk
+send-entry-requires c κs = refl
+
+same-length : tie.Need-same-length
+same-length c = search needs
+
+returns : tie.Need-returns
+returns c = search needs
+
+pub write-fetch-spec : {M : Type 1} → statement M
+write-fetch-spec = tie.close (tie.spec send-entry-requires same-length returns)

@@ -1,0 +1,2 @@
+-- What the writers of messages do (Write).
+pub mod Write

@@ -1,0 +1,4 @@
+-- What the host's calls leave of the bytes (Stored), that each leaves a record (Kept), and its number found ahead (Number).
+pub mod Stored
+pub mod Kept
+pub mod Number

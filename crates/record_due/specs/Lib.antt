@@ -1,0 +1,2 @@
+-- What is due, on a record as bytes.
+pub mod Call
