@@ -182,7 +182,7 @@ typedef struct senna_entry {
     int64_t value;
 } senna_entry;
 
-/* The entries of a message: the first count of these. A count above SENNA_ENTRIES counts as SENNA_ENTRIES. The rest does not matter. */
+/* The entries of a message: the first count of these, SENNA_ENTRIES at most. The rest does not matter. */
 typedef struct senna_entries {
     senna_entry entry[SENNA_ENTRIES];
     uint8_t count;
@@ -240,8 +240,8 @@ senna_written senna_write_copy(uint8_t *out, size_t size, uint8_t from, uint8_t 
 
 /*
  * An ask from the owner to node `to`: these entries.
- * SENNA_GARBLED also: no entry, an object above 63, a mode above 1, objects that do not ascend strictly, a read with a value other than
- * 0, a write with version 4294967295.
+ * SENNA_GARBLED also: no entry, more than SENNA_ENTRIES, an object above 63, a mode above 1, objects that do not ascend strictly, a read
+ * with a value other than 0, a write with version 4294967295.
  */
 senna_written senna_write_ask(uint8_t *out, size_t size, uint8_t to, uint8_t owner, uint32_t serial, uint32_t stamp,
                               senna_entries entries);

@@ -183,29 +183,51 @@ static void check_kinds(void)
     check_damaged(out, got.length, 18, 0, "a yield with the rival's serial 0");
 }
 
-/* The longest messages, a count above eight, and every rival at once. */
+/* Whether a call found its message garbled and left the buffer as it was. */
+static int refuses(senna_written got, const uint8_t *out)
+{
+    return got.number == SENNA_GARBLED && got.length == 0 && filled(out, SIZE);
+}
+
+/* Every count of entries: 1 to 8 are written, and more are refused without a byte written, also where the first eight would do. */
+static void check_counts(void)
+{
+    uint8_t out[SIZE];
+    senna_written got;
+    unsigned count;
+    int asks = 1, commits = 1, aborts = 1;
+    for (count = 1; count <= SENNA_ENTRIES; count++) {
+        size_t length = 15 + 14 * (size_t)count;
+        memset(out, FILL, sizeof out);
+        got = senna_write_ask(out, sizeof out, 12, 12, LAST, LAST, entries(count, 56));
+        asks &= got.number == SENNA_OK && got.length == length && out[12] == count;
+        asks &= filled(out + length, SIZE - length) && senna_check_message(out, length) == SENNA_OK;
+        got = senna_write_outcome(out, sizeof out, 12, 12, LAST, LAST, entries(count, 56), 1);
+        commits &= got.number == SENNA_OK && got.length == length + 1 && out[12] == count;
+        commits &= filled(out + length + 1, SIZE - length - 1) && senna_check_message(out, length + 1) == SENNA_OK;
+    }
+    check(asks, "an ask of 1 to 8 entries");
+    check(commits, "a commit of 1 to 8 entries");
+    check_number(got.length, SENNA_MESSAGE_MAX, "the longest message has 128 bytes");
+    memset(out, FILL, sizeof out);
+    for (count = SENNA_ENTRIES + 1; count <= 255; count++) {
+        asks &= refuses(senna_write_ask(out, SIZE, 12, 12, LAST, LAST, entries(count, 56)), out);
+        commits &= refuses(senna_write_outcome(out, SIZE, 12, 12, LAST, LAST, entries(count, 56), 1), out);
+        aborts &= refuses(senna_write_outcome(out, SIZE, 12, 12, LAST, LAST, entries(count, 56), 0), out);
+    }
+    check(asks, "an ask of more than 8 entries is refused");
+    check(commits, "a commit of more than 8 entries is refused");
+    check(aborts, "an abort of more than 8 entries is refused");
+}
+
+/* A vote with every rival at once. */
 static void check_longest(void)
 {
     uint8_t out[SIZE];
     senna_serials rivals;
     senna_written got;
-    unsigned node, count;
-    int asks = 1, commits = 1;
+    unsigned node;
     memset(&rivals, 255, sizeof rivals);
-    for (count = 1; count <= 255; count++) {
-        unsigned counted = count < SENNA_ENTRIES ? count : SENNA_ENTRIES;
-        size_t length = 15 + 14 * (size_t)counted;
-        memset(out, FILL, sizeof out);
-        got = senna_write_ask(out, sizeof out, 12, 12, LAST, LAST, entries(count, 56));
-        asks &= got.number == SENNA_OK && got.length == length && out[12] == counted;
-        asks &= filled(out + length, SIZE - length) && senna_check_message(out, length) == SENNA_OK;
-        got = senna_write_outcome(out, sizeof out, 12, 12, LAST, LAST, entries(count, 56), 1);
-        commits &= got.number == SENNA_OK && got.length == length + 1 && out[12] == counted;
-        commits &= filled(out + length + 1, SIZE - length - 1) && senna_check_message(out, length + 1) == SENNA_OK;
-    }
-    check(asks, "an ask of any count from 1; above 8 counts as 8");
-    check(commits, "a commit of any count from 1; above 8 counts as 8");
-    check_number(got.length, SENNA_MESSAGE_MAX, "the longest message has 128 bytes");
     for (node = 0; node < SENNA_NODES; node++) {
         rivals.serial[node] = 0;
         memset(out, FILL, sizeof out);
@@ -433,6 +455,7 @@ int main(void)
 {
     setvbuf(stdout, NULL, _IOLBF, BUFSIZ);
     check_kinds();
+    check_counts();
     check_longest();
     check_refusals();
     check_lengths();

@@ -176,9 +176,10 @@ pub struct Entries {
 }
 
 impl Entries {
-    /// Those that are meant; a count above eight counts as eight.
+    /// As many as are meant; behind the eighth, of which nothing is known, blank ones.
     pub fn meant(&self) -> Vec<Entry> {
-        self.entry.iter().copied().take(usize::from(self.count)).collect()
+        let blank = Entry { object: 0, mode: 0, version: 0, value: 0 };
+        self.entry.into_iter().chain(std::iter::repeat(blank)).take(usize::from(self.count)).collect()
     }
 
     fn passed(&self) -> SennaEntries {

@@ -69,10 +69,16 @@ pub fn copy(out: &mut [u8], from: u8, of: Transaction, entry: Entry) -> Result<u
     Ok(put_single(out, entry.object, entry.mode, entry.version, entry.value as u64))
 }
 
-/// The entries that are meant.
+/// The entries that are meant, of those that are there.
 #[inline(always)]
 fn meant(entries: &Entries) -> &[Entry] {
     &entries.entry[..usize::from(entries.count).min(8)]
+}
+
+/// Whether entries are those of an ask: at most eight, and not none.
+#[inline(always)]
+fn is_asked(entries: &Entries) -> bool {
+    (1..=8).contains(&entries.count) && are_asked(meant(entries))
 }
 
 /// Whether entries are those of an ask, apart from their number.
@@ -106,10 +112,9 @@ fn put_entries(out: &mut Buffer, entries: &[Entry]) -> usize {
 }
 
 pub fn ask(out: &mut [u8], to: u8, of: Transaction, entries: &Entries) -> Result<usize, u8> {
-    let entries = meant(entries);
-    let out = front(out, to, of, !entries.is_empty() && are_asked(entries))?;
+    let out = front(out, to, of, is_asked(entries))?;
     head(out, ASK, of.owner, to, of);
-    let end = put_entries(out, entries);
+    let end = put_entries(out, meant(entries));
     out[end] = 0;
     Ok(end + 1)
 }
@@ -139,15 +144,14 @@ pub fn put_rival(out: &mut Buffer, place: usize, owner: u8, serial: u32) {
 }
 
 pub fn outcome(out: &mut [u8], to: u8, of: Transaction, entries: &Entries, word: u8) -> Result<usize, u8> {
-    let entries = meant(entries);
     let fits = match word {
-        0 => entries.is_empty(),
-        1 => !entries.is_empty() && are_asked(entries),
+        0 => entries.count == 0,
+        1 => is_asked(entries),
         _ => false,
     };
     let out = front(out, to, of, fits)?;
     head(out, OUTCOME, of.owner, to, of);
-    let end = put_entries(out, entries);
+    let end = put_entries(out, meant(entries));
     Ok(put_word(out, end, word))
 }
 

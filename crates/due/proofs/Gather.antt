@@ -2,7 +2,7 @@
 use mathlib.Core.Path.{_≡_, refl, sym, ap, subst, _∙_}
 use mathlib.Core.Bool.{Bool, true, false, cond, _&&_}
 use mathlib.Core.List.{List, [], _∷_, _++_}
-use Prim.Native.Nat.{ℕ, _+_, _-_, _<_, _≤_, min}
+use Prim.Native.Nat.{ℕ, _+_, _-_, _<_, _≤_}
 use native.Mathlib.Numerals.{add-one}
 use native.Mathlib.Omega.{arith}
 use lib.Dec.{eqb, ltb}
@@ -12,6 +12,8 @@ use lib.Seq.{take-suc-set, getD-set-same, getD-set-other}
 use Rattle.numbers.specs.Sizes.{objects as objectsEnd, mostOpen}
 use Rattle.mask.proofs.Tests.{and-left, T-true}
 use Rattle.wire.specs.declared.Entry.{Entry}
+use Rattle.letters.specs.Write.{firstEntries}
+use Rattle.letters.proofs.Sending.{entries-take}
 use Rattle.coordinator.specs.declared.Object.{Object}
 use Rattle.coordinator.specs.declared.Coordinator.{Coordinator}
 use Rattle.coordinator.specs.State.{noObject, across, hereElse, placeIn, placeOf, objectAt, isOpen}
@@ -41,9 +43,9 @@ module _ (c : Coordinator) (n : ℕ) (g r : Gathered) (es : List Entry) (l : Lis
   unfolding withNext
   next-left t = let u : (isOpen c n && ltb (length es) mostOpen) ≡ false = ap (λ (k : ℕ). isOpen c n && ltb k mostOpen) (sym (l .count)) ∙ t in simp u l
 
--- all of them, as a writer of at most eight takes them
-pub listed-all : (g : Gathered) (es : List Entry) → Lists g es → take (min (g .count) mostOpen) (g .entries) ≡ es
-listed-all g es l = let e : min (g .count) mostOpen ≡ g .count = omega (arith, l .room) in ap (λ (n : ℕ). take n (g .entries)) e ∙ l .same
+-- all of them, as a writer takes them
+pub listed-all : (g : Gathered) (es : List Entry) → Lists g es → firstEntries (g .count) (g .entries) ≡ es
+listed-all g es l = entries-take (g .count) (g .entries) (ap length (l .same) ∙ sym (l .count)) ∙ l .same
 
 -- the second of two tests that hold
 pub second-fits : (a : Bool) (k n : ℕ) → (a && ltb k n) ≡ true → k < n

@@ -1,8 +1,6 @@
 // Messages for C: checked, and written one kind at a time. Each function states the same equation as what it wraps.
 ghost use mathlib.Core.Path.{_≡_};
-ghost use Prim.Native.Nat.{min};
 ghost use lib.ListN.{length};
-ghost use Rattle.numbers.specs.Sizes.{mostOpen};
 ghost use Rattle.wire.specs.Decode.{checkOf};
 ghost use Rattle.letters.specs.Write.{writtenOf, bufferAfter, fetchOf, copyOf, askOf, voteOf, outcomeOf, doneOf, yieldOf};
 use letters::Written;
@@ -10,7 +8,7 @@ use numbers::MOST_OPEN;
 use numbers::NODES;
 use wire::Entry;
 
-// Up to eight entries: the first count; a count above 8 counts as 8.
+// Up to eight entries: the first count. A count above 8 is one of more entries than a message has.
 #[repr(C)]
 pub struct Entries {
     pub entry: [Entry; MOST_OPEN],
@@ -72,8 +70,8 @@ pub extern "C" fn senna_write_ask(
     stamp: u32,
     entries: Entries,
 ) -> Written
-    ensures { λ r. ⌜ r ≡ writtenOf (length (now (out .entry))) (askOf to owner serial stamp (entries .entry) (min (entries .count) mostOpen)) ⌝ }
-    ensures { λ r. ⌜ now (out .exit) ≡ bufferAfter (askOf to owner serial stamp (entries .entry) (min (entries .count) mostOpen)) (now (out .entry)) ⌝ }
+    ensures { λ r. ⌜ r ≡ writtenOf (length (now (out .entry))) (askOf to owner serial stamp (entries .entry) (entries .count)) ⌝ }
+    ensures { λ r. ⌜ now (out .exit) ≡ bufferAfter (askOf to owner serial stamp (entries .entry) (entries .count)) (now (out .entry)) ⌝ }
 {
     let list = entries.entry;
     letters::write_ask(out, to, owner, serial, stamp, list, entries.count as usize)
@@ -106,9 +104,8 @@ pub extern "C" fn senna_write_outcome(
     entries: Entries,
     word: u8,
 ) -> Written
-    ensures { λ r. ⌜ r ≡ writtenOf (length (now (out .entry))) (outcomeOf to owner serial stamp (entries .entry) (min (entries .count) mostOpen) word) ⌝ }
-    ensures { λ r. ⌜ now (out .exit) ≡ bufferAfter (outcomeOf to owner serial stamp (entries .entry) (min (entries .count) mostOpen) word)
-        (now (out .entry)) ⌝ }
+    ensures { λ r. ⌜ r ≡ writtenOf (length (now (out .entry))) (outcomeOf to owner serial stamp (entries .entry) (entries .count) word) ⌝ }
+    ensures { λ r. ⌜ now (out .exit) ≡ bufferAfter (outcomeOf to owner serial stamp (entries .entry) (entries .count) word) (now (out .entry)) ⌝ }
 {
     let list = entries.entry;
     letters::write_outcome(

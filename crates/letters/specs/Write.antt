@@ -1,9 +1,9 @@
 -- What the writers give: the number, the length, and every byte of the buffer. And the message that each writer is given, kind by kind.
 use mathlib.Core.Bool.{cond}
 use mathlib.Core.List.{List, [], _∷_, _++_}
-use Prim.Native.Nat.{ℕ, _+_}
+use Prim.Native.Nat.{ℕ, zero, suc, _+_}
 use lib.Dec.{eqb, ltb}
-use lib.ListN.{length, take, drop}
+use lib.ListN.{length, drop}
 use Rattle.numbers.specs.Sizes.{longestMessage}
 use Rattle.numbers.specs.Numbers.{wrongLength, garbled}
 use Rattle.wire.specs.declared.Entry.{Entry}
@@ -12,6 +12,7 @@ use Rattle.letters.specs.declared.Written.{Written}
 use Rattle.wire.specs.Message.{Message, fetch, copy, ask, vote, outcome, done, yield}
 use Rattle.wire.specs.Formed.{wellFormed}
 use Rattle.wire.specs.Encode.{encode}
+use Rattle.wire.specs.Items.{noEntry}
 
 -- 1 for a buffer under 128 bytes, 3 where the message is not well formed, 0 else
 abbrev pub writeNumber : ℕ → Message → ℕ
@@ -36,6 +37,13 @@ unfoldable pub rivalsBy : ℕ → List ℕ → List Rival
 rivalsBy o [] = []
 rivalsBy o (s ∷ ss) = oneRival o s ++ rivalsBy (o + 1) ss
 
+-- entries are given as a list and how many of them are meant. More than there are makes a message of that many all the same, with blank ones behind
+-- the last, so nine are too many
+abbrev pub firstEntries : ℕ → List Entry → List Entry
+firstEntries zero es = []
+firstEntries (suc n) [] = noEntry ∷ firstEntries n []
+firstEntries (suc n) (e ∷ es) = e ∷ firstEntries n es
+
 -- ---- kind by kind: odd kinds come from the owner, even ones go to it
 module _ (node owner serial stamp : ℕ) where
   -- from the owner to a node, and from a node to the owner
@@ -55,13 +63,13 @@ module _ (node owner serial stamp : ℕ) where
 
   -- the first n of the entries given
   abbrev pub askOf : List Entry → ℕ → Message
-  askOf es n = sent ask (take n es) [] []
+  askOf es n = sent ask (firstEntries n es) [] []
 
   abbrev pub voteOf : List ℕ → ℕ → Message
   voteOf serials word = answered vote [] (rivalsBy 0 serials) (word ∷ [])
 
   abbrev pub outcomeOf : List Entry → ℕ → ℕ → Message
-  outcomeOf es n word = sent outcome (take n es) [] (word ∷ [])
+  outcomeOf es n word = sent outcome (firstEntries n es) [] (word ∷ [])
 
   abbrev pub doneOf : Message
   doneOf = answered done [] [] []

@@ -1,6 +1,6 @@
 // Messages written, one writer for each kind. The fields decide whether a message is well formed; only then are its bytes put into the buffer.
 ghost use mathlib.Core.Path.{_≡_};
-ghost use mathlib.Core.Bool.{true, cond};
+ghost use mathlib.Core.Bool.{cond, _&&_};
 ghost use mathlib.Core.List.{[], _∷_};
 ghost use Prim.Native.Nat.{_+_, _*_, _≤_, _<_, min};
 ghost use lib.Dec.{eqb, ltb};
@@ -11,9 +11,9 @@ ghost use Rattle.numbers.specs.Sizes.{nodes, mostOpen, longestMessage};
 ghost use Rattle.wire.specs.Formed.{countsOk, entryOk};
 ghost use Rattle.wire.specs.Encode.{encodeEntry, encodeRival, encodeWord, together, section, encodeHeader, encode, sizeOf};
 ghost use Rattle.letters.specs.Write.{writtenOf, bufferAfter, oneRival, rivalsBy, fetchOf, copyOf, askOf, voteOf, outcomeOf, doneOf, yieldOf};
-ghost use Rattle.letters.specs.Write.{answer};
+ghost use Rattle.letters.specs.Write.{answer, firstEntries};
 ghost use Rattle.wire.specs.Run.{run, objectOf};
-ghost use Rattle.wire.specs.Headed.{headed};
+ghost use Rattle.wire.specs.Headed.{headed, headOk};
 use crate::Written;
 use numbers::LONGEST_MESSAGE;
 use numbers::MOST_OPEN;
@@ -39,9 +39,7 @@ use wire::counts_ok;
 use wire::entry_fits;
 use wire::entry_ok;
 use wire::head_ok;
-use wire::outcome_counts;
 use wire::rival_ok;
-use wire::vote_counts;
 
 // The header at the front of a buffer.
 fn put_head(out: &mut [u8], h: Head)
@@ -217,6 +215,16 @@ fn fill_nothing(out: &mut [u8], h: Head)
     octets::put_u8(out, HEADER + 2, 0);
 }
 
+// Whether a message is well formed, by its kind, the counts of its sections, its header and what the items say: every writer goes through here.
+fn formed(h: Head, entries: usize, rivals: usize, words: usize, word: u8, listed: bool) -> bool
+    ensures { λ r. ⌜ r ≡ (countsOk (h .kind) entries rivals words word && (headOk h && listed)) ⌝ }
+{
+    both(
+        counts_ok(h.kind, entries, rivals, words, word),
+        both(head_ok(h), listed),
+    )
+}
+
 // What refuses a message: 1 a buffer that is too short, 3 fields that are not well formed, 0 nothing.
 fn refusal(size: usize, formed: bool) -> u8
     ensures { λ r. ⌜ r ≡ cond (ltb size longestMessage) 1 (cond formed 0 3) ⌝ }
@@ -276,7 +284,7 @@ fn array_ok(entries: [Entry; MOST_OPEN], n: usize) -> bool
     true
 }
 
-// At most eight.
+// At most eight: no more entries are there to be looked at.
 fn at_most_eight(n: usize) -> usize
     ensures { λ r. ⌜ r ≡ min n mostOpen ⌝ }
 {
@@ -287,11 +295,10 @@ fn at_most_eight(n: usize) -> usize
 
 // One entry: fetch, copy.
 fn send_entry(out: &mut [u8], h: Head, e: Entry) -> Written
-    requires { ⌜ countsOk (h .kind) 1 0 0 0 ≡ true ⌝ }
     ensures { λ r. ⌜ r ≡ writtenOf (length (now (out .entry))) (headed h (e ∷ []) [] []) ⌝ }
     ensures { λ r. ⌜ now (out .exit) ≡ bufferAfter (headed h (e ∷ []) [] []) (now (out .entry)) ⌝ }
 {
-    let number = refusal(out.len(), both(head_ok(h), entry_ok(h.kind, e)));
+    let number = refusal(out.len(), formed(h, 1, 0, 0, 0, entry_ok(h.kind, e)));
     if number != 0 {
         return refused(number);
     }
@@ -299,7 +306,7 @@ fn send_entry(out: &mut [u8], h: Head, e: Entry) -> Written
     written(29)
 }
 
-// Entries, and words (0 or 1) words: ask, outcome. Whether the kind allows the counts is for the caller to say, which knows the kind.
+// The first n entries, and words (0 or 1) words: ask, outcome.
 fn send_entries(
     out: &mut [u8],
     h: Head,
@@ -307,15 +314,14 @@ fn send_entries(
     n: usize,
     words: usize,
     word: u8,
-    counted: bool,
 ) -> Written
-    requires { ⌜ (n ≤ mostOpen) × (words ≤ 1) × (getD (take words (word ∷ [])) 0 0 ≡ word) ⌝ }
-    requires { ⌜ (counted ≡ countsOk (h .kind) n 0 words word) × (entryOk (h .kind) ≡ entryOk 3) ⌝ }
-    ensures { λ r. ⌜ r ≡ writtenOf (length (now (out .entry))) (headed h (take n entries) [] (take words (word ∷ []))) ⌝ }
-    ensures { λ r. ⌜ now (out .exit) ≡ bufferAfter (headed h (take n entries) [] (take words (word ∷ []))) (now (out .entry)) ⌝ }
+    requires { ⌜ (words ≤ 1) × (getD (take words (word ∷ [])) 0 0 ≡ word) × (entryOk (h .kind) ≡ entryOk 3) ⌝ }
+    ensures { λ r. ⌜ r ≡ writtenOf (length (now (out .entry))) (headed h (firstEntries n entries) [] (take words (word ∷ []))) ⌝ }
+    ensures { λ r. ⌜ now (out .exit) ≡ bufferAfter (headed h (firstEntries n entries) [] (take words (word ∷ []))) (now (out .entry)) ⌝ }
 {
-    let formed = both(counted, both(head_ok(h), array_ok(entries, n)));
-    let number = refusal(out.len(), formed);
+    let count = at_most_eight(n);
+    let listed = array_ok(entries, count);
+    let number = refusal(out.len(), formed(h, n, 0, words, word, listed));
     if number != 0 {
         return refused(number);
     }
@@ -371,7 +377,7 @@ pub fn write_copy(out: &mut [u8], from: u8, owner: u8, serial: u32, stamp: u32, 
     send_entry(out, h, e)
 }
 
-// ask: the owner asks a node for its vote on the first n entries.
+// ask: the owner asks a node for its vote on the first n entries. Ruled out: nine entries of which eight are written.
 pub fn write_ask(
     out: &mut [u8],
     to: u8,
@@ -381,8 +387,8 @@ pub fn write_ask(
     entries: [Entry; MOST_OPEN],
     n: usize,
 ) -> Written
-    ensures { λ r. ⌜ r ≡ writtenOf (length (now (out .entry))) (askOf to owner serial stamp entries (min n mostOpen)) ⌝ }
-    ensures { λ r. ⌜ now (out .exit) ≡ bufferAfter (askOf to owner serial stamp entries (min n mostOpen)) (now (out .entry)) ⌝ }
+    ensures { λ r. ⌜ r ≡ writtenOf (length (now (out .entry))) (askOf to owner serial stamp entries n) ⌝ }
+    ensures { λ r. ⌜ now (out .exit) ≡ bufferAfter (askOf to owner serial stamp entries n) (now (out .entry)) ⌝ }
 {
     let h = Head {
         kind: ASK,
@@ -392,8 +398,7 @@ pub fn write_ask(
         serial,
         stamp,
     };
-    let count = at_most_eight(n);
-    send_entries(out, h, entries, count, 0, 0, counts_ok(ASK, count, 0, 0, 0))
+    send_entries(out, h, entries, n, 0, 0)
 }
 
 // vote: a node answers the owner's ask, word 1 for yes with the rivals by owner, 0 for no.
@@ -418,9 +423,8 @@ pub fn write_vote(
         stamp,
     };
     let count = count_rivals(rivals);
-    let counted = vote_counts(0, count, 1, word);
-    let formed = both(counted, both(head_ok(h), no_rival(rivals, owner)));
-    let number = refusal(out.len(), formed);
+    let listed = no_rival(rivals, owner);
+    let number = refusal(out.len(), formed(h, 0, count, 1, word, listed));
     if number != 0 {
         return refused(number);
     }
@@ -439,8 +443,8 @@ pub fn write_outcome(
     n: usize,
     word: u8,
 ) -> Written
-    ensures { λ r. ⌜ r ≡ writtenOf (length (now (out .entry))) (outcomeOf to owner serial stamp entries (min n mostOpen) word) ⌝ }
-    ensures { λ r. ⌜ now (out .exit) ≡ bufferAfter (outcomeOf to owner serial stamp entries (min n mostOpen) word) (now (out .entry)) ⌝ }
+    ensures { λ r. ⌜ r ≡ writtenOf (length (now (out .entry))) (outcomeOf to owner serial stamp entries n word) ⌝ }
+    ensures { λ r. ⌜ now (out .exit) ≡ bufferAfter (outcomeOf to owner serial stamp entries n word) (now (out .entry)) ⌝ }
 {
     let h = Head {
         kind: OUTCOME,
@@ -450,9 +454,7 @@ pub fn write_outcome(
         serial,
         stamp,
     };
-    let count = at_most_eight(n);
-    let counted = outcome_counts(count, 0, 1, word);
-    send_entries(out, h, entries, count, 1, word, counted)
+    send_entries(out, h, entries, n, 1, word)
 }
 
 // done: a node answers the owner's outcome.
@@ -468,7 +470,7 @@ pub fn write_done(out: &mut [u8], from: u8, owner: u8, serial: u32, stamp: u32) 
         serial,
         stamp,
     };
-    let number = refusal(out.len(), head_ok(h));
+    let number = refusal(out.len(), formed(h, 0, 0, 0, 0, true));
     if number != 0 {
         return refused(number);
     }
@@ -500,10 +502,8 @@ pub fn write_yield(
         owner: rival,
         serial: rival_serial,
     };
-    let number = refusal(
-        out.len(),
-        both(head_ok(h), rival_ok(YIELD, owner, rival, r)),
-    );
+    let listed = rival_ok(YIELD, owner, rival, r);
+    let number = refusal(out.len(), formed(h, 0, 1, 0, 0, listed));
     if number != 0 {
         return refused(number);
     }

@@ -46,7 +46,7 @@ on-word : (x n hi : ℕ) (b : Bool) → (b ≡ true → n ≤ hi) → cond (eqb 
 on-word x n hi b f =
     cases (n ≤ hi) (eqb x 1) b (eqb x 0 && eqb n 0) (λ p e. f e) (λ e. let z = two x n 0 0 e in omega arith)
 
-counts-small : (k n r w x : ℕ) → countsOk k n r w x ≡ true → Small n r w
+pub counts-small : (k n r w x : ℕ) → countsOk k n r w x ≡ true → Small n r w
 unfolding countsOk
 counts-small k n r w x =
     cases (Small n r w) (between 1 2 k) (eqb n 1 && (eqb r 0 && eqb w 0)) _

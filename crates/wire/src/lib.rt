@@ -19,9 +19,7 @@ pub use verify::counts_ok;
 pub use verify::entry_fits;
 pub use verify::entry_ok;
 pub use verify::head_ok;
-pub use verify::outcome_counts;
 pub use verify::rival_ok;
-pub use verify::vote_counts;
 
 // One object of a message (document 01: tally): which, in which mode (0 read, 1 write), the version and the value.
 #[repr(C)]

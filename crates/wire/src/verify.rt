@@ -32,7 +32,7 @@ use numbers::both;
 
 // The counts of a vote: a no (word 0) names no rivals.
 // Ruled out: a no with a rival; a yes with 13 rivals.
-pub fn vote_counts(entries: usize, rivals: usize, words: usize, word: u8) -> bool
+fn vote_counts(entries: usize, rivals: usize, words: usize, word: u8) -> bool
     ensures { λ r. ⌜ r ≡ countsOk 4 entries rivals words word ⌝ }
 {
     let rest = both(entries == 0, words == 1);
@@ -48,7 +48,7 @@ pub fn vote_counts(entries: usize, rivals: usize, words: usize, word: u8) -> boo
 
 // The counts of an outcome: an abort (word 0) has no entries, a commit 1 to 8.
 // Ruled out: a commit of nothing; an abort with entries.
-pub fn outcome_counts(entries: usize, rivals: usize, words: usize, word: u8) -> bool
+fn outcome_counts(entries: usize, rivals: usize, words: usize, word: u8) -> bool
     ensures { λ r. ⌜ r ≡ countsOk 5 entries rivals words word ⌝ }
 {
     let rest = both(rivals == 0, words == 1);

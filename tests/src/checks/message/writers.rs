@@ -125,7 +125,7 @@ fn any_entry(random: &mut Random) -> Entry {
     Entry { object: random.byte(), mode: random.byte(), version: random.next() as u32, value: random.next() as i64 }
 }
 
-/// Entries, well formed or with one of them changed, and anything behind those that are meant. A count above eight counts as eight.
+/// Entries, well formed or with one of them changed, and anything behind those that are meant. A count above eight is too many.
 fn entries(random: &mut Random) -> Entries {
     let count = random.below(ENTRIES + 1);
     let mut list = some_entries(random, count);

@@ -1,13 +1,10 @@
--- `letters::write::write_copy`: one entry, of a kind that has one.
-use mathlib.Core.Path.{refl}
-use Rattle.wire.specs.Formed.{countsOk}
+-- `letters::write::write_copy`: one entry.
 use borrow.Author.Needs.{needs}
 use Rattle.letters.proofs.write.write_copy.Statement.{statement}
 use Rattle.letters.proofs.write.write_copy.Tie as tie
 
 send-entry-requires : tie.Need-send-entry-requires
-unfolding countsOk
-send-entry-requires c κs = refl
+send-entry-requires c κs = search needs
 
 same-length : tie.Need-same-length
 same-length c = search needs
