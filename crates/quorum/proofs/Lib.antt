@@ -1,5 +1,6 @@
 -- Theorems has what this crate promises of quorums and of the choice; the other files lead to it.
 pub mod Meet
+pub mod Apart
 pub mod Contain
 pub mod Order
 pub mod Steps

@@ -1,12 +1,14 @@
 -- What holds of quorums and of the choice, one theorem for each sentence.
-use mathlib.Core.Path.{_≡_, refl, sym, ap, _∙_}
+use mathlib.Core.Path.{_≡_, refl, sym, ap, subst, _∙_}
 use mathlib.Core.Bool.{Bool, true, false, not, cond, _||_, Bool·not-not}
 use mathlib.Core.List.{List, [], _∷_}
-use Prim.Native.Nat.{ℕ}
+use Prim.Native.Nat.{ℕ, _<_}
+use native.Mathlib.Omega.{arith}
 use lib.Dec.{T}
-use lib.ListN.{length}
+use lib.ListN.{length, getD}
+use Rattle.numbers.specs.Numbers.{noQuorum}
 use Rattle.mask.specs.Mask.{contains, within}
-use Rattle.mask.proofs.Laws.{within-contains}
+use Rattle.mask.proofs.Laws.{within-contains, within-self}
 use Rattle.quorum.specs.declared.Choice.{Choice}
 use Rattle.quorum.specs.declared.Choice.the-variants.{Quorum, Nothing}
 use Rattle.quorum.specs.declared.Kind.{Kind}
@@ -14,8 +16,9 @@ use Rattle.quorum.specs.declared.Kind.the-variants.{Read, Write}
 use Rattle.quorum.specs.Tree.{leaves, root, height}
 use Rattle.quorum.specs.Quorum.{isQuorum}
 use Rattle.quorum.specs.Smallest.{smallest}
-use Rattle.quorum.specs.Nearest.{distance, nearer, betterOf, oneOf, nearestOf}
+use Rattle.quorum.specs.Nearest.{distance, nearer, betterOf, oneOf, nearestOf, numberOf, maskOf, sumOf}
 use Rattle.quorum.proofs.Meet.{meet, write-root, larger}
+use Rattle.quorum.proofs.Apart.{apartFrom, allApart, same-place}
 use Rattle.quorum.proofs.Contain.{anyWithin, any-smallest}
 use Rattle.quorum.proofs.Order.{asNear, as-near-self, as-near-left, as-near-right}
 
@@ -57,6 +60,20 @@ reads-49 = refl
 pub writes-27 : length (smallest Write) ≡ 27
 unfolding smallest
 writes-27 = refl
+
+-- no smallest quorum contains another: one that is inside another of the list stands in the same place
+smallest-apart : (k : Kind) → T (allApart (smallest k))
+unfolding smallest apartFrom allApart
+smallest-apart Read = tt
+smallest-apart Write = tt
+
+pub none-inside : (k : Kind) (i j : ℕ) → i < length (smallest k) → j < length (smallest k)
+    → T (within (getD (smallest k) i 0) (getD (smallest k) j 0)) → i ≡ j
+none-inside k = same-place (smallest k) (smallest-apart k)
+
+-- and none is listed twice
+pub listed-once : (k : Kind) (i j : ℕ) → i < length (smallest k) → j < length (smallest k) → getD (smallest k) i 0 ≡ getD (smallest k) j 0 → i ≡ j
+listed-once k i j h g e = none-inside k i j h g (subst (λ (q : ℕ). T (within (getD (smallest k) i 0) q)) e (within-self (getD (smallest k) i 0)))
 
 -- ---- the nearest of a list
 pub data In : ℕ → List ℕ → Type 0 where
@@ -126,3 +143,28 @@ none-in-list live d (q ∷ qs) =
 pub none-exactly : (k : Kind) (live : ℕ) (d : List ℕ) → isNothing (nearestOf live d (smallest k)) ≡ not (isQuorum k live)
 unfolding isQuorum smallest
 none-exactly k live d = none-in-list live d (smallest k) ∙ ap not (any-smallest live k height root)
+
+-- ---- document 01's number and values
+number-by : (x : Choice) → numberOf x ≡ cond (isNothing x) noQuorum 0
+number-by Nothing = refl
+number-by (Quorum m s) = refl
+
+not-cond : (b : Bool) → cond (not b) noQuorum 0 ≡ cond b 0 noQuorum
+not-cond true = refl
+not-cond false = refl
+
+pub number-exactly : (k : Kind) (live : ℕ) (d : List ℕ) → numberOf (nearestOf live d (smallest k)) ≡ cond (isQuorum k live) 0 noQuorum
+number-exactly k live d =
+    number-by (nearestOf live d (smallest k)) ∙ ap (λ (b : Bool). cond b noQuorum 0) (none-exactly k live d) ∙ not-cond (isQuorum k live)
+
+-- the sum is the set's own, 0 for none
+distance-none : (d : List ℕ) → distance d 0 ≡ 0
+distance-none [] = refl
+distance-none (x ∷ d) = omega (arith, distance-none d)
+
+own-sum : (live : ℕ) (d qs : List ℕ) (x : Choice) → Chosen live d qs x → sumOf x ≡ distance d (maskOf x)
+own-sum live d qs Nothing p = sym (distance-none d)
+own-sum live d qs (Quorum m s) p = p .2
+
+pub sum-exactly : (live : ℕ) (d qs : List ℕ) → sumOf (nearestOf live d qs) ≡ distance d (maskOf (nearestOf live d qs))
+sum-exactly live d qs = own-sum live d qs (nearestOf live d qs) (chosen live d qs)

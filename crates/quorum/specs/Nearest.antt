@@ -3,6 +3,7 @@ use mathlib.Core.Bool.{Bool, cond, _&&_, _||_}
 use mathlib.Core.List.{List, [], _∷_}
 use Prim.Native.Nat.{ℕ, _+_, _*_, _/_, _%_}
 use lib.Dec.{eqb, ltb, leb}
+use Rattle.numbers.specs.Numbers.{noQuorum}
 use Rattle.mask.specs.Mask.{within}
 use Rattle.quorum.specs.declared.Choice.{Choice}
 use Rattle.quorum.specs.declared.Choice.the-variants.{Quorum, Nothing}
@@ -31,9 +32,9 @@ abbrev pub nearestOf : ℕ → List ℕ → List ℕ → Choice
 nearestOf live d [] = Nothing
 nearestOf live d (q ∷ qs) = betterOf (oneOf live d q) (nearestOf live d qs)
 
--- document 01's number and values of a choice: 8 is 'no quorum'
+-- document 01's number and values of a choice
 abbrev pub numberOf : Choice → ℕ
-numberOf Nothing = 8
+numberOf Nothing = noQuorum
 numberOf (Quorum m s) = 0
 
 abbrev pub maskOf : Choice → ℕ

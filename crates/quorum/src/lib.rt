@@ -1,12 +1,14 @@
 // The tree of thirteen nodes, its read and write quorums, and the nearest of them within the live nodes.
 ghost use mathlib.Core.Path.{_≡_};
+ghost use mathlib.Core.Bool.{cond};
 ghost use Prim.Native.Nat.{_+_, _*_, _^_, _<_, _≤_};
 ghost use Rattle.numbers.specs.Sizes.{nodes};
+ghost use Rattle.numbers.specs.Numbers.{noQuorum};
 ghost use Rattle.mask.specs.Mask.{contains};
 ghost use Rattle.quorum.specs.Tree.{last};
 ghost use Rattle.quorum.specs.Quorum.{twoOf, rootedBy, inSubtree, isQuorum};
 ghost use Rattle.quorum.specs.Smallest.{smallest};
-ghost use Rattle.quorum.specs.Nearest.{nearestOf};
+ghost use Rattle.quorum.specs.Nearest.{nearestOf, distance, numberOf, maskOf, sumOf};
 ghost use Rattle.quorum.specs.Levels.{aloneOf, leavesOf, bestOf, pairOf};
 ghost use Rattle.quorum.specs.Key.{Means, bound, lesserOf, pairKey, rootKey};
 use numbers::NODES;
@@ -167,10 +169,13 @@ fn best_pair(kind: Kind, live: u16, distances: &[u16; NODES], root: u8, height: 
     choose_pair(a, b, c)
 }
 
-// The nearest quorum within the live nodes: of the smallest quorums inside live the one with the least sum, of equal sums the lowest mask.
+// The nearest quorum within the live nodes: of the smallest quorums inside live the one with the least sum, of equal sums the lowest mask. Its number is
+// 8 exactly where live has no quorum, and its sum is that of its mask.
 // Ruled out: a tie that goes to the higher mask; a sum that is not the set's own; 'nothing' where live has a quorum.
 pub fn nearest(kind: Kind, live: u16, distances: &[u16; NODES]) -> Choice
     ensures { λ r. ⌜ r ≡ nearestOf live (now (distances .entry)) (smallest kind) ⌝ }
+    ensures { λ r. ⌜ numberOf r ≡ cond (isQuorum kind live) 0 noQuorum ⌝ }
+    ensures { λ r. ⌜ sumOf r ≡ distance (now (distances .entry)) (maskOf r) ⌝ }
 {
     let key = best(kind, live, distances, 0, 2);
     if key < ABSENT {

@@ -43,7 +43,7 @@ returns-3 : tie.Need-returns-3
 returns-3 c =
     let a = c .before .before .before .before .before .before .before .before .before .args in
     let p = ap (λ (d : List ℕ). nearestOf (a .live) d (smallest (a .kind))) (sym (c .before .before .before .before .before .distances-of .ensures))
-    ∙ sym (c .before .before .before .nearest .ensures) ∙ c .before .choice .given .1 in
+    ∙ sym (c .before .before .before .nearest .ensures .0) ∙ c .before .choice .given .1 in
     sym (answer-choice (a .kind) (a .live) (now (a .distances)) _
     (c .before .before .before .before .before .before .before .if1 .left) (c .before .before .before .before .before .before .if2 .left) p)
 
@@ -51,7 +51,7 @@ returns-4 : tie.Need-returns-4
 returns-4 c =
     let a = c .before .before .before .before .before .before .before .before .before .args in
     let p = ap (λ (d : List ℕ). nearestOf (a .live) d (smallest (a .kind))) (sym (c .before .before .before .before .before .distances-of .ensures))
-    ∙ sym (c .before .before .before .nearest .ensures) ∙ c .before .enum-told .given .1 in
+    ∙ sym (c .before .before .before .nearest .ensures .0) ∙ c .before .enum-told .given .1 in
     c .refused3 .ensures ∙ sym (answer-choice (a .kind) (a .live) (now (a .distances)) _
     (c .before .before .before .before .before .before .before .if1 .left) (c .before .before .before .before .before .before .if2 .left) p)
 

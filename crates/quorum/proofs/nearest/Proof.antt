@@ -1,13 +1,29 @@
 -- `quorum::nearest`: the key at the root means the level-by-level choice, which is the nearness rule (Optimal).
-use mathlib.Core.Path.{subst}
+use mathlib.Core.Path.{_≡_, sym, ap, subst, _∙_}
+use mathlib.Core.Bool.{cond}
+use mathlib.Core.List.{List}
+use Prim.Native.Nat.{ℕ}
 use native.Mathlib.Omega.{arith}
 use denote.Ref.{now}
+use Rattle.numbers.specs.Numbers.{noQuorum}
+use Rattle.quorum.specs.declared.Choice.{Choice}
+use Rattle.quorum.specs.declared.Kind.{Kind}
+use Rattle.quorum.specs.Quorum.{isQuorum}
+use Rattle.quorum.specs.Smallest.{smallest}
+use Rattle.quorum.specs.Nearest.{distance, nearestOf, numberOf, maskOf, sumOf}
 use Rattle.quorum.specs.Key.{Means, bound}
 use Rattle.quorum.proofs.Optimal.{optimal, mask-small}
+use Rattle.quorum.proofs.Theorems.{number-exactly, sum-exactly}
 use Rattle.quorum.proofs.Keys.{meant, meant-nothing}
 use borrow.Author.Needs.{needs}
 use Rattle.quorum.proofs.nearest.Statement.{statement}
 use Rattle.quorum.proofs.nearest.Tie as tie
+
+-- what holds of the nearest holds of the answer
+all-said : (k : Kind) (live : ℕ) (d : List ℕ) (r : Choice) → r ≡ nearestOf live d (smallest k)
+    → (r ≡ nearestOf live d (smallest k)) × ((numberOf r ≡ cond (isQuorum k live) 0 noQuorum) × (sumOf r ≡ distance d (maskOf r)))
+all-said k live d r e =
+    (e, (ap numberOf e ∙ number-exactly k live d, subst (λ (x : Choice). sumOf x ≡ distance d (maskOf x)) (sym e) (sum-exactly live d (smallest k))))
 
 best-requires : tie.Need-best-requires
 best-requires c κs = search needs
@@ -24,14 +40,15 @@ returns c =
     let d = now (a .distances) in
     let k = c .before .best in
     let m = subst (Means (bound 2) (k .result)) (optimal (a .live) d (a .kind)) (k .ensures .0) in
-    meant (bound 2) (k .result) _ (omega arith) m (mask-small (a .live) d (a .kind)) (c .if1 .taken) .2
+    all-said (a .kind) (a .live) d _ (meant (bound 2) (k .result) _ (omega arith) m (mask-small (a .live) d (a .kind)) (c .if1 .taken) .2)
 
 returns-2 : tie.Need-returns-2
 returns-2 c =
     let a = c .before .before .args in
+    let d = now (a .distances) in
     let k = c .before .best in
-    let m = subst (Means (bound 2) (k .result)) (optimal (a .live) (now (a .distances)) (a .kind)) (k .ensures .0) in
-    meant-nothing (bound 2) (k .result) _ (omega arith) m (c .if1 .left)
+    let m = subst (Means (bound 2) (k .result)) (optimal (a .live) d (a .kind)) (k .ensures .0) in
+    all-said (a .kind) (a .live) d _ (meant-nothing (bound 2) (k .result) _ (omega arith) m (c .if1 .left))
 
 pub nearest-spec : {M : Type 1} → statement M
 nearest-spec = tie.close (tie.spec best-requires cast-t8 cast-t10 returns returns-2)

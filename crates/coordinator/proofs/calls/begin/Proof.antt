@@ -22,7 +22,7 @@ unfolding beginOf stepOf
 returns c =
     simp (
       c .refused .ensures,
-      sym (c .before .before .before .nearest .ensures),
+      sym (c .before .before .before .nearest .ensures .0),
       sym (c .before .before .begin-number .ensures),
       ne-eqb _ 0 (c .before .if1 .taken),
     )
@@ -53,7 +53,7 @@ returns-2 c =
       c .before .with-begun .ensures,
       c .before .before .wide .ensures,
       c .before .before .before .mask-of .ensures,
-      sym (b .before .before .nearest .ensures),
+      sym (b .before .before .nearest .ensures .0),
       sym (b .before .begin-number .ensures),
       eq-eqb _ 0 (b .if1 .left),
     )

@@ -21,7 +21,7 @@ unfolding requestCommitOf stepOf
 returns c =
     simp (
       c .refused .ensures,
-      sym (c .before .before .before .nearest .ensures),
+      sym (c .before .before .before .nearest .ensures .0),
       sym (c .before .before .request-number .ensures),
       ne-eqb _ 0 (c .before .if1 .taken),
     )
@@ -46,7 +46,7 @@ returns-2 c =
       c .before .wide .ensures,
       c .before .before .join .ensures,
       c .before .before .before .mask-of .ensures,
-      sym (c .before .before .before .before .before .before .nearest .ensures),
+      sym (c .before .before .before .before .before .before .nearest .ensures .0),
       sym (c .before .before .before .before .before .request-number .ensures),
       eq-eqb _ 0 (c .before .before .before .before .if1 .left),
     )

@@ -32,7 +32,7 @@ returns-2 c =
     let x = c .before .before .before .before .before .before .before .args in
     let l = now (x .bytes) in
     let e = sym (c .before .before .before .before .before .check .ensures) ∙ c .before .before .before .before .if1 .left in
-    let h = c .begin-refusal .ensures ∙ ap (λ (k : Choice). firstOf (beginRefusals (recordOf l) (x .me) (x .w) k)) (c .before .nearest .ensures) in
+    let h = c .begin-refusal .ensures ∙ ap (λ (k : Choice). firstOf (beginRefusals (recordOf l) (x .me) (x .w) k)) (c .before .nearest .ensures .0) in
     ahead-taken (λ (c : Coordinator). beginOf tree c (x .me) (x .w)) l e _ _ _ _ _ h refl
 
 pub begin-number-spec : {M : Type 1} → statement M

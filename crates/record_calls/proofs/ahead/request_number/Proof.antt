@@ -42,7 +42,7 @@ returns-2 c =
     let l = now (x .bytes) in
     let e = sym (c .before .before .before .before .before .before .check .ensures) ∙ c .before .before .before .before .before .if1 .left in
     let k = recordOf l in
-    let near = c .before .nearest .ensures
+    let near = c .before .nearest .ensures .0
     ∙ ap (λ (n : ℕ). tree .nearestWrite n (c .before .before .before .before .distances-of .result)) (c .before .before .before .get-u16 .ensures)
     ∙ ap (λ (d : List ℕ). tree .nearestWrite (k .live) d) (c .before .before .before .before .distances-of .ensures) in
     let h = c .request-refusal .ensures ∙ ap (λ (m : Choice). firstOf (requestCommitRefusals tree k (x .me) m)) near in

@@ -32,7 +32,7 @@ returns-2 c =
     let x = c .before .before .before .before .before .before .args in
     let l = now (x .bytes) in
     let e = sym (c .before .before .before .before .check .ensures) ∙ c .before .before .before .if1 .left in
-    let h = c .reselect-refusal .ensures ∙ ap (λ (k : Choice). firstOf (reselectRefusals (recordOf l) (x .me) (x .live) k)) (c .before .nearest .ensures) in
+    let h = c .reselect-refusal .ensures ∙ ap (λ (k : Choice). firstOf (reselectRefusals (recordOf l) (x .me) (x .live) k)) (c .before .nearest .ensures .0) in
     ahead-taken (λ (c : Coordinator). reselectOf tree c (x .me) (x .live) (x .t4)) l e _ _ _ _ _ h refl
 
 pub reselect-number-spec : {M : Type 1} → statement M

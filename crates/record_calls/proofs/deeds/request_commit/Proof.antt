@@ -47,7 +47,7 @@ returns c =
     let l = now (x .bytes) in
     let k = recordOf l in
     let p : ℕ = joined (maskOf (tree .nearestWrite (k .live) (k .distances))) (k .contacted) in
-    let near = b4 .nearest .ensures
+    let near = b4 .nearest .ensures .0
     ∙ ap (λ (n : ℕ). tree .nearestWrite n (b8 .distances-of .result)) (b4 .before .before .get-u16 .ensures)
     ∙ ap (λ (d : List ℕ). tree .nearestWrite (k .live) d) (b8 .distances-of .ensures) in
     let e = c .before .before .request-refusal .ensures ∙ ap (λ (m : Choice). firstOf (requestCommitRefusals tree k (x .me) m)) near in
@@ -93,7 +93,7 @@ returns-2 c =
     let k = recordOf l in
     let q : ℕ = maskOf (tree .nearestWrite (k .live) (k .distances)) in
     let p : ℕ = joined q (k .contacted) in
-    let near = b19 .nearest .ensures
+    let near = b19 .nearest .ensures .0
     ∙ ap (λ (n : ℕ). tree .nearestWrite n (b23 .distances-of .result)) (b19 .before .before .get-u16 .ensures)
     ∙ ap (λ (d : List ℕ). tree .nearestWrite (k .live) d) (b23 .distances-of .ensures) in
     let z = sym (b16 .before .request-refusal .ensures ∙ ap (λ (m : Choice). firstOf (requestCommitRefusals tree k (x .me) m)) near) ∙ b16 .if1 .left in

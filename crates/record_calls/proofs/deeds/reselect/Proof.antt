@@ -38,7 +38,7 @@ returns c =
     let q : ℕ = maskOf (tree .nearestRead (x .live) (x .t4)) in
     let d = reselected (recordOf l) (x .live) (x .t4) q in
     let e = c .before .before .reselect-refusal .ensures
-    ∙ ap (λ (k : Choice). firstOf (reselectRefusals (recordOf l) (x .me) (x .live) k)) (b4 .nearest .ensures) in
+    ∙ ap (λ (k : Choice). firstOf (reselectRefusals (recordOf l) (x .me) (x .live) k)) (b4 .nearest .ensures .0) in
     let h = c .before .if1 .taken in
     (c .refused .ensures ∙ told-refused _ q (recordOf l) d l _ e h, kept-refused _ q (recordOf l) d l _ e h)
 
@@ -84,10 +84,10 @@ returns-2 c =
     let q : ℕ = maskOf (tree .nearestRead (x .live) (x .t4)) in
     let d = reselected k (x .live) (x .t4) q in
     let z = sym (b15 .before .before .before .before .before .before .reselect-refusal .ensures
-    ∙ ap (λ (m : Choice). firstOf (reselectRefusals k (x .me) (x .live) m)) (b23 .nearest .ensures))
+    ∙ ap (λ (m : Choice). firstOf (reselectRefusals k (x .me) (x .live) m)) (b23 .nearest .ensures .0))
     ∙ b15 .before .before .before .before .before .if1 .left in
     let small : Bytes l = λ j. omega (arith, b23 .before .before .slice-known .given j) in
-    let m = b15 .before .before .before .before .mask-of .ensures ∙ ap maskOf (b23 .nearest .ensures) in (
+    let m = b15 .before .before .before .before .mask-of .ensures ∙ ap maskOf (b23 .nearest .ensures .0) in (
       c .taken .ensures ∙ ap (called 0) (c .before .wide .ensures ∙ m) ∙ told-taken _ q k d l z,
       rw (
         c .before .before .before .before .put-quorum .ensures,
