@@ -22,7 +22,7 @@ use Rattle.image.specs.Valid.{over}
 use Rattle.image.proofs.Sound.{sound-check}
 use Rattle.judge.specs.Standing.{aboveOf, standing}
 use Rattle.replica.specs.Steps.{Answer, silent, says}
-use Rattle.replica.specs.Receive.{outcomeEarly, wrongTurn, refusals, refusal, Delivered}
+use Rattle.replica.specs.Receive.{outcomeWrongTurn, wrongTurn, refusals, refusal, Delivered}
 use Rattle.replica.proofs.Delivered.{either-way, cleared, step-fine, entries-of, delivered-is}
 use Rattle.replica.proofs.Spoken.{named-of}
 use Rattle.coordinator.specs.declared.Coordinator.{Coordinator}
@@ -52,16 +52,16 @@ use Rattle.history.proofs.Room.{room-next}
 use Rattle.history.proofs.Claimed.{always-good}
 
 -- ---- a serial above the last, while that one is not over
-early-by : (a b : Bool) (u : ℕ) → u ≤ 3 → cond a (aboveOf u) (cond b u 0) ≡ 5 → (a ≡ true) × (u ≢ over)
+ahead-by : (a b : Bool) (u : ℕ) → u ≤ 3 → cond a (aboveOf u) (cond b u 0) ≡ 5 → (a ≡ true) × (u ≢ over)
 unfolding aboveOf
-early-by true b u h e = (refl, λ z. let q = sym (ap (λ (x : Bool). cond {A = ℕ} x 4 5) (eq-eqb u 0 z)) ∙ e in let y : ⊥ = omega (arith, q) in y)
-early-by false true u h e = absurd (let y : ⊥ = omega (arith, h, e) in y)
-early-by false false u h e = absurd (let y : ⊥ = omega (arith, e) in y)
+ahead-by true b u h e = (refl, λ z. let q = sym (ap (λ (x : Bool). cond {A = ℕ} x 4 5) (eq-eqb u 0 z)) ∙ e in let y : ⊥ = omega (arith, q) in y)
+ahead-by false true u h e = absurd (let y : ⊥ = omega (arith, h, e) in y)
+ahead-by false false u h e = absurd (let y : ⊥ = omega (arith, e) in y)
 
-early-above : (l : List ℕ) (m : Message) → state l (m .owner) ≤ 3 → standing l m ≡ 5 → (serial l (m .owner) < m .serial) × (state l (m .owner) ≢ over)
+ahead-above : (l : List ℕ) (m : Message) → state l (m .owner) ≤ 3 → standing l m ≡ 5 → (serial l (m .owner) < m .serial) × (state l (m .owner) ≢ over)
 unfolding standing
-early-above l m h e =
-    let z = early-by (ltb (serial l (m .owner)) (m .serial)) (eqb (serial l (m .owner)) (m .serial)) (state l (m .owner)) h e in
+ahead-above l m h e =
+    let z = ahead-by (ltb (serial l (m .owner)) (m .serial)) (eqb (serial l (m .owner)) (m .serial)) (state l (m .owner)) h e in
     (ltb-true (serial l (m .owner)) (m .serial) (z .0), z .1)
 
 -- ---- a delivery at a coordinator that nothing refuses has no number
@@ -91,10 +91,10 @@ module _ (st : Station) (L : Ledger) (F : Past) (w : World st L F) (t : InTurn s
 
   -- ---- at a replica
   module _ (order : forReplica (kindOf b) ≡ true) where
-    not-early : standing l m ≡ 5 → ⊥
-    not-early e =
+    not-ahead : standing l m ≡ 5 → ⊥
+    not-ahead e =
         let small = subst (λ (o : ℕ). o < nodes) (sym (header b .3)) (nodes-named b well .1) in
-        let z = early-above l m (w .valid .images n .0 .clauses .owners-sound (m .owner) small .small) e in
+        let z = ahead-above l m (w .valid .images n .0 .clauses .owners-sound (m .owner) small .small) e in
         on (heard-of (st .images) (st .records) b (t .waits b in-pool) order)
         (λ q. let s = behind-stands l m q in let y : ⊥ = omega (arith, s, e) in y)
         (λ a. let s = t .not-over n (m .owner) (z .1) .present in let r = a .present in let h = z .0 in let y : ⊥ = omega (arith, s, r, h) in y)
@@ -105,15 +105,15 @@ module _ (st : Station) (L : Ledger) (F : Past) (w : World st L F) (t : InTurn s
         (subst (λ (s : ℕ). Bound l (ownerOf b) s) (sym (header b .4)) (t .waits b in-pool .a-commit e f)) in
         on z (λ q. inl (behind-stands l m q)) (λ q. inr (last-stands l m (q .0) ∙ q .1))
 
-    outcome-fits : kindOf b ≡ 5 → outcomeEarly (Rattle.wire.specs.Formed.wordOf m) (standing l m) ≡ false
-    unfolding outcomeEarly
+    outcome-fits : kindOf b ≡ 5 → outcomeWrongTurn (Rattle.wire.specs.Formed.wordOf m) (standing l m) ≡ false
+    unfolding outcomeWrongTurn
     outcome-fits e = by (eqb (Rattle.wire.specs.Formed.wordOf m) 1) refl
       where
         by : (x : Bool) → eqb (Rattle.wire.specs.Formed.wordOf m) 1 ≡ x
             → cond x (not (eqb (standing l m) 0 || eqb (standing l m) 2)) (eqb (standing l m) 5) ≡ false
         by true q = on (commit-stands e (word-decoded b ∙ eqb-true _ 1 q))
             (λ z. ap (λ (s : ℕ). not (eqb s 0 || eqb s 2)) z) (λ z. ap (λ (s : ℕ). not (eqb s 0 || eqb s 2)) z)
-        by false q = ne-eqb (standing l m) 5 not-early
+        by false q = ne-eqb (standing l m) 5 not-ahead
 
     its-turn : wrongTurn l m ≡ false
     unfolding wrongTurn
@@ -121,10 +121,10 @@ module _ (st : Station) (L : Ledger) (F : Past) (w : World st L F) (t : InTurn s
         (subst (λ (k : ℕ). (eqb k 1 || (eqb k 3 || eqb k 5)) ≡ true) (sym (header b .0)) order)
       where
         by : (x y z : Bool) → eqb (m .kind) 1 ≡ x → eqb (m .kind) 3 ≡ y → eqb (m .kind) 5 ≡ z → (x || (y || z)) ≡ true
-            → cond x (eqb (standing l m) 5) (cond y (eqb (standing l m) 5) (cond z (outcomeEarly (Rattle.wire.specs.Formed.wordOf m) (standing l m)) true))
+            → cond x (eqb (standing l m) 5) (cond y (eqb (standing l m) 5) (cond z (outcomeWrongTurn (Rattle.wire.specs.Formed.wordOf m) (standing l m)) true))
             ≡ false
-        by true y z p q r e = ne-eqb (standing l m) 5 not-early
-        by false true z p q r e = ne-eqb (standing l m) 5 not-early
+        by true y z p q r e = ne-eqb (standing l m) 5 not-ahead
+        by false true z p q r e = ne-eqb (standing l m) 5 not-ahead
         by false false true p q r e = outcome-fits (sym (header b .0) ∙ eqb-true (m .kind) 5 r)
         by false false false p q r e = absurd (no-both e refl)
 

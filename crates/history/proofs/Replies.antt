@@ -23,7 +23,7 @@ use Rattle.judge.specs.Standing.{standing, active, entered}
 use Rattle.judge.specs.Judge.{votesNo, noSerials, serialsOf, rivalsOf}
 use Rattle.replica.specs.Steps.{Answer, silent, says, copyTo, voteTo, doneTo, wanted, copyHere, fetchImage, fetchAnswer, askImage, askAnswer, judgedAnswer}
 use Rattle.replica.specs.Steps.{outcomeImage, outcomeAnswer}
-use Rattle.replica.specs.Receive.{outcomeEarly}
+use Rattle.replica.specs.Receive.{outcomeWrongTurn}
 use Rattle.replica.proofs.Spoken.{Named, named-of, done-formed, vote-formed, copy-formed, yes-formed, wanted-fits}
 use Rattle.replica.proofs.Delivered.{entries-of}
 use Rattle.replica.proofs.Late.{late-outcome}
@@ -232,12 +232,12 @@ module _ (st : Station) (σ : State ℕ) (log : List Tx) (sim : Sim st σ log) (
 
   module _ (kind : m .kind ≡ 5) (a-commit : wordOf m ≡ 1 → (σ .history .phase x ≡ committed) × Match (σ .history .contents x) (m .entries))
       (an-abort : wordOf m ≡ 0 → σ .history .phase x ≡ aborted) where
-    in-turn : outcomeEarly (wordOf m) (standing l m) ≡ false
+    in-turn : outcomeWrongTurn (wordOf m) (standing l m) ≡ false
     in-turn = turn-outcome l m kind (k .turn)
 
     -- a commit needs held, as it is not late
     commit-held : wordOf m ≡ 1 → (standing l m ≡ 0 → ⊥) → standing l m ≡ 2
-    unfolding outcomeEarly
+    unfolding outcomeWrongTurn
     commit-held w e = by (eqb (standing l m) 0) (eqb (standing l m) 2) refl refl
         (subst (λ (d : ℕ). cond (eqb d 1) (not (eqb (standing l m) 0 || eqb (standing l m) 2)) (eqb (standing l m) 5) ≡ false) w in-turn)
       where

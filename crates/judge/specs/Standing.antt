@@ -8,16 +8,16 @@ use Rattle.image.specs.Layout.{serial, state}
 use Rattle.image.specs.Valid.{over, listed}
 use Rattle.image.specs.Change.{withOwner}
 
--- beside the four states of an owner: a serial above the last one, when that one is over, and when it is not (document 01's early abort is a
--- fresh one)
+-- beside the four states of an owner: a serial above the last one, when that one is over (document 01's early abort is one of these), and when it is
+-- not
 abbrev pub fresh : ℕ
 fresh = 4
 
-abbrev pub early : ℕ
-early = 5
+abbrev pub ahead : ℕ
+ahead = 5
 
 unfoldable pub aboveOf : ℕ → ℕ
-aboveOf state = cond (eqb state over) fresh early
+aboveOf state = cond (eqb state over) fresh ahead
 
 -- `over` also stands for late: a serial below the last, or the last one when over. The last serial has its owner's state.
 unfoldable pub standing : List ℕ → Message → ℕ

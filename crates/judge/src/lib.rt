@@ -23,4 +23,4 @@ pub struct Verdict {
 // Beside the states of an owner: a serial above the last, when that one is over, and when it is not.
 pub const FRESH: u8 = 4;
 
-pub const EARLY: u8 = 5;
+pub const AHEAD: u8 = 5;

@@ -2,11 +2,11 @@
 ghost use mathlib.Core.Path.{_≡_};
 ghost use Rattle.wire.specs.Decode.{decode};
 ghost use Rattle.judge.specs.Standing.{aboveOf, standing, active, entered};
-use crate::EARLY;
+use crate::AHEAD;
 use crate::FRESH;
 use numbers::either;
 
-// The number of a standing: over for late, the state of the last serial, fresh or early above it.
+// The number of a standing: over for late, the state of the last serial, fresh or ahead above it.
 // Ruled out: a second serial that has the first one's state; an older serial that counts as fresh.
 pub fn standing(image: &[u8], message: &[u8]) -> u8
     ensures { λ r. ⌜ r ≡ standing (now (image .entry)) (decode (now (message .entry))) ⌝ }
@@ -25,7 +25,7 @@ pub fn standing(image: &[u8], message: &[u8]) -> u8
 fn above(state: u8) -> u8
     ensures { λ r. ⌜ r ≡ aboveOf state ⌝ }
 {
-    if state == image::OVER { FRESH } else { EARLY }
+    if state == image::OVER { FRESH } else { AHEAD }
 }
 
 // Listed already, or fresh.

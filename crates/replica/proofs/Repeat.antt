@@ -30,7 +30,7 @@ use Rattle.image.proofs.Whole.{list-small}
 use Rattle.judge.specs.Standing.{standing, active, entered}
 use Rattle.judge.specs.Judge.{votesNo}
 use Rattle.replica.specs.Steps.{wanted, joins, fetchImage, askImage, outcomeImage}
-use Rattle.replica.specs.Receive.{outcomeEarly, wrongTurn, refusals, refusal, Delivered, step, deliver}
+use Rattle.replica.specs.Receive.{outcomeWrongTurn, wrongTurn, refusals, refusal, Delivered, step, deliver}
 use Rattle.replica.proofs.Spoken.{wanted-fits}
 use Rattle.replica.proofs.Delivered.{entries-of, delivered-is}
 use Rattle.replica.proofs.Fields.{restated, ownerWith}
@@ -80,8 +80,8 @@ standing-last n m e =
     simp (a, b)
 
 -- a late outcome is in turn
-late-fits : (word : ℕ) → outcomeEarly word 0 ≡ false
-unfolding outcomeEarly
+late-fits : (word : ℕ) → outcomeWrongTurn word 0 ≡ false
+unfolding outcomeWrongTurn
 late-fits word = by (eqb word 1)
   where
     by : (b : Bool) → cond b (not (eqb 0 0 || eqb 0 2)) (eqb 0 5) ≡ false
@@ -188,7 +188,7 @@ module _ (l : List ℕ) (m : Message) (k : Taken l m) where
       let p : eqb (m .kind) 1 ≡ false = ap (λ (x : ℕ). eqb x 1) e in
       let q : eqb (m .kind) 3 ≡ false = ap (λ (x : ℕ). eqb x 3) e in
       let r = eq-eqb (m .kind) 5 e in
-      simp (p, q, r) (ap (outcomeEarly (wordOf m)) z ∙ late-fits (wordOf m))
+      simp (p, q, r) (ap (outcomeWrongTurn (wordOf m)) z ∙ late-fits (wordOf m))
 
   fetch-turn : m .kind ≡ 1 → wrongTurn (fetchImage l m) m ≡ false
   fetch-turn e = by (active l m) refl

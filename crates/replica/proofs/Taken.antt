@@ -21,7 +21,7 @@ use Rattle.image.proofs.Sound.{Sound, check-sound}
 use Rattle.judge.specs.Standing.{aboveOf, standing, active}
 use Rattle.replica.specs.Steps.{fetchImage, askImage, outcomeImage}
 use Rattle.replica.specs.Given.{Clear}
-use Rattle.replica.specs.Receive.{outcomeEarly, wrongTurn, refusals, refusal, Delivered, step}
+use Rattle.replica.specs.Receive.{outcomeWrongTurn, wrongTurn, refusals, refusal, Delivered, step}
 use Rattle.replica.proofs.Spoken.{false-true, named-of}
 use Rattle.replica.proofs.Delivered.{cleared, past, or-neither}
 
@@ -120,9 +120,9 @@ standing-most : (l : List ℕ) (m : Message) → state l (m .owner) ≤ 3 → st
 unfolding standing
 standing-most l m h = standing-by (ltb (serial l (m .owner)) (m .serial)) (eqb (serial l (m .owner)) (m .serial)) (state l (m .owner)) h
 
-not-early : (word s : ℕ) → outcomeEarly word s ≡ false → s ≡ 5 → ⊥
-unfolding outcomeEarly
-not-early word s e q = by (eqb word 1) (subst (λ (k : ℕ). outcomeEarly word k ≡ false) q e)
+not-ahead : (word s : ℕ) → outcomeWrongTurn word s ≡ false → s ≡ 5 → ⊥
+unfolding outcomeWrongTurn
+not-ahead word s e q = by (eqb word 1) (subst (λ (k : ℕ). outcomeWrongTurn word k ≡ false) q e)
   where
     by : (b : Bool) → cond b (not (eqb 5 0 || eqb 5 2)) (eqb 5 5) ≡ false → ⊥
     by true f = false-true (sym f)
@@ -140,7 +140,7 @@ number-cases (suc (suc (suc (suc zero)))) h n = inr (inl refl)
 number-cases (suc (suc (suc (suc (suc zero))))) h n = absurd (n refl)
 number-cases (suc (suc (suc (suc (suc (suc s)))))) h n = absurd (let z : ⊥ = omega arith in z)
 
-pub turn-outcome : (l : List ℕ) (m : Message) → m .kind ≡ 5 → wrongTurn l m ≡ false → outcomeEarly (wordOf m) (standing l m) ≡ false
+pub turn-outcome : (l : List ℕ) (m : Message) → m .kind ≡ 5 → wrongTurn l m ≡ false → outcomeWrongTurn (wordOf m) (standing l m) ≡ false
 unfolding wrongTurn standing
 turn-outcome l m e w = rw e at w
 
@@ -148,4 +148,4 @@ pub outcome-cases : (l : List ℕ) (m : Message) → Taken l m → m .kind ≡ 5
     → (standing l m ≡ 0) ⊎ ((standing l m ≡ 4) ⊎ ((1 ≤ standing l m) × (standing l m ≤ 3)))
 outcome-cases l m k e =
     number-cases (standing l m) (standing-most l m (k .sound .clauses .owners-sound (m .owner) (k .owner) .small))
-    (not-early (wordOf m) (standing l m) (turn-outcome l m e (k .turn)))
+    (not-ahead (wordOf m) (standing l m) (turn-outcome l m e (k .turn)))

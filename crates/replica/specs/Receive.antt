@@ -13,18 +13,18 @@ use Rattle.wire.specs.Encode.{encode}
 use Rattle.wire.specs.Decode.{decode, checkOf}
 use Rattle.image.specs.Valid.{over, held, refused, check}
 use Rattle.replica.specs.declared.Received.{Received}
-use Rattle.judge.specs.Standing.{early, standing, active}
+use Rattle.judge.specs.Standing.{ahead, standing, active}
 use Rattle.replica.specs.Steps.{Answer, silent, says, fetchImage, fetchAnswer, askImage, askAnswer, outcomeImage, outcomeAnswer}
 
 -- a commit (word 1) needs late or held; an abort anything but a serial above the last while that one is not over
-unfoldable pub outcomeEarly : ℕ → ℕ → Bool
-outcomeEarly word s = cond (eqb word 1) (not (eqb s over || eqb s held)) (eqb s early)
+unfoldable pub outcomeWrongTurn : ℕ → ℕ → Bool
+outcomeWrongTurn word s = cond (eqb word 1) (not (eqb s over || eqb s held)) (eqb s ahead)
 
 -- a fetch or an ask above the last serial needs state 0; a kind meant for the other end is always out of turn
 unfoldable pub wrongTurn : List ℕ → Message → Bool
 wrongTurn l m =
-    cond (eqb (m .kind) fetch) (eqb (standing l m) early)
-    (cond (eqb (m .kind) ask) (eqb (standing l m) early) (cond (eqb (m .kind) outcome) (outcomeEarly (wordOf m) (standing l m)) true))
+    cond (eqb (m .kind) fetch) (eqb (standing l m) ahead)
+    (cond (eqb (m .kind) ask) (eqb (standing l m) ahead) (cond (eqb (m .kind) outcome) (outcomeWrongTurn (wordOf m) (standing l m)) true))
 
 -- the refusals of a message's bytes b at node `me` with the image l and an answer buffer of a size: 1 length, 2 damaged, 3 garbled, 4 stranger, 5 out of turn
 unfoldable pub refusals : ℕ → List ℕ → ℕ → List ℕ → List Refusal

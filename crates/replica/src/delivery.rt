@@ -4,24 +4,24 @@ ghost use lib.ListN.{length};
 ghost use Rattle.numbers.specs.Sizes.{longestMessage};
 ghost use Rattle.wire.specs.Decode.{kindOf, decode};
 ghost use Rattle.replica.specs.Given.{writtenAs, filledBy, Raisable, Clear};
-ghost use Rattle.replica.specs.Receive.{outcomeEarly, wrongTurn, refusal, step, deliver, receivedOf, bufferOf, spoken, speaks};
+ghost use Rattle.replica.specs.Receive.{outcomeWrongTurn, wrongTurn, refusal, step, deliver, receivedOf, bufferOf, spoken, speaks};
 use crate::Received;
 use crate::answer::silence;
 use crate::steps::ask;
 use crate::steps::fetch;
 use crate::steps::outcome;
-use judge::EARLY;
+use judge::AHEAD;
 use judge::is_active;
 use judge::standing;
 use numbers::both;
 use numbers::either;
 
-// A commit needs late or held; an abort anything but early.
-fn outcome_early(word: u8, s: u8) -> bool
-    ensures { λ r. ⌜ r ≡ outcomeEarly word s ⌝ }
+// A commit needs late or held; an abort anything but ahead.
+fn outcome_wrong_turn(word: u8, s: u8) -> bool
+    ensures { λ r. ⌜ r ≡ outcomeWrongTurn word s ⌝ }
 {
     let fits = either(s == image::OVER, s == image::HELD);
-    if word == 1 { !fits } else { s == EARLY }
+    if word == 1 { !fits } else { s == AHEAD }
 }
 
 // Whether a message is out of turn.
@@ -30,9 +30,9 @@ fn wrong_turn(image: &[u8], message: &[u8]) -> bool
 {
     let s = standing(image, message);
     match wire::kind(message) {
-        1 => s == EARLY,
-        3 => s == EARLY,
-        5 => outcome_early(wire::word(message), s),
+        1 => s == AHEAD,
+        3 => s == AHEAD,
+        5 => outcome_wrong_turn(wire::word(message), s),
         _ => true,
     }
 }

@@ -11,7 +11,7 @@ pub enum Standing {
     /// A serial above the last, whose state is 0.
     Fresh,
     /// A serial above the last, whose state is another.
-    Early,
+    Ahead,
     /// "A serial below the last."
     Below,
     /// "Or the last one when over."
@@ -24,12 +24,12 @@ pub enum Standing {
 
 impl Standing {
     pub const ALL: [Standing; 7] =
-        [Standing::Fresh, Standing::Early, Standing::Below, Standing::Over, Standing::Listed, Standing::Held, Standing::Refused];
+        [Standing::Fresh, Standing::Ahead, Standing::Below, Standing::Over, Standing::Listed, Standing::Held, Standing::Refused];
 
     pub fn of(image: &Image, transaction: Transaction) -> Standing {
         let last = image.owners[usize::from(transaction.owner)];
         if transaction.serial > last.serial {
-            return if last.state == state::OVER { Standing::Fresh } else { Standing::Early };
+            return if last.state == state::OVER { Standing::Fresh } else { Standing::Ahead };
         }
         if transaction.serial < last.serial {
             return Standing::Below;
@@ -109,7 +109,7 @@ fn unlist(image: &mut Image, owner: u8) {
 fn fetch(image: &mut Image, me: u8, message: &Message) -> Result<Option<Message>, u8> {
     let transaction = message.transaction;
     match Standing::of(image, transaction) {
-        Standing::Early => return Err(number::OUT_OF_TURN),
+        Standing::Ahead => return Err(number::OUT_OF_TURN),
         Standing::Below | Standing::Over | Standing::Held | Standing::Refused => return Ok(None),
         Standing::Fresh | Standing::Listed => enter(image, transaction),
     }
@@ -127,7 +127,7 @@ fn ask(image: &mut Image, me: u8, message: &Message, fault: Fault) -> Result<Opt
     let transaction = message.transaction;
     let owner = transaction.owner;
     match Standing::of(image, transaction) {
-        Standing::Early => return Err(number::OUT_OF_TURN),
+        Standing::Ahead => return Err(number::OUT_OF_TURN),
         Standing::Below | Standing::Over => return Ok(None),
         Standing::Held => return Ok(Some(message::vote(me, transaction, vec![], YES))),
         Standing::Refused => return Ok(Some(message::vote(me, transaction, vec![], NO))),
@@ -157,7 +157,7 @@ fn outcome(image: &mut Image, me: u8, message: &Message) -> Result<Option<Messag
     let done = Ok(Some(message::done(me, transaction)));
     match (Standing::of(image, transaction), message.words[0]) {
         (Standing::Below | Standing::Over, _) => return done,
-        (Standing::Early, _) => return Err(number::OUT_OF_TURN),
+        (Standing::Ahead, _) => return Err(number::OUT_OF_TURN),
         (Standing::Fresh | Standing::Listed | Standing::Refused, COMMIT) => return Err(number::OUT_OF_TURN),
         (Standing::Fresh, _) => {
             let last = &mut image.owners[usize::from(owner)];

@@ -23,8 +23,8 @@ kind-requires c κs = search needs
 word-requires : tie.Need-word-requires
 word-requires c κs = search needs
 
-outcome-early-requires : tie.Need-outcome-early-requires
-outcome-early-requires c κs = search needs
+outcome-wrong-turn-requires : tie.Need-outcome-wrong-turn-requires
+outcome-wrong-turn-requires c κs = search needs
 
 returns : tie.Need-returns
 unfolding wrongTurn decode
@@ -52,7 +52,7 @@ returns-3 c =
     let k1 : eqb (kindOf b) 1 ≡ false = ap (λ (k : ℕ). eqb k 1) e in
     let k3 : eqb (kindOf b) 3 ≡ false = ap (λ (k : ℕ). eqb k 3) e in
     let k5 : eqb (kindOf b) 5 ≡ true = ap (λ (k : ℕ). eqb k 5) e in
-    simp (k1, k3, k5) (rw (c .outcome-early .ensures, c .before .word .ensures, first-word b, z .before .standing .ensures))
+    simp (k1, k3, k5) (rw (c .outcome-wrong-turn .ensures, c .before .word .ensures, first-word b, z .before .standing .ensures))
 
 returns-4 : tie.Need-returns-4
 unfolding wrongTurn decode
@@ -68,7 +68,7 @@ wrong-turn-spec =
     standing-requires
     kind-requires
     word-requires
-    outcome-early-requires
+    outcome-wrong-turn-requires
     returns
     returns-2
     returns-3
