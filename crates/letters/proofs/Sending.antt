@@ -2,13 +2,14 @@
 use mathlib.Core.Path.{_≡_, refl, sym, ap, ap₂, subst, _∙_}
 use mathlib.Core.Bool.{Bool, true, false, cond, _&&_, and-true}
 use mathlib.Core.List.{List, [], _∷_, _++_, append-assoc}
-use Prim.Native.Nat.{ℕ, zero, suc, _+_, _≤_, min}
+use Prim.Native.Nat.{ℕ, zero, suc, _+_, _≤_, _<_, min}
 use native.Mathlib.Omega.{arith}
 use lib.Dec.{eqb, ltb}
-use borrow.Author.Tests.{ltb-false, eq-eqb, ne-eqb}
+use borrow.Author.Tests.{ltb-false, le-ltb, eq-eqb, ne-eqb}
 use lib.ListN.{length, getD, take, drop, take-append-drop}
 use lib.Seq.{sets, sets-eq, length-take-le, drop-append-le}
 use Rattle.numbers.specs.Sizes.{mostOpen, longestMessage}
+use Rattle.numbers.specs.Numbers.{garbled}
 use Rattle.wire.specs.declared.Entry.{Entry}
 use Rattle.wire.specs.declared.Head.{Head}
 use Rattle.wire.specs.declared.Rival.{Rival}
@@ -120,15 +121,33 @@ pub room-in-front : (l : List ℕ) (formed : Bool) (n : ℕ) → n ≡ cond (ltb
     → length (take longestMessage l) ≡ longestMessage
 room-in-front l formed n e z = length-take-le longestMessage l (room l formed n e z)
 
+left : (a b : Bool) → (a && b) ≡ true → a ≡ true
+left true b t = refl
+left false b t = t
+
 -- entries that are not refused are at most eight
 pub few-entries : (l : List ℕ) (formed : Bool) (z k n w x : ℕ) (rest : Bool) → z ≡ cond (ltb (length l) longestMessage) 1 (cond formed 0 3) → z ≡ 0
     → formed ≡ (countsOk k n 0 w x && rest) → n ≤ mostOpen
 few-entries l formed z k n w x rest e y f =
-    few k n w x (left (countsOk k n 0 w x) (sym f ∙ none-refuses (ltb (length l) longestMessage) formed (sym e ∙ y) .1))
+    few k n w x (left (countsOk k n 0 w x) rest (sym f ∙ none-refuses (ltb (length l) longestMessage) formed (sym e ∙ y) .1))
+
+-- a message of more than eight entries is not well formed, so a buffer with room gets 3 and stays as it was
+many-unformed : (h : Head) (es : List Entry) (n : ℕ) (ws : List ℕ) → mostOpen < n → wellFormed (headed h (firstEntries n es) [] ws) ≡ false
+many-unformed h es n ws g = by (wellFormed (headed h (firstEntries n es) [] ws)) refl
   where
-    left : (a : Bool) → (a && rest) ≡ true → a ≡ true
-    left true t = refl
-    left false t = t
+    by : (b : Bool) → wellFormed (headed h (firstEntries n es) [] ws) ≡ b → wellFormed (headed h (firstEntries n es) [] ws) ≡ false
+    by false t = t
+    by true t =
+        let c = left (countsOk (h .kind) (length (firstEntries n es)) 0 (length ws) (getD ws 0 0)) _ (sym (formed-by h (firstEntries n es) [] ws) ∙ t) in
+        absurd (let z : ⊥ = omega (arith, few (h .kind) _ (length ws) (getD ws 0 0) c, entries-length n es) in z)
+
+pub many-refused : (h : Head) (es : List Entry) (n : ℕ) (ws l : List ℕ) → mostOpen < n → longestMessage ≤ length l
+    → (writtenOf (length l) (headed h (firstEntries n es) [] ws) ≡ answer garbled 0) × (bufferAfter (headed h (firstEntries n es) [] ws) l ≡ l)
+unfolding writtenOf bufferAfter
+many-refused h es n ws l g room =
+    let a = le-ltb (length l) longestMessage room in
+    let b = many-unformed h es n ws g in
+    (simp (a, b), simp (a, b))
 
 -- a message, a buffer, and the number that the writer found from the message's fields
 module _ (m : Message) (l : List ℕ) (formed : Bool) (n : ℕ) (f : formed ≡ wellFormed m)
