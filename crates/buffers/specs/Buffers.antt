@@ -14,6 +14,7 @@ use Rattle.parts.specs.Parts.{part, splice}
 use Rattle.image.specs.Layout.{shape, imageSize}
 use Rattle.image.specs.Blank.{blankAs}
 use Rattle.coordinator.specs.declared.Coordinator.{Coordinator}
+use Rattle.coordinator.specs.System.{tree}
 use Rattle.coordinator.specs.State.{blankRecord}
 use Rattle.record.specs.Layout.{recordSize}
 use Rattle.record.specs.Record.{recordOf, bytesOf, check}
@@ -67,7 +68,7 @@ onOf l = get 2 l 0
 
 -- what is the station's own
 abbrev pub ownOf : List ℕ → Own
-ownOf l = record { on = onOf l }
+ownOf l = record { on = onOf l; system = tree }
 
 abbrev pub stationOf : Buffers → Station
 stationOf b = record { images = imageIn (b .images); records = recordIn (b .records); pool = waiting (b .pool); own = ownOf (b .own) }

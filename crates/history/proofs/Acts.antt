@@ -32,6 +32,7 @@ use Rattle.replica.proofs.Kept.{keeps-entered, fresh-state, or-split}
 use Rattle.replica.proofs.Taken.{Taken}
 use Rattle.replica.proofs.After.{here-last, listedOwner, entered-copy, entered-owner, fetch-copy, fetch-owner, no-copy, no-owner, yes-copy, yes-owner}
 use Rattle.replica.proofs.After.{commit-copy, abort-copy, outcome-owner, early-copy, early-owner}
+use Rattle.coordinator.specs.System.{System}
 use Rattle.steps.specs.Station.{Station, putAt, withImage}
 use Rattle.protocol.specs.Table.{pick, In}
 use Rattle.protocol.specs.State.{Tx, Tx-discrete, fresh, committed, aborted, over, listed, held, History, State, Writes, Touches, Held}
@@ -43,7 +44,7 @@ use Rattle.protocol.specs.Proof.Tables.{on, put2-here}
 use Rattle.protocol.specs.Proof.Yes.{first-yes}
 use Rattle.protocol.specs.Refine.Holders.{nobody-else}
 use Rattle.protocol.specs.Refine.Growth.{Late, Grows, step-grows, grows-same, grows-then}
-use Rattle.history.proofs.Quorums.{quorums, rules}
+use Rattle.history.proofs.Quorums.{Sane, quorums, rules}
 use Rattle.history.proofs.Sim.{stateOf, holderOf, holders, Match, Sim}
 use Rattle.history.proofs.Words.{txIn}
 use Rattle.history.proofs.Rows.{SameCopies, OneOwner, sim-lists, sim-listed, sim-sent, sim-refused, sim-held, sim-applied, sim-dropped, sim-twice}
@@ -94,7 +95,7 @@ pub put-same : {A : Type 0} (f : ℕ → A) (n : ℕ) (v : A) → putAt f n v n 
 unfolding putAt
 put-same f n v = ap (λ (b : Bool). cond b v (f n)) (eq-eqb n n refl)
 
-module _ (st : Station) (σ : State ℕ) (log : List Tx) (sim : Sim st σ log) (n : ℕ) (m : Message) (k : Taken (st .images n) m) where
+module _ {s : System} {sane : Sane s} (st : Station) (σ : State ℕ) (log : List Tx) (sim : Sim sane st σ log) (n : ℕ) (m : Message) (k : Taken (st .images n) m) where
   abbrev l : List ℕ
   l = st .images n
 
@@ -110,7 +111,7 @@ module _ (st : Station) (σ : State ℕ) (log : List Tx) (sim : Sim st σ log) (
   -- ---- listed, by a transition where it was not
   pub record Listing : Type 0 where
     pub state' : State ℕ
-    pub sim' : Sim (withImage st n (entered l m)) state' log
+    pub sim' : Sim sane (withImage st n (entered l m)) state' log
     pub grown : Grows σ state'
     pub same-history : state' .history ≡ σ .history
     pub same-votes : state' .votes ≡ σ .votes
@@ -118,7 +119,7 @@ module _ (st : Station) (σ : State ℕ) (log : List Tx) (sim : Sim st σ log) (
   still-listed : standing l m ≡ 1 → Listing
   still-listed e = record {
     state' = σ;
-    sim' = subst (λ (i : List ℕ). Sim (withImage st n i) σ log) (sym (entered-listed l m e))
+    sim' = subst (λ (i : List ℕ). Sim sane (withImage st n i) σ log) (sym (entered-listed l m e))
         (sim-lists st σ log sim n l (record { versions = λ t. refl; values = λ t. refl }) (λ t. refl) (λ w. refl) (λ w. refl));
     grown = grows-same σ;
     same-history = refl;
@@ -145,7 +146,7 @@ module _ (st : Station) (σ : State ℕ) (log : List Tx) (sim : Sim st σ log) (
             (holders-from l (entered l m) (λ t p. ap (λ (y : Copy). y .holder) (entered-copy l m (k .sound) (k .owner) (k .serial) (k .stamp) (k .fits) t p)))
             (owner-from l (entered l m) o (listedOwner l m) (k .owner)
             (entered-owner l m (k .sound) (k .owner) (k .serial) (k .stamp) (k .fits) a));
-        grown = step-grows {R = rules} s;
+        grown = step-grows {R = rules sane} s;
         same-history = refl;
         same-votes = refl;
       }
@@ -157,7 +158,7 @@ module _ (st : Station) (σ : State ℕ) (log : List Tx) (sim : Sim st σ log) (
   pub record Acted (image : List ℕ) (P : State ℕ → List Tx → Type 0) : Type 0 where
     pub after : State ℕ
     pub log-after : List Tx
-    pub sim-after : Sim (withImage st n image) after log-after
+    pub sim-after : Sim sane (withImage st n image) after log-after
     pub grows : Grows σ after
     pub history-same : after .history ≡ σ .history
     pub told : P after log-after
@@ -174,18 +175,18 @@ module _ (st : Station) (σ : State ℕ) (log : List Tx) (sim : Sim st σ log) (
   }
 
   -- what is read of owner o at the node, in a station whose image there is i
-  module _ (i : List ℕ) (τ : State ℕ) (l' : List Tx) (s : Sim (withImage st n i) τ l') where
+  module _ (i : List ℕ) (τ : State ℕ) (l' : List Tx) (r : Sim sane (withImage st n i) τ l') where
     pub last-read : (w : ℕ) → τ .ends .last n w ≡ serial i w
-    last-read w = s .reads .r-last n w ∙ ap (λ (y : List ℕ). serial y w) (put-same (st .images) n i)
+    last-read w = r .reads .r-last n w ∙ ap (λ (y : List ℕ). serial y w) (put-same (st .images) n i)
 
     pub state-read : (w : ℕ) → τ .ends .state n w ≡ stateOf (state i w)
-    state-read w = s .reads .r-state n w ∙ ap (λ (y : List ℕ). stateOf (state y w)) (put-same (st .images) n i)
+    state-read w = r .reads .r-state n w ∙ ap (λ (y : List ℕ). stateOf (state y w)) (put-same (st .images) n i)
 
     pub version-read : (t : ℕ) → τ .store .version n t ≡ version i t
-    version-read t = s .reads .r-version n t ∙ ap (λ (y : List ℕ). version y t) (put-same (st .images) n i)
+    version-read t = r .reads .r-version n t ∙ ap (λ (y : List ℕ). version y t) (put-same (st .images) n i)
 
     pub value-read : (t : ℕ) → τ .store .value n t ≡ value i t
-    value-read t = s .reads .r-value n t ∙ ap (λ (y : List ℕ). value y t) (put-same (st .images) n i)
+    value-read t = r .reads .r-value n t ∙ ap (λ (y : List ℕ). value y t) (put-same (st .images) n i)
 
   -- ---- fetch
   module _ (a : active l m ≡ true) where
@@ -239,7 +240,7 @@ module _ (st : Station) (σ : State ℕ) (log : List Tx) (sim : Sim st σ log) (
     every-owner : {X : Type 0} (g : List ℕ → ℕ → X) (j i : List ℕ) → g i o ≡ g j o → ((w : ℕ) → (w ≡ o → ⊥) → g i w ≡ g j w) → (w : ℕ) → g i w ≡ g j w
     every-owner g j i here else w = by-cases (ℕ-discrete w o) (λ e. ap (g i) e ∙ here ∙ ap (g j) (sym e)) (λ e. else w e)
 
-    joined-sim : Sim (withImage st n (fetchImage l m)) (Z .state') log
+    joined-sim : Sim sane (withImage st n (fetchImage l m)) (Z .state') log
     joined-sim =
         let f = fetch-owners (st₁ .images n) at-node in
         sim-twice st (Z .state') log n i₁ (fetchImage l m)
@@ -252,7 +253,7 @@ module _ (st : Station) (σ : State ℕ) (log : List Tx) (sim : Sim st σ log) (
       after = doCopy (Z .state') n t;
       log-after = log;
       sim-after = sim-sent (withImage st n (fetchImage l m)) (Z .state') log joined-sim n t;
-      grows = grows-then (Z .grown) (step-grows {R = rules} (copy n t));
+      grows = grows-then (Z .grown) (step-grows {R = rules sane} (copy n t));
       history-same = Z .same-history;
       told = (
         refl,
@@ -302,7 +303,7 @@ module _ (st : Station) (σ : State ℕ) (log : List Tx) (sim : Sim st σ log) (
       sim-after = sim-twice st _ log n i₁ (askImage l m)
           (sim-refused st₁ (Z .state') log (Z .sim') n (askImage l m) x is-listed (no-view _ at-node v) (no-holders _ at-node v)
           (voted-owner _ at-node 3 (no-owner l m (k .sound) (k .owner) (k .serial) (k .stamp) (k .fits) a v)));
-      grows = grows-then (Z .grown) (step-grows {R = rules} (voteNo n x is-listed));
+      grows = grows-then (Z .grown) (step-grows {R = rules sane} (voteNo n x is-listed));
       history-same = Z .same-history;
       told = refl;
     }
@@ -342,12 +343,12 @@ module _ (st : Station) (σ : State ℕ) (log : List Tx) (sim : Sim st σ log) (
           subst (λ (g : ℕ). τ .store .version n g ≤ τ .history .contents x .version g) (z .2)
           (omega (arith, a₁, b₁, version-read i₁ τ log (Z .sim') (z .0 .object)))
 
-      can-yes : CanYes rules τ n x
+      can-yes : CanYes (rules sane) τ n x
       can-yes = record {
         asked = λ e. asked (sym (ap (λ (h : History ℕ). h .phase x) (Z .same-history)) ∙ e);
         listed = is-listed;
         last = last-read i₁ τ log (Z .sim') o ∙ entered-serial;
-        free = tree-free 0 quorums (τ .ends) (τ .history .contents) n x nobody-holds;
+        free = tree-free 0 (quorums sane) (τ .ends) (τ .history .contents) n x nobody-holds;
         current = not-newer;
       }
         where
@@ -397,7 +398,7 @@ module _ (st : Station) (σ : State ℕ) (log : List Tx) (sim : Sim st σ log) (
         told = (
           refl,
           put2-here ℕ-discrete Tx-discrete (τ .votes .yes) n x true,
-          λ e i. first-yes rules τ n x can-yes (Z .sim' .kept .inv) (ap (λ (g : ℕ). τ .votes .yes g x) e ∙ Z .sim' .kept .log .l-voted x i),
+          λ e i. first-yes (rules sane) τ n x can-yes (Z .sim' .kept .inv) (ap (λ (g : ℕ). τ .votes .yes g x) e ∙ Z .sim' .kept .log .l-voted x i),
         );
       }
 
@@ -419,7 +420,7 @@ module _ (st : Station) (σ : State ℕ) (log : List Tx) (sim : Sim st σ log) (
       (λ q. inr (sim .reads .r-last n o ∙ q .0, sim .reads .r-state n o ∙ ap stateOf (q .1)))
 
   -- an image after which the owner is over with the message's serial: the done is true
-  over-late : (i : List ℕ) (τ : State ℕ) (l' : List Tx) → Sim (withImage st n i) τ l' → serial i o ≡ m .serial → state i o ≡ 0 → Late (τ .ends) n x
+  over-late : (i : List ℕ) (τ : State ℕ) (l' : List Tx) → Sim sane (withImage st n i) τ l' → serial i o ≡ m .serial → state i o ≡ 0 → Late (τ .ends) n x
   over-late i τ l' s a b = inr (last-read i τ l' s o ∙ a, state-read i τ l' s o ∙ ap stateOf b)
 
   -- the owner is over: serial s, all others as they were
@@ -447,7 +448,7 @@ module _ (st : Station) (σ : State ℕ) (log : List Tx) (sim : Sim st σ log) (
     one-early = over-owner (m .serial) (ownerWith (m .serial) 0 (m .stamp)) refl refl
         (early-owner l m (k .sound) (k .owner) (k .serial) (k .stamp) (k .fits) early)
 
-    early-sim : Sim (withImage st n (outcomeImage l m)) (doDrop σ n x) log
+    early-sim : Sim sane (withImage st n (outcomeImage l m)) (doDrop σ n x) log
     early-sim = sim-dropped st σ log sim n (outcomeImage l m) x early-drop
         (copies-from l (outcomeImage l m) (λ t p. let c = early-copy l m (k .sound) (k .owner) (k .serial) (k .stamp) (k .fits) early t p in
         (ap (λ (y : Copy). y .value) c, ap (λ (y : Copy). y .version) c)))
@@ -458,7 +459,7 @@ module _ (st : Station) (σ : State ℕ) (log : List Tx) (sim : Sim st σ log) (
       after = doDrop σ n x;
       log-after = log;
       sim-after = early-sim;
-      grows = step-grows {R = rules} (drop n x early-drop);
+      grows = step-grows {R = rules sane} (drop n x early-drop);
       history-same = refl;
       told = (refl, over-late (outcomeImage l m) (doDrop σ n x) log early-sim (one-early .its-serial) (one-early .its-state));
     }
@@ -482,7 +483,7 @@ module _ (st : Station) (σ : State ℕ) (log : List Tx) (sim : Sim st σ log) (
       here-drop : CanDrop σ n x
       here-drop = record { phase = aborted-now; fits = inl (sim .reads .r-last n o ∙ last .0) }
 
-      abort-sim : Sim (withImage st n (outcomeImage l m)) (doDrop σ n x) log
+      abort-sim : Sim sane (withImage st n (outcomeImage l m)) (doDrop σ n x) log
       abort-sim = sim-dropped st σ log sim n (outcomeImage l m) x here-drop
           (copies-from l (outcomeImage l m) (λ t p. let c = abort-copy l m (k .sound) (k .owner) (k .serial) (k .stamp) (k .fits) low high word t p in
           (ap (λ (y : Copy). y .value) c, ap (λ (y : Copy). y .version) c)))
@@ -495,7 +496,7 @@ module _ (st : Station) (σ : State ℕ) (log : List Tx) (sim : Sim st σ log) (
         after = doDrop σ n x;
         log-after = log;
         sim-after = abort-sim;
-        grows = step-grows {R = rules} (drop n x here-drop);
+        grows = step-grows {R = rules sane} (drop n x here-drop);
         history-same = refl;
         told = (refl, over-late (outcomeImage l m) (doDrop σ n x) log abort-sim (one-over .its-serial ∙ last .0) (one-over .its-state));
       }
@@ -531,7 +532,7 @@ module _ (st : Station) (σ : State ℕ) (log : List Tx) (sim : Sim st σ log) (
       freed-now t p = ap (λ (y : Copy). y .holder)
           (commit-copy l m (k .sound) (k .owner) (k .serial) (k .stamp) (k .fits) is-held word (commit-raises m (k .formed) kind) t p)
 
-      commit-sim : Sim (withImage st n (outcomeImage l m)) (doApply σ n x) log
+      commit-sim : Sim sane (withImage st n (outcomeImage l m)) (doApply σ n x) log
       commit-sim = sim-applied st σ log sim n (outcomeImage l m) x can-apply one-over
           (freed-from l (outcomeImage l m) o (k .owner) freed-now) now-stored still-stored
 
@@ -540,7 +541,7 @@ module _ (st : Station) (σ : State ℕ) (log : List Tx) (sim : Sim st σ log) (
         after = doApply σ n x;
         log-after = log;
         sim-after = commit-sim;
-        grows = step-grows {R = rules} (apply n x can-apply);
+        grows = step-grows {R = rules sane} (apply n x can-apply);
         history-same = refl;
         told = (refl, over-late (outcomeImage l m) (doApply σ n x) log commit-sim (one-over .its-serial ∙ last .0) (one-over .its-state));
       }

@@ -15,7 +15,6 @@ use Rattle.wire.specs.Decode.{fromOf}
 use Rattle.wire.specs.Items.{entryOf}
 use Rattle.coordinator.specs.declared.Coordinator.{Coordinator}
 use Rattle.coordinator.specs.declared.Step.{Step}
-use Rattle.coordinator.specs.System.{tree}
 use Rattle.coordinator.specs.State.{votingPhase, finishingPhase, placeOf, ready, awaited, idleAfter}
 use Rattle.coordinator.specs.Calls.{withPhase, endedAborted}
 use Rattle.arrivals.specs.Receive.{brought}
@@ -27,7 +26,7 @@ use Rattle.clauses_arrive.proofs.Deliver.{receive-keeps}
 use Rattle.clauses.proofs.Cases.{OpenOrVoting}
 use Rattle.clauses_arrive.proofs.Deliveries.{CopyFitting, YesFitting, DoneFitting, copiedObject, afterCopy, saidYes, named, saidDone}
 use Rattle.clauses_arrive.proofs.Deliveries.{receive-cases}
-use Rattle.steps.specs.Station.{Station, withRecord, without}
+use Rattle.steps.specs.Station.{Station, system, withRecord, without}
 use Rattle.steps.specs.Step.{delivery, Outcome, refusedWith, taken, takenOut, atCoordinator}
 use Rattle.protocol.specs.Table.{In}
 use Rattle.protocol.specs.State.{Tx, tx-path}
@@ -72,7 +71,7 @@ module _ (st : Station) (L : Ledger) (F : Past) (w : World st L F) (k : ℕ) (ke
   out s = cond (eqb (s .number) 0) (taken (s .answer) (withRecord (takenOut st k kept) n (s .coordinator))) (refusedWith (s .number) st)
 
   abbrev P : Step → Type 0
-  P s = Meets tree (s .coordinator) → Next st L F w (delivery k kept) (out s)
+  P s = Meets (system st) (s .coordinator) → Next st L F w (delivery k kept) (out s)
 
   -- a step that is taken
   go : (answer : ℕ) (d : Coordinator) → World (changed st n d pool) (told answer) (More F (changed st n d pool)) → Next st L F w (delivery k kept)
@@ -92,13 +91,13 @@ module _ (st : Station) (L : Ledger) (F : Past) (w : World st L F) (k : ℕ) (ke
   no-commit true = refl
   no-commit false = refl
 
-  copied-case : CopyFitting tree c n b → P (brought (cond (ready tree (copiedObject c b)) 3 0) (afterCopy c b))
+  copied-case : CopyFitting (system st) c n b → P (brought (cond (ready (system st) (copiedObject c b)) 3 0) (afterCopy c b))
   copied-case f m =
-      let answer : ℕ = cond (ready tree (copiedObject c b)) 3 0 in
+      let answer : ℕ = cond (ready (system st) (copiedObject c b)) 3 0 in
       go answer (afterCopy c b)
       (copy-world st L F w n (f .answer .in-phase) (fromOf b) (entryOf b 0) (lt-ltb (placeOf c (entryOf b 0 .object)) mostOpen (f .is-open))
       (T-false _ (f .not-ready)) (w .sim .waits b in-pool .a-copy (f .answer .its-kind)) pool (told answer) (same-told answer) m sub refl refl
-      (no-commit (ready tree (copiedObject c b))) refl refl)
+      (no-commit (ready (system st) (copiedObject c b))) refl refl)
 
   -- an abort
   ended-idle : awaited c ≡ 0 → endedAborted c ≡ idleAfter (c .serial) (c .timestamp) 2
@@ -113,7 +112,7 @@ module _ (st : Station) (L : Ledger) (F : Past) (w : World st L F) (k : ℕ) (ke
 
   aborted-case : (d : Coordinator) → endedAborted c ≡ d → OpenOrVoting c → P (brought 2 d)
   aborted-case d e u m = go 2 d (subst (λ (x : Coordinator). World (changed st n x pool) (told 2) (More F (changed st n x pool))) e
-      (abort-world st L F w n u pool (told 2) (same-told 2) (subst (Meets tree) (sym e) m) sub refl refl refl refl refl))
+      (abort-world st L F w n u pool (told 2) (same-told 2) (subst (Meets (system st)) (sym e) m) sub refl refl refl refl refl))
 
   -- votes
   module _ (f : YesFitting c n b) where
@@ -160,7 +159,7 @@ module _ (st : Station) (L : Ledger) (F : Past) (w : World st L F) (k : ℕ) (ke
 
   pub coordinator-next : Next st L F w (delivery k kept) (atCoordinator st k kept n b)
   unfolding atCoordinator
-  coordinator-next = receive-cases P tree c n b
+  coordinator-next = receive-cases P (system st) c n b
       (record {
         as-before = unchanged;
         copied = copied-case;
@@ -170,4 +169,4 @@ module _ (st : Station) (L : Ledger) (F : Past) (w : World st L F) (k : ℕ) (ke
         last-done = λ f t. last-done-case f;
         one-done = λ f t. one-done-case;
       })
-      (receive-keeps tree c n b (w .valid .records n))
+      (receive-keeps (system st) c n b (w .valid .records n))

@@ -128,6 +128,7 @@ module _ (st : Station) (L : Ledger) (F : Past) (w : World st L F) (n : ℕ) (b 
         let sim' = by-pool (withImage st n image) (a .log-after) (a .sim-after) pool' (st .own) (λ y i. on (g y i) (λ j. inl (sub y j)) (λ z. inr (z .0))) in
         let bk = w .books in
         record {
+          sane = w .sane;
           state = τ;
           log = a .log-after;
           sim = sim';

@@ -11,10 +11,10 @@ use Rattle.mask.specs.Mask.{contains}
 use Rattle.octets.proofs.Laws.{Bytes}
 use Rattle.image.proofs.Sound.{Sound}
 use Rattle.coordinator.specs.declared.Coordinator.{Coordinator}
-use Rattle.coordinator.specs.System.{tree}
+use Rattle.coordinator.specs.System.{System}
 use Rattle.coordinator.specs.State.{idlePhase, openPhase, votingPhase, finishingPhase, objectAt}
 use Rattle.clauses.proofs.Facts.{Meets}
-use Rattle.steps.specs.Station.{Station, putAt}
+use Rattle.steps.specs.Station.{Station, system, putAt}
 use Rattle.protocol.specs.Table.{In}
 use Rattle.protocol.specs.Rules.{unused, read, write}
 use Rattle.protocol.specs.State.{Tx, fresh, voting, committed, Contents, History, State}
@@ -22,6 +22,7 @@ use Rattle.protocol.specs.Refine.Growth.{Late}
 use Rattle.protocol.specs.Proof.Tables.{on, clash}
 use Rattle.history.specs.Ledger.{Done, Ledger}
 use Rattle.history.specs.Claims.{Shows, Finds}
+use Rattle.history.proofs.Quorums.{Sane}
 use Rattle.history.proofs.Sim.{tx, modeOf, contentsOf, Owner, Tells, Sim}
 use Rattle.history.proofs.Carry.{put-all, by-none}
 
@@ -75,18 +76,19 @@ pub record Books (L : Ledger) (F : Past) (st : Station) (σ : State ℕ) (l : Li
 -- ---- a station whose images and records are valid, and whose messages are bytes
 pub record Valid (st : Station) : Type 0 where
   pub images : (n : ℕ) → Sound (st .images n) × Bytes (st .images n)
-  pub records : (n : ℕ) → Meets tree (st .records n)
+  pub records : (n : ℕ) → Meets (system st) (st .records n)
   pub messages : (b : List ℕ) → In b (st .pool) → Bytes b
 
 pub record World (st : Station) (L : Ledger) (F : Past) : Type 0 where
+  pub sane : Sane (system st)
   pub state : State ℕ
   pub log : List Tx
-  pub sim : Sim st state log
+  pub sim : Sim sane st state log
   pub valid : Valid st
   pub books : Books L F st state log
 
 -- ---- what is found now is what the transaction carries, once votes were asked for
-module _ (st : Station) (σ : State ℕ) (l : List Tx) (sim : Sim st σ l) (n : ℕ) (m : Meets tree (st .records n)) where
+module _ {s : System} {sane : Sane s} (st : Station) (σ : State ℕ) (l : List Tx) (sim : Sim sane st σ l) (n : ℕ) (m : Meets s (st .records n)) where
   abbrev c : Coordinator
   c = st .records n
 
@@ -114,17 +116,18 @@ module _ (st : Station) (σ : State ℕ) (l : List Tx) (sim : Sim st σ l) (n : 
 
 -- ---- what is found after one more step
 -- what is shown is open, so it is touched
-pub shown-mode : (c : Coordinator) (s t v : ℕ) → Shows c s t v → contentsOf c .mode t ≢ unused
-shown-mode c s t v f q = touched-mode (eqb (objectAt c t .mode) 0)
+pub shown-mode : {s : System} (c : Coordinator) (n t v : ℕ) → Shows s c n t v → contentsOf c .mode t ≢ unused
+shown-mode c n t v f q = touched-mode (eqb (objectAt c t .mode) 0)
     (sym (ap (λ (b : Bool). cond b (modeOf (objectAt c t .mode)) unused) (f .opened)) ∙ q)
   where
     touched-mode : (b : Bool) → cond b read write ≡ unused → ⊥
     touched-mode true e = clash (cc)
     touched-mode false e = clash (cc)
 
-module _ (F : Past) (st : Station) (σ : State ℕ) (l : List Tx) (sim : Sim st σ l) (meets : (n : ℕ) → Meets tree (st .records n)) where
+module _ {s : System} {sane : Sane s} (F : Past) (st : Station) (σ : State ℕ) (l : List Tx) (sim : Sim sane st σ l)
+    (meets : (n : ℕ) → Meets s (st .records n)) where
   -- the transaction that shows a value is the owner's present one
-  shows-carried : (n s t v : ℕ) → Shows (st .records n) s t v → Asked (σ .history) (tx n s)
+  shows-carried : (n s t v : ℕ) → Shows (system st) (st .records n) s t v → Asked (σ .history) (tx n s)
       → (σ .history .contents (tx n s) .found t ≡ v) × (σ .history .contents (tx n s) .mode t ≢ unused)
   shows-carried n s t v f a =
       let e : tx n s ≡ tx n (st .records n .serial) = ap (tx n) (sym (f .present)) in
@@ -153,25 +156,26 @@ module _ (st : Station) (L : Ledger) (F : Past) (w : World st L F) (n : ℕ) (c'
   h = w .state .history
 
   -- what an owner's earlier transactions found is still found
-  still-shown : ((t v : ℕ) → Shows (st .records n) (st .records n .serial) t v → h .phase (tx n (st .records n .serial)) ≡ fresh
-      → Shows c' (st .records n .serial) t v)
-      → (i s t v : ℕ) → Shows (st .records i) s t v → h .phase (tx i s) ≡ fresh → Shows (putAt (st .records) n c' i) s t v
-  still-shown f i s t v g p = put-all (λ k c. Shows (st .records k) s t v → h .phase (tx k s) ≡ fresh → Shows c s t v) (st .records) n c'
+  still-shown : ((t v : ℕ) → Shows (system st) (st .records n) (st .records n .serial) t v → h .phase (tx n (st .records n .serial)) ≡ fresh
+      → Shows (system st) c' (st .records n .serial) t v)
+      → (i s t v : ℕ) → Shows (system st) (st .records i) s t v → h .phase (tx i s) ≡ fresh → Shows (system st) (putAt (st .records) n c' i) s t v
+  still-shown f i s t v g p = put-all (λ k c. Shows (system st) (st .records k) s t v → h .phase (tx k s) ≡ fresh → Shows (system st) c s t v) (st .records) n c'
       (λ g p. let e = g .present in
-      subst (λ (r : ℕ). Shows c' r t v) e
-      (f t v (subst (λ (r : ℕ). Shows (st .records n) r t v) (sym e) g) (subst (λ (r : ℕ). h .phase (tx n r) ≡ fresh) (sym e) p)))
+      subst (λ (r : ℕ). Shows (system st) c' r t v) e
+      (f t v (subst (λ (r : ℕ). Shows (system st) (st .records n) r t v) (sym e) g) (subst (λ (r : ℕ). h .phase (tx n r) ≡ fresh) (sym e) p)))
       (λ k e g p. g) i g p
 
-  pub quiet : (L' : Ledger) → Owner h (w .state .votes) (w .state .sent) n c' → Meets tree c' → ((b : List ℕ) → In b pool → In b (st .pool))
+  pub quiet : (L' : Ledger) → Owner h (w .state .votes) (w .state .sent) n c' → Meets (system st) c' → ((b : List ℕ) → In b pool → In b (st .pool))
       → L' .pool ≡ pool → L' .log ≡ L .log → Decided L' h → ((i : ℕ) → Present L' i (putAt (st .records) n c' i)) → L' .dones ≡ L .dones → L' .puts ≡ L .puts
-      → ((t v : ℕ) → Shows (st .records n) (st .records n .serial) t v → h .phase (tx n (st .records n .serial)) ≡ fresh
-      → Shows c' (st .records n .serial) t v)
+      → ((t v : ℕ) → Shows (system st) (st .records n) (st .records n .serial) t v → h .phase (tx n (st .records n .serial)) ≡ fresh
+      → Shows (system st) c' (st .records n .serial) t v)
       → World after L' (More F after)
   quiet L' ow m sub lp ll ld lr le lq f =
       let sim' = by-none st (w .log) (w .sim) n c' pool (st .own) ow (λ b i. inl (sub b i)) in
-      let meets = put-all (λ (i : ℕ) (c : Coordinator). Meets tree c) (st .records) n c' m (λ i e. w .valid .records i) in
+      let meets = put-all (λ (i : ℕ) (c : Coordinator). Meets (system st) c) (st .records) n c' m (λ i e. w .valid .records i) in
       let b = w .books in
       record {
+        sane = w .sane;
         state = w .state;
         log = w .log;
         sim = sim';

@@ -13,13 +13,10 @@ use Rattle.numbers.specs.Sizes.{nodes, objects, mostOpen}
 use Rattle.mask.specs.Mask.{contains, joined}
 use Rattle.mask.proofs.Tests.{T-true}
 use Rattle.numbers.specs.Refusal.{Refusal, firstOf}
-use Rattle.quorum.specs.declared.Kind.the-variants.{Write}
-use Rattle.quorum.specs.Quorum.{isQuorum}
 use Rattle.quorum.specs.Nearest.{maskOf}
 use Rattle.coordinator.specs.declared.Coordinator.{Coordinator}
 use Rattle.coordinator.specs.declared.BeginWith.{BeginWith}
 use Rattle.coordinator.specs.declared.Step.{Step}
-use Rattle.coordinator.specs.System.{tree}
 use Rattle.coordinator.specs.State.{idlePhase, openPhase, votingPhase, objectAt, isOpen, stepOf}
 use Rattle.coordinator.specs.Calls.{beginRefusals, begun, beginOf, openRefusals, opened, openOf, setRefusals, withNew, setOf, foundRefusals, foundOf}
 use Rattle.coordinator.specs.Calls.{reselectRefusals, reselected, reselectOf, requestCommitRefusals, requested, requestCommitOf, abortRefusals, endedAborted}
@@ -27,10 +24,9 @@ use Rattle.coordinator.specs.Calls.{abortOf}
 use Rattle.coordinator.proofs.Refusals.{Clear, numbered, clear}
 use Rattle.clauses.proofs.Facts.{Meets}
 use Rattle.clauses.proofs.Cases.{either-of}
-use Rattle.clauses.proofs.Quorums.{tree-quorums}
 use Rattle.clauses.proofs.Keep.{begin-keeps, open-keeps, set-keeps, reselect-keeps, request-keeps, abort-keeps}
 use Rattle.steps.proofs.Nodes.{off-number}
-use Rattle.steps.specs.Station.{Station, withRecord}
+use Rattle.steps.specs.Station.{Station, system, withRecord}
 use Rattle.steps.specs.Step.{Call, begin, openRead, openWrite, setValue, found, reselect, requestCommit, abort, Outcome, refusedWith, taken, whenOff, hosted}
 use Rattle.steps.specs.Run.{eventOf}
 use Rattle.protocol.specs.Proof.Tables.{on}
@@ -103,17 +99,17 @@ module _ (st : Station) (L : Ledger) (F : Past) (w : World st L F) where
     abbrev d : Coordinator
     d = st .records n
 
-    abbrev md : Meets tree d
+    abbrev md : Meets (system st) d
     md = w .valid .records n
 
-    pub begin-next : (a : BeginWith) → length (a .distances) ≡ nodes → Next (begin n a) (hosted st n (beginOf tree d n a))
+    pub begin-next : (a : BeginWith) → length (a .distances) ≡ nodes → Next (begin n a) (hosted st n (beginOf (system st) d n a))
     unfolding beginOf beginRefusals noted
     begin-next a size =
-        let chosen = tree .nearestRead (a .live) (a .distances) in
+        let chosen = system st .nearestRead (a .live) (a .distances) in
         let rs = beginRefusals d n a chosen in
         host-next n (begin n a) rs (maskOf chosen) (begun d a (maskOf chosen)) tt (λ k.
         begin-world st L F w n a (maskOf chosen) (eqb-true (d .phase) idlePhase (not-false _ (k .1 .0)))
-        (subst (Meets tree) (taken-record rs (maskOf chosen) d (begun d a (maskOf chosen)) k) (begin-keeps tree tree-quorums d n md a size)))
+        (subst (Meets (system st)) (taken-record rs (maskOf chosen) d (begun d a (maskOf chosen)) k) (begin-keeps (system st) (w .sane .choices) d n md a size)))
 
     open-next : (call : Call) (t mode : ℕ) → mode < 2 → ((answer : ℕ) → noted L call answer none ≡ withMode L n t (modeOf mode))
         → Next call (hosted st n (openOf d n t mode))
@@ -124,7 +120,7 @@ module _ (st : Station) (L : Ledger) (F : Past) (w : World st L F) where
         subst (λ (L' : Ledger). World (withRecord st n (opened d t mode)) L' (More F (withRecord st n (opened d t mode)))) (sym (says 0))
         (open-world st L F w n (eqb-true (d .phase) openPhase (not-false _ (k .1 .0))) t mode (or-neither (not (ltb t objects)) (isOpen d t) (k .1 .1 .0) .1)
         (ltb-true (d .count) mostOpen (not-false _ (k .1 .1 .1 .0)))
-        (subst (Meets tree) (taken-record rs 0 d (opened d t mode) k) (open-keeps tree tree-quorums d n md t mode small))))
+        (subst (Meets (system st)) (taken-record rs 0 d (opened d t mode) k) (open-keeps (system st) (w .sane .choices) d n md t mode small))))
 
     pub read-next : (t : ℕ) → Next (openRead n t) (hosted st n (openOf d n t 0))
     unfolding noted
@@ -141,11 +137,11 @@ module _ (st : Station) (L : Ledger) (F : Past) (w : World st L F) where
         host-next n (setValue n t v) rs 0 (withNew d t v) tt (λ k.
         set-world st L F w n (eqb-true (d .phase) openPhase (not-false _ (k .1 .0))) t
         (not-false (isOpen d t) (or-neither (not (isOpen d t)) (eqb (objectAt d t .mode) 0) (k .1 .1 .0) .0)) v
-        (subst (Meets tree) (taken-record rs 0 d (withNew d t v) k) (set-keeps tree tree-quorums d n md t v)))
+        (subst (Meets (system st)) (taken-record rs 0 d (withNew d t v) k) (set-keeps (system st) (w .sane .choices) d n md t v)))
 
-    pub found-next' : (t : ℕ) → Next (found n t) (hosted st n (foundOf tree d n t))
+    pub found-next' : (t : ℕ) → Next (found n t) (hosted st n (foundOf (system st) d n t))
     unfolding foundOf foundRefusals noted
-    found-next' t = host-next n (found n t) (foundRefusals tree d n t) (objectAt d t .value) d tt (λ k.
+    found-next' t = host-next n (found n t) (foundRefusals (system st) d n t) (objectAt d t .value) d tt (λ k.
         same-world st L F w n d (st .pool) L (objects-still d) told-still (w .sim .owners n) md (λ b i. i) (w .books .pool-as) refl refl refl refl)
 
     same-objects : (live : ℕ) (distances : List ℕ) (q : ℕ) → SameObjects d (reselected d live distances q)
@@ -153,31 +149,31 @@ module _ (st : Station) (L : Ledger) (F : Past) (w : World st L F) where
     same-objects live distances q = record { serial = refl; phase = λ e. e; phase' = λ e. e; objects = refl; count = refl; participants = refl }
 
     pub reselect-next : (live : ℕ) (distances : List ℕ) → length distances ≡ nodes → Next (reselect n live distances)
-        (hosted st n (reselectOf tree d n live distances))
+        (hosted st n (reselectOf (system st) d n live distances))
     unfolding reselectOf reselectRefusals noted
     reselect-next live distances size =
-        let chosen = tree .nearestRead live distances in
+        let chosen = system st .nearestRead live distances in
         let rs = reselectRefusals d n live chosen in
         let c' = reselected d live distances (maskOf chosen) in
         host-next n (reselect n live distances) rs (maskOf chosen) c' tt (λ k.
         same-world st L F w n c' (st .pool) L (same-objects live distances (maskOf chosen)) told-still
         (reselect-owner _ _ _ n d (w .sim .owners n) live distances (maskOf chosen))
-        (subst (Meets tree) (taken-record rs (maskOf chosen) d c' k) (reselect-keeps tree tree-quorums d n md live distances size))
+        (subst (Meets (system st)) (taken-record rs (maskOf chosen) d c' k) (reselect-keeps (system st) (w .sane .choices) d n md live distances size))
         (λ b i. i) (w .books .pool-as) refl refl refl refl)
 
     -- the participants are a write quorum, by the clauses of the record after it
-    party-counts : (party : ℕ) → Meets tree (requested d party) → isQuorum Write party ≡ true
+    party-counts : (party : ℕ) → Meets (system st) (requested d party) → system st .isWrite party ≡ true
     unfolding requested
     party-counts party m = T-true _ (m .party .full (m .party .asked-for refl) .write-quorum)
 
-    pub request-next : Next (requestCommit n) (hosted st n (requestCommitOf tree d n))
+    pub request-next : Next (requestCommit n) (hosted st n (requestCommitOf (system st) d n))
     unfolding requestCommitOf requestCommitRefusals noted
     request-next =
-        let chosen = tree .nearestWrite (d .live) (d .distances) in
+        let chosen = system st .nearestWrite (d .live) (d .distances) in
         let party = joined (maskOf chosen) (d .contacted) in
-        let rs = requestCommitRefusals tree d n chosen in
+        let rs = requestCommitRefusals (system st) d n chosen in
         host-next n (requestCommit n) rs party (requested d party) tt (λ k.
-        let m = subst (Meets tree) (taken-record rs party d (requested d party) k) (request-keeps tree tree-quorums d n md) in
+        let m = subst (Meets (system st)) (taken-record rs party d (requested d party) k) (request-keeps (system st) (w .sane .choices) d n md) in
         request-world st L F w n party (eqb-true (d .phase) openPhase (not-false _ (k .1 .0))) (party-counts party m) m)
 
     undecided : (eqb (d .phase) openPhase || eqb (d .phase) votingPhase) ≡ true → (d .phase ≡ openPhase) ⊎ (d .phase ≡ votingPhase)
@@ -189,4 +185,4 @@ module _ (st : Station) (L : Ledger) (F : Past) (w : World st L F) where
         let rs = abortRefusals d n in
         host-next n (abort n) rs 0 (endedAborted d) tt (λ k.
         abort-world st L F w n (undecided (not-false (eqb (d .phase) openPhase || eqb (d .phase) votingPhase) (k .1 .0))) (st .pool) L told-still
-        (subst (Meets tree) (taken-record rs 0 d (endedAborted d) k) (abort-keeps tree d md n)) (λ b i. i) (w .books .pool-as) refl refl refl refl)
+        (subst (Meets (system st)) (taken-record rs 0 d (endedAborted d) k) (abort-keeps (system st) d md n)) (λ b i. i) (w .books .pool-as) refl refl refl refl)

@@ -9,6 +9,7 @@ use lib.Dec.{eqb}
 use lib.ListN.{getD}
 use borrow.Author.Tests.{eqb-true, eqb-false}
 use Rattle.coordinator.specs.declared.Coordinator.{Coordinator}
+use Rattle.coordinator.specs.System.{System}
 use Rattle.coordinator.specs.State.{noObject}
 use Rattle.steps.specs.Station.{Own, Station, putAt, sent}
 use Rattle.protocol.specs.Table.{In}
@@ -20,7 +21,7 @@ use Rattle.protocol.specs.Proof.AskAbort.{Forward, committed-asked}
 use Rattle.protocol.specs.Refine.Growth.{Grows, history-same}
 use Rattle.protocol.specs.Refine.Holders.{shown, holders-as-read}
 use Rattle.protocol.specs.Refine.Simulate.{step-kept}
-use Rattle.history.proofs.Quorums.{rules, top}
+use Rattle.history.proofs.Quorums.{Sane, rules, top}
 use Rattle.history.proofs.Sim.{tx, WasSent, Owner, Match, Tells, Read, holders, Sim}
 
 -- ---- a table changed at one place
@@ -81,13 +82,13 @@ pub onward-same : (h : History ℕ) (v : Votes) (m : List (Copy ℕ)) → Onward
 onward-same h v m = record { forward = history-same h; yes = λ n x e. e; copies = λ c i. i }
 
 -- ---- a step of the station by one transition
-pub by-one : {σ σ' : State ℕ} (st st' : Station) (l : List Tx) → Sim st σ l → (s : Step rules σ σ')
+pub by-one : {s : System} {sane : Sane s} {σ σ' : State ℕ} (st st' : Station) (l : List Tx) → Sim sane st σ l → (s : Step (rules sane) σ σ')
     → Read st' σ' → ((n t : ℕ) → shown s (holders st) n t ≡ holders st' n t)
     → ((n : ℕ) → Owner (σ' .history) (σ' .votes) (σ' .sent) n (st' .records n))
     → ((b : List ℕ) → In b (st' .pool) → In b (st .pool) ⊎ Tells (σ' .history) (σ' .votes) (σ' .sent) b)
-    → Sim st' σ' (logged s l)
-by-one st st' l sim s r e ow new =
-    let k = step-kept top l (holders st) (sim .kept) s in
+    → Sim sane st' σ' (logged s l)
+by-one {sane = sane} st st' l sim s r e ow new =
+    let k = step-kept (top sane) l (holders st) (sim .kept) s in
     record {
       kept = record { inv = k .0 .inv; log = k .0 .log; holders = holders-as-read _ _ _ _ e (k .0 .holders) };
       reads = r;
@@ -100,10 +101,10 @@ pub reads-still : (st : Station) (σ : State ℕ) (h : History ℕ) (ch : Chain 
 reads-still st σ h ch r = record { r-version = r .r-version; r-value = r .r-value; r-last = r .r-last; r-state = r .r-state }
 
 -- ---- a step by none: the images stay, one record changes
-pub by-none : {σ : State ℕ} (st : Station) (l : List Tx) → Sim st σ l → (n : ℕ) (c : Coordinator) (pool : List (List ℕ)) (own : Own)
+pub by-none : {s : System} {sane : Sane s} {σ : State ℕ} (st : Station) (l : List Tx) → Sim sane st σ l → (n : ℕ) (c : Coordinator) (pool : List (List ℕ)) (own : Own)
     → Owner (σ .history) (σ .votes) (σ .sent) n c
     → ((b : List ℕ) → In b pool → In b (st .pool) ⊎ Tells (σ .history) (σ .votes) (σ .sent) b)
-    → Sim (record { images = st .images; records = putAt (st .records) n c; pool = pool; own = own }) σ l
+    → Sim sane (record { images = st .images; records = putAt (st .records) n c; pool = pool; own = own }) σ l
 by-none {σ = σ} st l sim n c pool own ow new = record {
   kept = sim .kept;
   reads = sim .reads;
@@ -112,8 +113,8 @@ by-none {σ = σ} st l sim n c pool own ow new = record {
 }
 
 -- only the pool changes, or who is on
-pub by-pool : {σ : State ℕ} (st : Station) (l : List Tx) → Sim st σ l → (pool : List (List ℕ)) (own : Own)
+pub by-pool : {s : System} {sane : Sane s} {σ : State ℕ} (st : Station) (l : List Tx) → Sim sane st σ l → (pool : List (List ℕ)) (own : Own)
     → ((b : List ℕ) → In b pool → In b (st .pool) ⊎ Tells (σ .history) (σ .votes) (σ .sent) b)
-    → Sim (record { images = st .images; records = st .records; pool = pool; own = own }) σ l
+    → Sim sane (record { images = st .images; records = st .records; pool = pool; own = own }) σ l
 by-pool st l sim pool own new =
     record { kept = sim .kept; reads = sim .reads; owners = sim .owners; waits = λ b i. on (new b i) (λ j. sim .waits b j) (λ t. t) }

@@ -10,8 +10,6 @@ use borrow.Author.Tests.{eqb-true, eqb-false, ltb-true, eq-eqb}
 use Rattle.numbers.specs.Sizes.{nodes, objects, mostOpen}
 use Rattle.mask.specs.Mask.{contains}
 use Rattle.numbers.specs.Refusal.{firstOf}
-use Rattle.quorum.specs.declared.Kind.the-variants.{Read}
-use Rattle.quorum.specs.Quorum.{isQuorum}
 use Rattle.wire.specs.declared.Entry.{Entry}
 use Rattle.wire.specs.Message.{ask, outcome}
 use Rattle.wire.specs.Decode.{kindOf, decode}
@@ -21,12 +19,11 @@ use Rattle.image.proofs.Blanks.{blank-zero}
 use Rattle.image.proofs.Each.{lt-or-le}
 use Rattle.coordinator.specs.declared.Coordinator.{Coordinator}
 use Rattle.coordinator.specs.declared.Step.{Step}
-use Rattle.coordinator.specs.System.{tree}
 use Rattle.coordinator.specs.State.{idlePhase, idleAfter, placeOf, objectAt, isOpen, ready, stepOf}
 use Rattle.coordinator.specs.Calls.{foundRefusals, foundOf}
 use Rattle.coordinator.proofs.Refusals.{clear}
 use Rattle.clauses.proofs.Places.{place-open}
-use Rattle.steps.specs.Station.{Station, withRecord}
+use Rattle.steps.specs.Station.{Station, system, withRecord}
 use Rattle.steps.specs.Step.{Call, found, Outcome, refusedWith, taken, hosted, whenOff, step}
 use Rattle.steps.specs.Run.{after}
 use Rattle.protocol.specs.Table.{In, Suffix, times, select}
@@ -63,11 +60,11 @@ module _ (st : Station) (L : Ledger) (F : Past) (g : Good st L F) where
   abbrev d : Decided L (σ .history)
   d = w .books .decided
 
-  base : BaseClaims rules σ (w .log)
-  base = base-claims rules top σ (w .sim .kept .inv) (w .log) (w .sim .kept .log)
+  base : BaseClaims (rules (w .sane)) σ (w .log)
+  base = base-claims (rules (w .sane)) (top (w .sane)) σ (w .sim .kept .inv) (w .log) (w .sim .kept .log)
 
-  core : Claims rules σ
-  core = claims rules σ (w .sim .kept .inv)
+  core : Claims (rules (w .sane)) σ
+  core = claims (rules (w .sane)) σ (w .sim .kept .inv)
 
   -- what replay is fed is the same
   fed-as : fed L ≡ Rattle.protocol.specs.Log.fed σ (w .log)
@@ -81,14 +78,14 @@ module _ (st : Station) (L : Ledger) (F : Past) (g : Good st L F) where
   turn-as : (x : Tx) → σ .history .phase x ≡ committed → (t a : ℕ) → turn L x t a ≡ Rattle.protocol.specs.Replay.turn (σ .history .contents) x t a
   turn-as x p t a = rw (d .its-mode x p t, d .its-new x p t)
 
-  given-as : (x : Tx) (t : ℕ) → givenTo L x t ≡ Rattle.protocol.specs.Replay.givenTo rules (σ .history .contents) x
+  given-as : (x : Tx) (t : ℕ) → givenTo L x t ≡ Rattle.protocol.specs.Replay.givenTo (rules (w .sane)) (σ .history .contents) x
       (Rattle.protocol.specs.Log.fed σ (w .log)) t
   unfolding givenTo
   given-as x t = ap (λ (l : List Tx). given Tx-discrete 0 (turn L) x l t) fed-as
       ∙ given-ext Tx-discrete 0 (Rattle.protocol.specs.Replay.turn (σ .history .contents)) (turn L) x (Rattle.protocol.specs.Log.fed σ (w .log)) t
       (λ y i a. turn-as y (fed-committed y i) t a)
 
-  last-as : (t : ℕ) → lastValue L t ≡ Rattle.protocol.specs.Replay.lastValue rules (σ .history .contents) (Rattle.protocol.specs.Log.fed σ (w .log)) t
+  last-as : (t : ℕ) → lastValue L t ≡ Rattle.protocol.specs.Replay.lastValue (rules (w .sane)) (σ .history .contents) (Rattle.protocol.specs.Log.fed σ (w .log)) t
   unfolding lastValue
   last-as t = ap (λ (l : List Tx). replay 0 (turn L) l t) fed-as
       ∙ replay-ext 0 (Rattle.protocol.specs.Replay.turn (σ .history .contents)) (turn L) (Rattle.protocol.specs.Log.fed σ (w .log)) t
@@ -153,16 +150,16 @@ module _ (st : Station) (L : Ledger) (F : Past) (g : Good st L F) where
   -- ---- (c)
   all-applied : Settled L → AllApplied (σ .votes) (σ .history)
   all-applied s x n p q =
-      done-applied rules σ (w .sim .kept .inv) n x p q
+      done-applied (rules (w .sane)) σ (w .sim .kept .inv) n x p q
       (w .books .dones (record { node = n; tx = x }) (s x (d .is-told x p) n (d .its-party x p n ∙ q)))
 
   -- where every participant has applied what was committed, every newest copy has the last value
-  pub applied-newest : AllApplied (σ .votes) (σ .history) → (q : ℕ) → isQuorum Read q ≡ true → (n t : ℕ) → Newest st q n t
+  pub applied-newest : AllApplied (σ .votes) (σ .history) → (q : ℕ) → system st .isRead q ≡ true → (n t : ℕ) → Newest st q n t
       → value (st .images n) t ≡ lastValue L t
   applied-newest applied q r n t new =
       sym (w .sim .reads .r-value n t)
       ∙ core .newest applied (contains q)
-      (λ x p. quorums .meet (contains q) (σ .history .contents x .participants) (of-mask Read q r) (committed-good rules σ (w .sim .kept .inv) x p)) n t
+      (λ x p. quorums (w .sane) .meet (contains q) (σ .history .contents x .participants) (of-mask (system st .isRead) q r) (committed-good (rules (w .sane)) σ (w .sim .kept .inv) x p)) n t
       (λ m j. subst (λ (k : ℕ). k ≤ σ .store .version n t) (sym (w .sim .reads .r-version m t))
       (subst (λ (k : ℕ). version (st .images m) t ≤ k) (sym (w .sim .reads .r-version n t)) (below m j)))
       ∙ sym (base .last t) ∙ sym (last-as t)
@@ -172,13 +169,13 @@ module _ (st : Station) (L : Ledger) (F : Past) (g : Good st L F) where
           (λ h. subst (λ (k : ℕ). k ≤ version (st .images n) t)
           (sym (ap (λ (l : List ℕ). version l t) (g .wide .beyond m h) ∙ blank-zero (versionField shape) t tt tt tt)) (omega arith))
 
-  pub is-newest : Settled L → (q : ℕ) → isQuorum Read q ≡ true → (n t : ℕ) → n < nodes → contains q n ≡ true → t < objects → Newest st q n t
+  pub is-newest : Settled L → (q : ℕ) → system st .isRead q ≡ true → (n t : ℕ) → n < nodes → contains q n ≡ true → t < objects → Newest st q n t
       → value (st .images n) t ≡ lastValue L t
   is-newest s q r n t small i known new = applied-newest (all-applied s) q r n t new
 
 -- ---- an accepted found call shows what is found
 found-taken : (st : Station) (n t : ℕ) → step st (found n t) .number ≡ 0
-    → (firstOf (foundRefusals tree (st .records n) n t) ≡ 0) × (step st (found n t) .answer ≡ objectAt (st .records n) t .value)
+    → (firstOf (foundRefusals (system st) (st .records n) n t) ≡ 0) × (step st (found n t) .answer ≡ objectAt (st .records n) t .value)
 unfolding step hosted foundOf stepOf
 found-taken st n t e = by (contains (st .own .on) n) (eqb number 0) refl e
   where
@@ -186,7 +183,7 @@ found-taken st n t e = by (contains (st .own .on) n) (eqb number 0) refl e
     c = st .records n
 
     number : ℕ
-    number = firstOf (foundRefusals tree c n t)
+    number = firstOf (foundRefusals (system st) c n t)
 
     s : Bool → Step
     s b = cond b (record { number = 0; answer = objectAt c t .value; coordinator = c }) (record { number = number; answer = 0; coordinator = c })
@@ -205,18 +202,18 @@ found-taken st n t e = by (contains (st .own .on) n) (eqb number 0) refl e
     by false true p q = absurd (off-number 0 q)
     by false false p q = absurd (off-number number q)
 
-pub shown-by : (st : Station) (n t s : ℕ) → st .records n .serial ≡ s → step st (found n t) .number ≡ 0 → Shows (st .records n) s t
+pub shown-by : (st : Station) (n t s : ℕ) → st .records n .serial ≡ s → step st (found n t) .number ≡ 0 → Shows (system st) (st .records n) s t
     (step st (found n t) .answer)
 unfolding foundRefusals
 shown-by st n t s e q =
     let c = st .records n in
     let z = found-taken st n t q in
-    let k = clear (foundRefusals tree c n t) tt (z .0) in
+    let k = clear (foundRefusals (system st) c n t) tt (z .0) in
     record {
       begun = λ i. absurd (let x = k .1 .0 in let y = eq-eqb (c .phase) idlePhase i in clash (cc));
       present = e;
       opened = not-false (isOpen c t) (k .1 .1 .0);
-      is-ready = not-false (ready tree (objectAt c t)) (k .1 .1 .1 .0);
+      is-ready = not-false (ready (system st) (objectAt c t)) (k .1 .1 .1 .0);
       value = sym (z .1);
     }
 

@@ -10,9 +10,8 @@ use lib.Dec.{eqb}
 use Rattle.mask.specs.Mask.{contains, only, joined, within}
 use Rattle.mask.proofs.Laws.{within-contains}
 use Rattle.mask.proofs.Tests.{T-true}
-use Rattle.quorum.specs.declared.Kind.the-variants.{Write}
-use Rattle.quorum.specs.Quorum.{isQuorum}
 use Rattle.coordinator.specs.declared.Coordinator.{Coordinator}
+use Rattle.coordinator.specs.System.{System}
 use Rattle.coordinator.specs.State.{openPhase, votingPhase, finishingPhase, placeOf, objectAt, isOpen, awaited, idleAfter}
 use Rattle.coordinator.specs.Calls.{withPhase, requested, endedAborted}
 use Rattle.steps.specs.Station.{Station, putAt}
@@ -23,7 +22,7 @@ use Rattle.protocol.specs.Transitions.{doAsk, CanAsk, doCommit, CanCommit, doAb
 use Rattle.protocol.specs.Proof.Tables.{on, put-cases, put-here}
 use Rattle.protocol.specs.Refine.Growth.{step-grows}
 use Rattle.clauses.proofs.Parts.{true-T}
-use Rattle.history.proofs.Quorums.{rules, of-mask}
+use Rattle.history.proofs.Quorums.{Sane, rules, of-mask}
 use Rattle.history.proofs.Sim.{tx, later-tx, modeOf, contentsOf, Owner, Sim}
 use Rattle.history.proofs.Carry.{onward, put-all, owner-on, by-one, reads-still}
 use Rattle.history.proofs.Quiet.{idle-owner, agreed-by}
@@ -33,7 +32,7 @@ pub put-else : {X : Type 0} (f : Tx → X) (x : Tx) (a : X) (y : Tx) → (y ≡ 
 put-else f x a y e = on (put-cases Tx-discrete f x a y) (λ z. absurd (e (z .0))) (λ z. z .1)
 
 -- ---- a station after a coordinator's transition: the record at n is c, all other records are as they were
-module _ (st : Station) (σ σ' : State ℕ) (l : List Tx) (sim : Sim st σ l) (n : ℕ) (c : Coordinator) (g : Step rules σ σ')
+module _ {s : System} {sane : Sane s} (st : Station) (σ σ' : State ℕ) (l : List Tx) (sim : Sim sane st σ l) (n : ℕ) (c : Coordinator) (g : Step (rules sane) σ σ')
     (others : (y : Tx) → (y .owner ≡ n → ⊥) → (σ' .history .phase y ≡ σ .history .phase y) × (σ' .history .contents y ≡ σ .history .contents y)) where
   pub owners-after : Owner (σ' .history) (σ' .votes) (σ' .sent) n c
       → (i : ℕ) → Owner (σ' .history) (σ' .votes) (σ' .sent) i (putAt (st .records) n c i)
@@ -41,7 +40,7 @@ module _ (st : Station) (σ σ' : State ℕ) (l : List Tx) (sim : Sim st σ l) (
       (λ i e. owner-on (onward (step-grows g)) i (st .records i) (λ s. others (tx i s) e .0) (λ s. others (tx i s) e .1) (sim .owners i))
 
 -- ---- votes asked for
-module _ (st : Station) (σ : State ℕ) (l : List Tx) (sim : Sim st σ l) (n : ℕ) where
+module _ {s : System} {sane : Sane s} (st : Station) (σ : State ℕ) (l : List Tx) (sim : Sim sane st σ l) (n : ℕ) where
   abbrev c : Coordinator
   c = st .records n
 
@@ -54,7 +53,7 @@ module _ (st : Station) (σ : State ℕ) (l : List Tx) (sim : Sim st σ l) (n : 
   abbrev withIt : Coordinator → List (List ℕ) → Station
   withIt d pool = record { images = st .images; records = putAt (st .records) n d; pool = pool; own = st .own }
 
-  module _ (party : ℕ) (open-now : c .phase ≡ openPhase) (counts : isQuorum Write party ≡ true)
+  module _ (party : ℕ) (open-now : c .phase ≡ openPhase) (counts : s .isWrite party ≡ true)
       (placed : (t : ℕ) → isOpen c t ≡ true → objectAt c t .object ≡ t) where
     abbrev asked-for : Contents ℕ
     asked-for = contentsOf (requested c party)
@@ -66,11 +65,11 @@ module _ (st : Station) (σ : State ℕ) (l : List Tx) (sim : Sim st σ l) (n : 
     found-sent t true e q = on (w .found (placeOf c t)) inl
         (λ i. inr (subst (λ (k : ℕ). In (record { object = k; version = objectAt c t .version; value = objectAt c t .value }) (σ .sent)) (placed t e) i))
 
-    pub can-ask : CanAsk rules σ x asked-for
+    pub can-ask : CanAsk (rules sane) σ x asked-for
     unfolding requested
     can-ask = record {
       phase = w .while-open open-now;
-      good = of-mask Write party counts;
+      good = of-mask (s .isWrite) party counts;
       found = λ t q. found-sent t (isOpen c t) refl q;
     }
 
@@ -90,7 +89,7 @@ module _ (st : Station) (σ : State ℕ) (l : List Tx) (sim : Sim st σ l) (n : 
       found = w .found;
     }
 
-    pub sim-asked : Sim (withIt (requested c party) (st .pool)) σ₁ l
+    pub sim-asked : Sim sane (withIt (requested c party) (st .pool)) σ₁ l
     sim-asked = by-one st (withIt (requested c party) (st .pool)) l sim (ask x asked-for can-ask)
         (reads-still st σ (σ₁ .history) (σ₁ .chain) (sim .reads)) (λ i t. refl)
         (owners-after st σ σ₁ l sim n (requested c party) (ask x asked-for can-ask)
@@ -132,7 +131,7 @@ module _ (st : Station) (σ : State ℕ) (l : List Tx) (sim : Sim st σ l) (n : 
     unfolding endedAborted
     owner-aborted = ended (eqb (awaited c) 0)
 
-    pub sim-aborted : (pool : List (List ℕ)) → ((b : List ℕ) → In b pool → In b (st .pool)) → Sim (withIt (endedAborted c) pool) σ₂ l
+    pub sim-aborted : (pool : List (List ℕ)) → ((b : List ℕ) → In b pool → In b (st .pool)) → Sim sane (withIt (endedAborted c) pool) σ₂ l
     sim-aborted pool old = by-one st (withIt (endedAborted c) pool) l sim (abort x can-abort) (reads-still st σ (σ₂ .history) (σ₂ .chain) (sim .reads))
         (λ i t. refl)
         (owners-after st σ σ₂ l sim n (endedAborted c) (abort x can-abort)
@@ -171,7 +170,7 @@ module _ (st : Station) (σ : State ℕ) (l : List Tx) (sim : Sim st σ l) (n : 
       found = w .found;
     }
 
-    pub sim-committed : (pool : List (List ℕ)) → ((b : List ℕ) → In b pool → In b (st .pool)) → Sim (withIt decided pool) σ₃ l
+    pub sim-committed : (pool : List (List ℕ)) → ((b : List ℕ) → In b pool → In b (st .pool)) → Sim sane (withIt decided pool) σ₃ l
     sim-committed pool old = by-one st (withIt decided pool) l sim (commit x can-commit) (reads-still st σ (σ₃ .history) (σ₃ .chain) (sim .reads))
         (λ i t. refl)
         (owners-after st σ σ₃ l sim n decided (commit x can-commit)

@@ -19,7 +19,6 @@ use Rattle.wire.specs.Decode.{kindOf, fromOf, toOf, ownerOf, serialOf, decode, 
 use Rattle.coordinator.specs.declared.Coordinator.{Coordinator}
 use Rattle.coordinator.specs.declared.BeginWith.{BeginWith}
 use Rattle.coordinator.specs.declared.Step.{Step}
-use Rattle.coordinator.specs.System.{tree}
 use Rattle.coordinator.specs.State.{idlePhase, openPhase, aborted, awaited, idleAfter}
 use Rattle.coordinator.specs.Calls.{beginRefusals, begun, beginOf, openRefusals, opened, openOf, setRefusals, withNew, setOf, foundOf}
 use Rattle.coordinator.specs.Calls.{reselectRefusals, reselected, reselectOf, requestCommitRefusals, requested, requestCommitOf, abortOf}
@@ -32,7 +31,7 @@ use Rattle.clauses.proofs.Cases.{step-keeps}
 use Rattle.clauses_arrive.proofs.Messages.{vote-owner}
 use Rattle.clauses.proofs.Cases.{Endings, abort-cases}
 use Rattle.clauses_arrive.proofs.Deliveries.{YesFitting, DoneFitting, saidYes, saidDone, receive-cases}
-use Rattle.steps.specs.Station.{Station}
+use Rattle.steps.specs.Station.{Station, system}
 use Rattle.protocol.specs.Proof.Tables.{on}
 use Rattle.history.proofs.Tests.{and-true, not-false}
 use Rattle.history.proofs.Quiet.{no-bit, agreed-by}
@@ -115,10 +114,10 @@ module _ (st : Station) (t : InTurn st) (v : Valid st) (n : ℕ) where
   }
 
   -- ---- the host's calls
-  pub begin-goes : (w : BeginWith) → Goes st t n (beginOf tree c n w .coordinator)
+  pub begin-goes : (w : BeginWith) → Goes st t n (beginOf (system st) c n w .coordinator)
   unfolding beginOf beginRefusals
   begin-goes w =
-      let chosen = tree .nearestRead (w .live) (w .distances) in
+      let chosen = system st .nearestRead (w .live) (w .distances) in
       step-keeps (Goes st t n) (beginRefusals c n w chosen) (maskOf chosen) c (begun c w (maskOf chosen)) tt goes-same
       (λ k. goes-next (eqb-true (c .phase) idlePhase (not-false _ (k .1 .0))) w (maskOf chosen))
 
@@ -135,13 +134,13 @@ module _ (st : Station) (t : InTurn st) (v : Valid st) (n : ℕ) where
   set-goes object value = step-keeps (Goes st t n) (setRefusals c n object) 0 c (withNew c object value) tt goes-same
       (λ k. goes-on (withNew c object value) refl (λ p. p) (λ i e. e) (λ i. t .said-yes i n) (λ i. t .said-done i n))
 
-  pub found-goes : (object : ℕ) → Goes st t n (foundOf tree c n object .coordinator)
-  found-goes object = subst (Goes st t n) (sym (found-leaves tree c n object)) goes-same
+  pub found-goes : (object : ℕ) → Goes st t n (foundOf (system st) c n object .coordinator)
+  found-goes object = subst (Goes st t n) (sym (found-leaves (system st) c n object)) goes-same
 
-  pub reselect-goes : (live : ℕ) (distances : List ℕ) → Goes st t n (reselectOf tree c n live distances .coordinator)
+  pub reselect-goes : (live : ℕ) (distances : List ℕ) → Goes st t n (reselectOf (system st) c n live distances .coordinator)
   unfolding reselectOf reselectRefusals reselected
   reselect-goes live distances =
-      let chosen = tree .nearestRead live distances in
+      let chosen = system st .nearestRead live distances in
       let quorum = maskOf chosen in
       step-keeps (Goes st t n) (reselectRefusals c n live chosen) quorum c (reselected c live distances quorum) tt goes-same
       (λ k. goes-on (reselected c live distances quorum) refl (λ p. p)
@@ -151,12 +150,12 @@ module _ (st : Station) (t : InTurn st) (v : Valid st) (n : ℕ) where
       (λ i. t .said-yes i n) (λ i. t .said-done i n))
 
   -- the participants have everyone contacted
-  pub request-goes : Goes st t n (requestCommitOf tree c n .coordinator)
+  pub request-goes : Goes st t n (requestCommitOf (system st) c n .coordinator)
   unfolding requestCommitOf requestCommitRefusals requested
   request-goes =
-      let chosen = tree .nearestWrite (c .live) (c .distances) in
+      let chosen = system st .nearestWrite (c .live) (c .distances) in
       let party = joined (maskOf chosen) (c .contacted) in
-      step-keeps (Goes st t n) (requestCommitRefusals tree c n chosen) party c (requested c party) tt goes-same
+      step-keeps (Goes st t n) (requestCommitRefusals (system st) c n chosen) party c (requested c party) tt goes-same
       (λ k.
       let p = eqb-true (c .phase) openPhase (not-false (eqb (c .phase) openPhase) (k .1 .0)) in
       let none = v .records n .party .not-asked (omega (arith, p)) in
@@ -204,8 +203,8 @@ module _ (st : Station) (t : InTurn st) (v : Valid st) (n : ℕ) where
         (of-present (Behind (st .images (fromOf b))) (sym (done-to b (f .taken .checked) (f .its-kind)) ∙ f .taken .to-me) (f .its-serial)
         (w .a-done (f .its-kind))))
 
-    pub receive-goes : Goes st t n (receiveOf tree c n b .coordinator)
-    receive-goes = receive-cases (λ (s : Step). Goes st t n (s .coordinator)) tree c n b (record {
+    pub receive-goes : Goes st t n (receiveOf (system st) c n b .coordinator)
+    receive-goes = receive-cases (λ (s : Step). Goes st t n (s .coordinator)) (system st) c n b (record {
       as-before = λ number. goes-same;
       copied = λ f. goes-on _ refl (λ p. p) (λ i e. e) (λ i. t .said-yes i n) (λ i. t .said-done i n);
       endings = λ r. endings;

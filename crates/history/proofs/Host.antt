@@ -14,14 +14,14 @@ use Rattle.octets.proofs.Laws.{Bytes}
 use Rattle.coordinator.specs.declared.Object.{Object}
 use Rattle.coordinator.specs.declared.Coordinator.{Coordinator}
 use Rattle.coordinator.specs.declared.BeginWith.{BeginWith}
-use Rattle.coordinator.specs.System.{tree}
+use Rattle.coordinator.specs.System.{System}
 use Rattle.coordinator.specs.State.{idlePhase, openPhase, placeIn, placeOf, objectAt, isOpen, ready}
 use Rattle.coordinator.specs.Calls.{begun, opened, renewed, withNew, withObjects}
 use Rattle.arrivals.specs.Receive.{withCopy}
 use Rattle.wire.specs.declared.Entry.{Entry}
 use Rattle.clauses.proofs.Facts.{Meets}
 use Rattle.clauses.proofs.Places.{place-open}
-use Rattle.steps.specs.Station.{Own, Station}
+use Rattle.steps.specs.Station.{Station, system, nowOn}
 use Rattle.protocol.specs.Table.{put, put2, In}
 use Rattle.protocol.specs.Rules.{Mode, unused}
 use Rattle.protocol.specs.State.{Tx, Tx-discrete, fresh, committed}
@@ -71,12 +71,12 @@ module _ (c c' : Coordinator) (k : SameObjects c c') where
   pub open-on : (t : ℕ) → isOpen c' t ≡ isOpen c t
   open-on t = rw (k .objects, k .count)
 
-  pub shown-on : (s t v : ℕ) → Shows c s t v → Shows c' s t v
-  shown-on s t v f = record {
+  pub shown-on : {s : System} (n t v : ℕ) → Shows s c n t v → Shows s c' n t v
+  shown-on {s = s} n t v f = record {
     begun = λ z. f .begun (k .phase z);
     present = k .serial ∙ f .present;
     opened = open-on t ∙ f .opened;
-    is-ready = ap (ready tree) (object-on t) ∙ f .is-ready;
+    is-ready = ap (ready s) (object-on t) ∙ f .is-ready;
     value = ap (λ (y : Object). y .value) (object-on t) ∙ f .value;
   }
 
@@ -143,7 +143,7 @@ module _ (st : Station) (L : Ledger) (F : Past) (w : World st L F) (n : ℕ) whe
     its-party = λ x q m. ap (λ (f : Tx → ℕ). contains (f x) m) e ∙ k .its-party x q m;
   }
 
-  pub begin-world : (a : BeginWith) (q : ℕ) → c .phase ≡ idlePhase → Meets tree (begun c a q)
+  pub begin-world : (a : BeginWith) (q : ℕ) → c .phase ≡ idlePhase → Meets (system st) (begun c a q)
       → World (changed st n (begun c a q) (st .pool)) (withSerial L n) (More F (changed st n (begun c a q) (st .pool)))
   begin-world a q idle m =
       quiet st L F w n (begun c a q) (st .pool) (withSerial L n) (begin-owner _ _ _ n c (w .sim .owners n) a q) m (λ b i. i)
@@ -209,7 +209,7 @@ module _ (st : Station) (L : Ledger) (F : Past) (w : World st L F) (n : ℕ) whe
       }
 
     -- ---- open
-    module _ (t mode : ℕ) (shut : isOpen c t ≡ false) (room : c .count < mostOpen) (m : Meets tree (opened c t mode)) where
+    module _ (t mode : ℕ) (shut : isOpen c t ≡ false) (room : c .count < mostOpen) (m : Meets (system st) (opened c t mode)) where
       abbrev c₁ : Coordinator
       c₁ = opened c t mode
 
@@ -228,10 +228,10 @@ module _ (st : Station) (L : Ledger) (F : Past) (w : World st L F) (n : ℕ) whe
         replaces = λ h. absurd (let z : ⊥ = omega arith in z);
       }
 
-      abbrev mc : Meets tree c
+      abbrev mc : Meets (system st) c
       mc = w .valid .records n
 
-      shown₁ : (u v : ℕ) → Shows c (c .serial) u v → Shows c₁ (c .serial) u v
+      shown₁ : (u v : ℕ) → Shows (system st) c (c .serial) u v → Shows (system st) c₁ (c .serial) u v
       shown₁ u v f = others-shown c c₁ (c .count) x₁ set₁ mc m u v (λ e. no-both (f .opened) (ap (isOpen c) e ∙ shut)) f
 
       open-here : Present (withMode L n t (modeOf mode)) n c₁
@@ -266,9 +266,9 @@ module _ (st : Station) (L : Ledger) (F : Past) (w : World st L F) (n : ℕ) whe
       stood = let z = place-open (c .objects) (c .count) t (ltb-true i₂ mostOpen opened-now) in (z .0, z .1 .1)
 
       -- the record with x there, which is of the same object and mode
-      module _ (c' : Coordinator) (x : Object) (k : OneSet c c' i₂ x) (m : Meets tree c') (same-object : x .object ≡ objectAt c t .object)
+      module _ (c' : Coordinator) (x : Object) (k : OneSet c c' i₂ x) (m : Meets (system st) c') (same-object : x .object ≡ objectAt c t .object)
           (same-mode : x .mode ≡ objectAt c t .mode) where
-        abbrev mc' : Meets tree c
+        abbrev mc' : Meets (system st) c
         mc' = w .valid .records n
 
         is-t : x .object ≡ t
@@ -286,15 +286,15 @@ module _ (st : Station) (L : Ledger) (F : Past) (w : World st L F) (n : ℕ) whe
         pub new-else-there : (u : ℕ) → (u ≡ t → ⊥) → objectAt c' u .new ≡ objectAt c u .new
         new-else-there u e = ap (λ (y : Object). y .new) (other-object c c' i₂ x k mc' m u (λ q. e (q ∙ is-t)))
 
-        pub shown-there : ((v : ℕ) → Shows c (c .serial) t v → (ready tree x ≡ true) × (x .value ≡ v))
-            → (u v : ℕ) → Shows c (c .serial) u v → Shows c' (c .serial) u v
+        pub shown-there : ((v : ℕ) → Shows (system st) c (c .serial) t v → (ready (system st) x ≡ true) × (x .value ≡ v))
+            → (u v : ℕ) → Shows (system st) c (c .serial) u v → Shows (system st) c' (c .serial) u v
         shown-there g u v f = by-cases (ℕ-discrete u (x .object))
-            (λ e. let z = g v (subst (λ (y : ℕ). Shows c (c .serial) y v) (e ∙ is-t) f) in
-            subst (λ (y : ℕ). Shows c' (c .serial) y v) (sym e) (set-shown c c' i₂ x k mc' m v (f .begun) (z .0) (z .1)))
+            (λ e. let z = g v (subst (λ (y : ℕ). Shows (system st) c (c .serial) y v) (e ∙ is-t) f) in
+            subst (λ (y : ℕ). Shows (system st) c' (c .serial) y v) (sym e) (set-shown c c' i₂ x k mc' m v (f .begun) (z .0) (z .1)))
             (λ e. others-shown c c' i₂ x k mc' m u v e f)
 
       -- ---- set
-      module _ (v : ℕ) (m : Meets tree (withNew c t v)) where
+      module _ (v : ℕ) (m : Meets (system st) (withNew c t v)) where
         abbrev x₂ : Object
         x₂ = renewed (objectAt c t) v
 
@@ -330,7 +330,7 @@ module _ (st : Station) (L : Ledger) (F : Past) (w : World st L F) (n : ℕ) whe
             (λ u y f e. shown-there (withNew c t v) x₂ set₂ m refl refl (λ q g. (g .is-ready, g .value)) u y f)
 
     -- ---- a copy of an object that is not ready
-    module _ (from : ℕ) (e : Entry) (opened-now : isOpen c (e .object) ≡ true) (not-ready : ready tree (objectAt c (e .object)) ≡ false)
+    module _ (from : ℕ) (e : Entry) (opened-now : isOpen c (e .object) ≡ true) (not-ready : ready (system st) (objectAt c (e .object)) ≡ false)
         (was-sent : In (record { object = e .object; version = e .version; value = e .value }) (w .state .sent)) where
       abbrev x₃ : Object
       x₃ = withCopy (objectAt c (e .object)) from e
@@ -354,7 +354,7 @@ module _ (st : Station) (L : Ledger) (F : Past) (w : World st L F) (n : ℕ) whe
       unfolding withCopy
       keeps = (refl, (refl, refl))
 
-      copy-here : (L' : Ledger) → SameTold L L' → Meets tree c₃ → Present L' n c₃
+      copy-here : (L' : Ledger) → SameTold L L' → Meets (system st) c₃ → Present L' n c₃
       copy-here L' told m = let q = present-on L L' n c c (objects-still c) told p in record {
         serial-as = q .serial-as;
         no-mode = q .no-mode;
@@ -367,7 +367,7 @@ module _ (st : Station) (L : Ledger) (F : Past) (w : World st L F) (n : ℕ) whe
         party-now = q .party-now;
       }
 
-      pub copy-world : (pool : List (List ℕ)) (L' : Ledger) → SameTold L L' → Meets tree c₃ → ((b : List ℕ) → In b pool → In b (st .pool))
+      pub copy-world : (pool : List (List ℕ)) (L' : Ledger) → SameTold L L' → Meets (system st) c₃ → ((b : List ℕ) → In b pool → In b (st .pool))
           → L' .pool ≡ pool → L' .log ≡ L .log → L' .committed ≡ L .committed → L' .dones ≡ L .dones → L' .puts ≡ L .puts
           → World (changed st n c₃ pool) L' (More F (changed st n c₃ pool))
       copy-world pool L' told m sub a b d f fp = quiet st L F w n c₃ pool L'
@@ -380,7 +380,7 @@ module _ (st : Station) (L : Ledger) (F : Past) (w : World st L F) (n : ℕ) whe
 
   -- ---- a record with the same objects: reselect, one more yes, one more done
   module _ (c' : Coordinator) (pool : List (List ℕ)) (L' : Ledger) (k : SameObjects c c') (told : SameTold L L') where
-    pub same-world : Owner (w .state .history) (w .state .votes) (w .state .sent) n c' → Meets tree c' → ((b : List ℕ) → In b pool → In b (st .pool))
+    pub same-world : Owner (w .state .history) (w .state .votes) (w .state .sent) n c' → Meets (system st) c' → ((b : List ℕ) → In b pool → In b (st .pool))
         → L' .pool ≡ pool → L' .log ≡ L .log → L' .committed ≡ L .committed → L' .dones ≡ L .dones → L' .puts ≡ L .puts
         → World (changed st n c' pool) L' (More F (changed st n c' pool))
     same-world ow m sub a b d e ep = quiet st L F w n c' pool L' ow m sub a b (same-decided d (told .modes) (told .news) (told .parties))
@@ -393,15 +393,16 @@ module _ (st : Station) (L : Ledger) (F : Past) (w : World st L F) where
   abbrev True : List ℕ → Type 0
   True b = Tells (w .state .history) (w .state .votes) (w .state .sent) b
 
-  pub steady : (pool : List (List ℕ)) (own : Own) (L' : Ledger) → ((y : List ℕ) → In y pool → In y (st .pool) ⊎ (True y × Bytes y)) → L' .pool ≡ pool
+  pub steady : (pool : List (List ℕ)) (up : ℕ) (L' : Ledger) → ((y : List ℕ) → In y pool → In y (st .pool) ⊎ (True y × Bytes y)) → L' .pool ≡ pool
       → ((y : List ℕ) → In y (L' .puts) → In y (L .puts) ⊎ True y) → L' .log ≡ L .log → L' .committed ≡ L .committed → L' .dones ≡ L .dones → SameTold L L'
-      → World (record { images = st .images; records = st .records; pool = pool; own = own }) L'
-      (More F (record { images = st .images; records = st .records; pool = pool; own = own }))
-  steady pool own L' new a puts b d e told =
-      let st' : Station = record { images = st .images; records = st .records; pool = pool; own = own } in
-      let sim' = by-pool st (w .log) (w .sim) pool own (λ y i. on (new y i) inl (λ z. inr (z .0))) in
+      → World (record { images = st .images; records = st .records; pool = pool; own = nowOn (st .own) up }) L'
+      (More F (record { images = st .images; records = st .records; pool = pool; own = nowOn (st .own) up }))
+  steady pool up L' new a puts b d e told =
+      let st' : Station = record { images = st .images; records = st .records; pool = pool; own = nowOn (st .own) up } in
+      let sim' = by-pool st (w .log) (w .sim) pool (nowOn (st .own) up) (λ y i. on (new y i) inl (λ z. inr (z .0))) in
       let bk = w .books in
       record {
+        sane = w .sane;
         state = w .state;
         log = w .log;
         sim = sim';
@@ -423,13 +424,13 @@ module _ (st : Station) (L : Ledger) (F : Past) (w : World st L F) where
       }
 
   -- fewer messages wait, or others are on; nothing is put
-  pub fewer : (pool : List (List ℕ)) (own : Own) (L' : Ledger) → ((y : List ℕ) → In y pool → In y (st .pool)) → L' .pool ≡ pool → L' .log ≡ L .log
+  pub fewer : (pool : List (List ℕ)) (up : ℕ) (L' : Ledger) → ((y : List ℕ) → In y pool → In y (st .pool)) → L' .pool ≡ pool → L' .log ≡ L .log
       → L' .dones ≡ L .dones → L' .puts ≡ L .puts → L' .committed ≡ L .committed → SameTold L L'
-      → World (record { images = st .images; records = st .records; pool = pool; own = own }) L'
-      (More F (record { images = st .images; records = st .records; pool = pool; own = own }))
-  fewer pool own L' sub a b c cp d told = steady pool own L' (λ y i. inl (sub y i)) a (λ y i. inl (subst (In y) cp i)) b d c told
+      → World (record { images = st .images; records = st .records; pool = pool; own = nowOn (st .own) up }) L'
+      (More F (record { images = st .images; records = st .records; pool = pool; own = nowOn (st .own) up }))
+  fewer pool up L' sub a b c cp d told = steady pool up L' (λ y i. inl (sub y i)) a (λ y i. inl (subst (In y) cp i)) b d c told
 
   -- the same station once more
   pub again : World st L (More F st)
-  again = fewer (st .pool) (st .own) L (λ y i. i) (w .books .pool-as) refl refl refl refl
+  again = fewer (st .pool) (st .own .on) L (λ y i. i) (w .books .pool-as) refl refl refl refl
       (record { serials = refl; modes = refl; news = refl; parties = refl })

@@ -1,7 +1,7 @@
 -- How demand 3 is proved: the station's steps are transitions of crate protocol's abstract system, and what the events tell goes with them.
 -- What is kept, and what one transition leaves true:
 --   Tests, Words      tests joined; a message's bytes and its record
---   Quorums           the tree's quorums as the rules of the abstract system
+--   Quorums           a station's quorums as the rules of the abstract system
 --   Sim               the station read as an abstract state; what records and waiting messages say is true there
 --   Carry             what one transition leaves true of records and messages
 -- The coordinators:

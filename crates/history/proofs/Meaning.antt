@@ -20,13 +20,12 @@ use Rattle.replica.specs.Steps.{Answer, silent, says}
 use Rattle.replica.specs.Receive.{deliver}
 use Rattle.replica.proofs.Delivered.{either-way}
 use Rattle.coordinator.specs.declared.Coordinator.{Coordinator}
-use Rattle.coordinator.specs.System.{tree}
 use Rattle.coordinator.specs.State.{idlePhase, votingPhase, finishingPhase}
 use Rattle.arrivals.specs.Receive.{forReplica, receiveOf}
 use Rattle.clauses.proofs.Parts.{on-cond, true-T, by-test}
 use Rattle.clauses_arrive.proofs.Messages.{vote-owner}
 use Rattle.clauses_arrive.proofs.Laws.{Commits, commit-needs-every-yes}
-use Rattle.steps.specs.Station.{Station}
+use Rattle.steps.specs.Station.{Station, system}
 use Rattle.steps.specs.Step.{Call, begin, openRead, openWrite, setValue, found, reselect, requestCommit, abort, send, delivery, drop, switch}
 use Rattle.steps.specs.Step.{Outcome, full, answered, atReplica, atCoordinator, arriving, deliveryOf, step}
 use Rattle.steps.specs.Run.{Event, eventOf}
@@ -173,12 +172,12 @@ module _ (st : Station) (L : Ledger) (F : Past) (B : Ballots) (g : Good st L F) 
         (λ q. on-cond If (contains (st .own .on) n) _ _
         (λ u. on-cond If (forReplica (kindOf b)) _ _
         (λ f. on-cond If (eqb (d .number) 0) _ _ (λ i. silent-if n (d .image) (d .answer)) (λ i e. absurd (let z : ⊥ = omega arith in z)))
-        (λ f. on-cond If (eqb (receiveOf tree (st .records n) n b .number) 0) _ _
+        (λ f. on-cond If (eqb (receiveOf (system st) (st .records n) n b .number) 0) _ _
         (λ i e. record {
           waits = ltb-true j (length (st .pool)) p;
           checked = eqb-true (checkOf b) 0 q;
           is-on = u;
-          commits = commit-needs-every-yes tree (st .records n) n b e;
+          commits = commit-needs-every-yes (system st) (st .records n) n b e;
         })
         (λ i e. absurd (let z : ⊥ = omega arith in z))))
         (λ u e. absurd (let z : ⊥ = omega arith in z)))

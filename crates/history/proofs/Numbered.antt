@@ -27,12 +27,12 @@ use Rattle.replica.proofs.Delivered.{either-way, cleared, step-fine, entries-of
 use Rattle.replica.proofs.Spoken.{named-of}
 use Rattle.coordinator.specs.declared.Coordinator.{Coordinator}
 use Rattle.coordinator.specs.declared.Step.{Step}
-use Rattle.coordinator.specs.System.{System, tree}
+use Rattle.coordinator.specs.System.{System}
 use Rattle.coordinator.specs.State.{awaited}
 use Rattle.arrivals.specs.Receive.{answers, copyFits, copyTaken, withYes, voteTaken, withDone, doneTaken, yieldTaken, delivered, forReplica}
 use Rattle.arrivals.specs.Receive.{receiveRefusals, receiveOf}
 use Rattle.clauses_arrive.proofs.Deliveries.{saidYes, saidDone}
-use Rattle.steps.specs.Station.{Station, withImage, withRecord}
+use Rattle.steps.specs.Station.{Station, system, withImage, withRecord}
 use Rattle.steps.specs.Step.{Call, delivery, Outcome, refusedWith, taken, putting, takenOut, full, answered, atReplica, atCoordinator, arriving, deliveryOf}
 use Rattle.steps.specs.Step.{step}
 use Rattle.protocol.specs.Table.{In}
@@ -220,12 +220,12 @@ module _ (st : Station) (L : Ledger) (F : Past) (w : World st L F) (t : InTurn s
   unfolding atCoordinator receiveOf
   coordinator-number kept e =
       let c = st .records (toOf b) in
-      let s = receiveOf tree c (toOf b) b in
+      let s = receiveOf (system st) c (toOf b) b in
       let z : s .number ≡ 0 =
-      ap (λ (x : Bool). cond {A = Step} x (delivered tree c b)
+      ap (λ (x : Bool). cond {A = Step} x (delivered (system st) c b)
       (record { number = firstOf (receiveRefusals c (toOf b) b); answer = 0; coordinator = c }) .number)
       (eq-eqb (firstOf (receiveRefusals c (toOf b) b)) 0 (coordinator-clear st L F w t b waiting e))
-      ∙ taken-number tree c b in
+      ∙ taken-number (system st) c b in
       ap (λ (x : Bool). cond {A = Outcome} x (taken (s .answer) (withRecord (takenOut st k kept) (toOf b) (s .coordinator)))
       (refusedWith (s .number) st) .number)
       (eq-eqb (s .number) 0 z)

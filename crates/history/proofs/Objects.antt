@@ -13,7 +13,7 @@ use borrow.Author.Tests.{ltb-true, ltb-false, lt-ltb}
 use Rattle.numbers.specs.Sizes.{mostOpen}
 use Rattle.coordinator.specs.declared.Object.{Object}
 use Rattle.coordinator.specs.declared.Coordinator.{Coordinator}
-use Rattle.coordinator.specs.System.{tree}
+use Rattle.coordinator.specs.System.{System}
 use Rattle.coordinator.specs.State.{idlePhase, noObject, placeIn, objectAt, isOpen, ready}
 use Rattle.clauses.proofs.Facts.{Meets}
 use Rattle.clauses.proofs.Places.{at, Once, place-open, place-shut, place-at}
@@ -100,7 +100,7 @@ module _ (l : List Object) (n m p : ℕ) (x : Object) (k : Listed l n) (k' : Lis
     else-object = as-before (openIn l n u) refl .1
 
 -- ---- a record
-pub listed-of : (c : Coordinator) → Meets tree c → Listed (c .objects) (c .count)
+pub listed-of : {s : System} (c : Coordinator) → Meets s c → Listed (c .objects) (c .count)
 listed-of c m = record { size = m .sizes .objects-8; few = m .objects .eight-at-most; once = m .objects .once }
 
 -- c' is c with x at place i: the place where x's object stands, or the next free one
@@ -113,7 +113,7 @@ pub record OneSet (c c' : Coordinator) (i : ℕ) (x : Object) : Type 0 where
   pub only-there : (j : ℕ) → j < c' .count → (j ≡ i → ⊥) → j < c .count
   pub replaces : i < c .count → at (c .objects) i .object ≡ x .object
 
-module _ (c c' : Coordinator) (i : ℕ) (x : Object) (k : OneSet c c' i x) (m : Meets tree c) (m' : Meets tree c') where
+module _ {s : System} (c c' : Coordinator) (i : ℕ) (x : Object) (k : OneSet c c' i x) (m : Meets s c) (m' : Meets s c') where
   abbrev new : List Object
   new = set (c .objects) i x
 
@@ -140,12 +140,12 @@ module _ (c c' : Coordinator) (i : ℕ) (x : Object) (k : OneSet c c' i x) (m : 
   pub its-mode : contentsOf c' .mode (x .object) ≡ modeOf (x .mode)
   its-mode = rw (its-open, its-object)
 
-  pub set-shown : (v : ℕ) → c .phase ≢ idlePhase → ready tree x ≡ true → x .value ≡ v → Shows c' (c .serial) (x .object) v
+  pub set-shown : (v : ℕ) → c .phase ≢ idlePhase → ready s x ≡ true → x .value ≡ v → Shows s c' (c .serial) (x .object) v
   set-shown v q r e = record {
     begun = λ z. q (sym (k .same-phase) ∙ z);
     present = k .same-serial;
     opened = its-open;
-    is-ready = ap (ready tree) its-object ∙ r;
+    is-ready = ap (ready s) its-object ∙ r;
     value = ap (λ (y : Object). y .value) its-object ∙ e;
   }
 
@@ -162,11 +162,11 @@ module _ (c c' : Coordinator) (i : ℕ) (x : Object) (k : OneSet c c' i x) (m : 
     other-mode e = rw (other-open e, other-object e)
 
     -- what another object shows, it still shows
-    pub others-shown : (v : ℕ) → (u ≡ x .object → ⊥) → Shows c (c .serial) u v → Shows c' (c .serial) u v
+    pub others-shown : (v : ℕ) → (u ≡ x .object → ⊥) → Shows s c (c .serial) u v → Shows s c' (c .serial) u v
     others-shown v e f = record {
       begun = λ z. f .begun (sym (k .same-phase) ∙ z);
       present = k .same-serial;
       opened = other-open e ∙ f .opened;
-      is-ready = ap (ready tree) (other-object e) ∙ f .is-ready;
+      is-ready = ap (ready s) (other-object e) ∙ f .is-ready;
       value = ap (λ (y : Object). y .value) (other-object e) ∙ f .value;
     }

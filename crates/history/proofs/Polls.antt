@@ -24,7 +24,6 @@ use Rattle.replica.proofs.Delivered.{either-way}
 use Rattle.coordinator.specs.declared.Coordinator.{Coordinator}
 use Rattle.coordinator.specs.declared.BeginWith.{BeginWith}
 use Rattle.coordinator.specs.declared.Step.{Step}
-use Rattle.coordinator.specs.System.{tree}
 use Rattle.coordinator.specs.State.{idlePhase, openPhase, votingPhase, finishingPhase, objectAt, ready, awaited, idleAfter}
 use Rattle.coordinator.specs.Calls.{noNode, beginRefusals, begun, beginOf, openRefusals, opened, openOf, setRefusals, withNew, setOf, foundRefusals, foundOf}
 use Rattle.coordinator.specs.Calls.{reselectRefusals, reselected, reselectOf, requestCommitRefusals, requested, requestCommitOf, abortRefusals, abortOf}
@@ -38,11 +37,10 @@ use Rattle.clauses.proofs.Parts.{on-cond, true-T, by-test}
 use Rattle.clauses.proofs.Cases.{either-of}
 use Rattle.clauses.proofs.Sets.{within-none, node-known}
 use Rattle.clauses_arrive.proofs.Messages.{Taken, taken-of, vote-owner}
-use Rattle.clauses.proofs.Quorums.{tree-quorums}
 use Rattle.clauses.proofs.Keep.{request-keeps}
 use Rattle.clauses_arrive.proofs.Deliveries.{afterCopy, copiedObject, saidYes, named, saidDone}
 use Rattle.due.specs.Due.{messageDue}
-use Rattle.steps.specs.Station.{Station, blankStation, withRecord, without}
+use Rattle.steps.specs.Station.{Station, system, blankStation, withRecord, without}
 use Rattle.steps.specs.Step.{Call, begin, openRead, openWrite, setValue, found, reselect, requestCommit, abort, send, delivery, drop, switch, Outcome}
 use Rattle.steps.specs.Step.{refusedWith, taken, putting, full, takenOut, sendNumber, hosted, answered, atReplica, atCoordinator, arriving, deliveryOf}
 use Rattle.steps.specs.Step.{dropOf, switchOf, sendOf, step}
@@ -123,7 +121,7 @@ module _ (st : Station) (L : Ledger) (F : Past) (B : Ballots) (g : Good st L F) 
     here : CountedBy L B n c
     here = k .counted n
 
-    meets : Meets tree c
+    meets : Meets (system st) c
     meets = g .world .valid .records n
 
     is-now : current L n ≡ now
@@ -140,10 +138,10 @@ module _ (st : Station) (L : Ledger) (F : Past) (B : Ballots) (g : Good st L F) 
     same-counts : (c' : Coordinator) → CountedBy L B n c' → Counts (withRecord st n c') L B
     same-counts c' this = changed-counts c' (st .pool) L B refl (k .all-agreed) this (λ i e. k .counted i)
 
-    begin-counts : (a : BeginWith) → Next (begin n a) (hosted st n (beginOf tree c n a))
+    begin-counts : (a : BeginWith) → Next (begin n a) (hosted st n (beginOf (system st) c n a))
     unfolding beginOf beginRefusals begun note noted poll polled
     begin-counts a =
-        let q = tree .nearestRead (a .live) (a .distances) in
+        let q = system st .nearestRead (a .live) (a .distances) in
         host-cases (Next (begin n a)) st n (beginRefusals c n a q) (maskOf q) (begun c a (maskOf q)) tt (refused-counts (begin n a))
         (λ z. changed-counts (begun c a (maskOf q)) (st .pool) (withSerial L n) B refl (k .all-agreed)
         (begun-next _ _ _ _ n (c .serial) (c .phase) (c .yes) here (eqb-true (c .phase) idlePhase (not-false _ (z .1 .0))) 0) (λ i e. k .counted i))
@@ -163,15 +161,15 @@ module _ (st : Station) (L : Ledger) (F : Past) (B : Ballots) (g : Good st L F) 
     set-counts t v = host-cases (Next (setValue n t v)) st n (setRefusals c n t) 0 (withNew c t v) tt (refused-counts (setValue n t v))
         (λ z. changed-counts (withNew c t v) (st .pool) (Rattle.history.specs.Ledger.withNew L n t v) B refl (k .all-agreed) here (λ i e. k .counted i))
 
-    found-counts : (t : ℕ) → Next (found n t) (hosted st n (foundOf tree c n t))
+    found-counts : (t : ℕ) → Next (found n t) (hosted st n (foundOf (system st) c n t))
     unfolding foundOf foundRefusals note noted poll polled
-    found-counts t = host-cases (Next (found n t)) st n (foundRefusals tree c n t) (objectAt c t .value) c tt (refused-counts (found n t))
+    found-counts t = host-cases (Next (found n t)) st n (foundRefusals (system st) c n t) (objectAt c t .value) c tt (refused-counts (found n t))
         (λ z. same-counts c here)
 
-    reselect-counts : (live : ℕ) (distances : List ℕ) → Next (reselect n live distances) (hosted st n (reselectOf tree c n live distances))
+    reselect-counts : (live : ℕ) (distances : List ℕ) → Next (reselect n live distances) (hosted st n (reselectOf (system st) c n live distances))
     unfolding reselectOf reselectRefusals reselected note noted poll polled
     reselect-counts live distances =
-        let q = tree .nearestRead live distances in
+        let q = system st .nearestRead live distances in
         host-cases (Next (reselect n live distances)) st n (reselectRefusals c n live q) (maskOf q) (reselected c live distances (maskOf q)) tt
         (refused-counts (reselect n live distances)) (λ z. same-counts (reselected c live distances (maskOf q)) here)
 
@@ -187,7 +185,7 @@ module _ (st : Station) (L : Ledger) (F : Past) (B : Ballots) (g : Good st L F) 
         let z : c .yes ≡ 0 = within-none (c .yes) (subst (λ (w : ℕ). T (within (c .yes) w)) none-asked (meets .votes .of-participants)) in
         no-bit m (subst (λ (w : ℕ). contains w m ≡ true) z e)
 
-    requested-counts : (party : ℕ) → c .phase ≡ openPhase → Meets tree (requested c party) → Counts (withRecord st n (requested c party))
+    requested-counts : (party : ℕ) → c .phase ≡ openPhase → Meets (system st) (requested c party) → Counts (withRecord st n (requested c party))
         (withParticipants L n party) B
     unfolding requested
     requested-counts party f m = changed-counts (requested c party) (st .pool) (withParticipants L n party) B refl
@@ -203,15 +201,15 @@ module _ (st : Station) (L : Ledger) (F : Past) (B : Ballots) (g : Good st L F) 
         else : (x : Tx) → (x ≡ current L n → ⊥) → P' x ≡ P x
         else x e = on (put-cases Tx-discrete P (current L n) party x) (λ q. absurd (e (q .0))) (λ q. q .1)
 
-    request-counts : Next (requestCommit n) (hosted st n (requestCommitOf tree c n))
+    request-counts : Next (requestCommit n) (hosted st n (requestCommitOf (system st) c n))
     unfolding requestCommitOf requestCommitRefusals note noted poll polled
     request-counts =
-        let q = tree .nearestWrite (c .live) (c .distances) in
+        let q = system st .nearestWrite (c .live) (c .distances) in
         let party = joined (maskOf q) (c .contacted) in
-        let rs = requestCommitRefusals tree c n q in
+        let rs = requestCommitRefusals (system st) c n q in
         host-cases (Next (requestCommit n)) st n rs party (requested c party) tt (refused-counts (requestCommit n))
         (λ z. requested-counts party (eqb-true (c .phase) openPhase (not-false _ (z .1 .0)))
-        (subst (Meets tree) (taken-record rs party c (requested c party) z) (request-keeps tree tree-quorums c n meets)))
+        (subst (Meets (system st)) (taken-record rs party c (requested c party) z) (request-keeps (system st) (g .world .sane .choices) c n meets)))
 
     -- ---- the present transaction ends aborted, and is spoilt if votes were asked for it
     spoilt-else : (x : Tx) → x .owner ≡ n → (i : ℕ) → (i ≡ n → ⊥) → CountedBy L (withSpoilt L B x) i (st .records i)
@@ -235,7 +233,7 @@ module _ (st : Station) (L : Ledger) (F : Past) (B : Ballots) (g : Good st L F) 
   send-counts : (n to t : ℕ) → Next (send n to t) (sendOf st n to t)
   unfolding sendOf note noted poll polled
   send-counts n to t =
-      let kind = dueKind tree (st .records n) to t in
+      let kind = dueKind (system st) (st .records n) to t in
       let m = messageDue (st .records n) n to t kind in
       let due = not (eqb kind 0) in
       let number = sendNumber st n to t m due in
@@ -355,11 +353,11 @@ module _ (st : Station) (L : Ledger) (F : Past) (B : Ballots) (g : Good st L F) 
       unchanged : polled L B call ≡ B → Q (brought 0 r)
       unchanged e = unheard e 0 r refl (k .counted n)
 
-      copy-counts : kindOf b ≡ 2 → Q (copyTaken tree r b)
+      copy-counts : kindOf b ≡ 2 → Q (copyTaken (system st) r b)
       unfolding copyTaken
-      copy-counts e = on-cond Q (copyFits tree r b) _ _
-          (λ f. unheard (heard-kind 2 e) (cond (ready tree (copiedObject r b)) 3 0) (afterCopy r b)
-          (either-way (λ (a : ℕ). eqb a 1 ≡ false) (ready tree (copiedObject r b)) 3 0 refl refl) (k .counted n))
+      copy-counts e = on-cond Q (copyFits (system st) r b) _ _
+          (λ f. unheard (heard-kind 2 e) (cond (ready (system st) (copiedObject r b)) 3 0) (afterCopy r b)
+          (either-way (λ (a : ℕ). eqb a 1 ≡ false) (ready (system st) (copiedObject r b)) 3 0 refl refl) (k .counted n))
           (λ f. unchanged (heard-kind 2 e))
 
       done-counts : kindOf b ≡ 6 → Q (doneTaken r b)
@@ -537,7 +535,7 @@ module _ (st : Station) (L : Ledger) (F : Past) (B : Ballots) (g : Good st L F) 
             yes-word w = on (word-known b well is-vote) (λ z. absurd (eqb-false (wordOf b) 0 w z)) (λ z. z)
 
       -- ---- whatever the kind
-      kinds-counts : Taken n b → Q (Rattle.arrivals.specs.Receive.delivered tree r b)
+      kinds-counts : Taken n b → Q (Rattle.arrivals.specs.Receive.delivered (system st) r b)
       unfolding Rattle.arrivals.specs.Receive.delivered
       kinds-counts t =
           on-cond Q (eqb (kindOf b) 2) _ _ (λ e. copy-counts (eqb-true (kindOf b) 2 e))

@@ -28,6 +28,7 @@ use Rattle.replica.proofs.Spoken.{Named, named-of, done-formed, vote-formed, co
 use Rattle.replica.proofs.Delivered.{entries-of}
 use Rattle.replica.proofs.Late.{late-outcome}
 use Rattle.replica.proofs.Taken.{Taken, fetch-still, ask-still, outcome-cases, turn-outcome}
+use Rattle.coordinator.specs.System.{System}
 use Rattle.steps.specs.Station.{Station}
 use Rattle.protocol.specs.Table.{pick, In}
 use Rattle.protocol.specs.State.{Tx, Tx-discrete, fresh, committed, aborted, Copy, Votes, History, State}
@@ -35,6 +36,7 @@ use Rattle.protocol.specs.Proof.Tables.{on, clash, pick-cases}
 use Rattle.protocol.specs.Proof.Lists.{times-none, times-once}
 use Rattle.protocol.specs.Refine.Growth.{Late}
 use Rattle.history.specs.Ledger.{txOf, rootYes, firstOnly, logPut}
+use Rattle.history.proofs.Quorums.{Sane}
 use Rattle.history.proofs.Sim.{copyOfEntry, Match, Tells, Sim}
 use Rattle.history.proofs.Words.{txIn, formed-word, kind-of, from-of, tx-of, word-of, entry-of, check-of}
 use Rattle.history.proofs.Encoded.{bytes-encode}
@@ -77,7 +79,7 @@ no-yes : (a : Message) (f : Fits a) (log : List Tx) → (eqb (a .kind) 4 && (eqb
 no-yes a f log e = sym (ap (λ (b : Bool). cond b (firstOnly (txOf (encode a)) log) log) (root-yes a f ∙ e))
 
 -- what is told of a state and a log, told otherwise
-then : {st : Station} {σ : State ℕ} {log : List Tx} {sim : Sim st σ log} {n : ℕ} {m : Message} {k : Taken (st .images n) m} {i : List ℕ}
+then : {s : System} {sane : Sane s} {st : Station} {σ : State ℕ} {log : List Tx} {sim : Sim sane st σ log} {n : ℕ} {m : Message} {k : Taken (st .images n) m} {i : List ℕ}
     {P Q : State ℕ → List Tx → Type 0} → Acted st σ log sim n m k i P → ((τ : State ℕ) (l' : List Tx) → P τ l' → Q τ l') → Acted st σ log sim n m k i Q
 then a f = record {
   after = a .after;
@@ -88,8 +90,8 @@ then a f = record {
   told = f (a .after) (a .log-after) (a .told);
 }
 
-module _ (st : Station) (σ : State ℕ) (log : List Tx) (sim : Sim st σ log) (n : ℕ) (small : n < nodes) (m : Message) (k : Taken (st .images n) m)
-    (small-bytes : Bytes (st .images n)) where
+module _ {s : System} {sane : Sane s} (st : Station) (σ : State ℕ) (log : List Tx) (sim : Sim sane st σ log) (n : ℕ) (small : n < nodes) (m : Message)
+    (k : Taken (st .images n) m) (small-bytes : Bytes (st .images n)) where
   abbrev l : List ℕ
   l = st .images n
 

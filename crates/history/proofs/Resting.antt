@@ -7,13 +7,11 @@ use Prim.Native.Nat.{ℕ, _<_}
 use native.Mathlib.Decide.{ℕ-discrete}
 use Rattle.numbers.specs.Sizes.{nodes}
 use Rattle.mask.specs.Mask.{contains}
-use Rattle.quorum.specs.declared.Kind.the-variants.{Read}
-use Rattle.quorum.specs.Quorum.{isQuorum}
 use Rattle.image.specs.Layout.{shape, value, state, stateField}
 use Rattle.image.specs.Valid.{over}
 use Rattle.image.proofs.Each.{lt-or-le}
 use Rattle.image.proofs.Lens.{of-out}
-use Rattle.steps.specs.Station.{Station, Quiescent}
+use Rattle.steps.specs.Station.{Station, system, Quiescent}
 use Rattle.steps.specs.Step.{Call}
 use Rattle.protocol.specs.State.{Held}
 use Rattle.protocol.specs.Claims.{AllApplied}
@@ -40,7 +38,7 @@ module _ (st : Station) (L : Ledger) (F : Past) (w : World st L F) (t : InTurn s
       (λ s. on s (λ a. absurd (clash (cc))) (λ a. a))
 
 -- THE THEOREM: at rest, in every read quorum, whichever nodes are on, every newest copy of each object has replay's last value
-pub rest-newest : (up : ℕ) (cs : List Call) → AllTyped cs → Quiescent (reached up cs) → (q : ℕ) → isQuorum Read q ≡ true → (n t : ℕ)
+pub rest-newest : (up : ℕ) (cs : List Call) → AllTyped cs → Quiescent (reached up cs) → (q : ℕ) → system (reached up cs) .isRead q ≡ true → (n t : ℕ)
     → Newest (reached up cs) q n t → value (reached up cs .images n) t ≡ lastValue (told up cs) t
 rest-newest up cs a rest q r n t new =
     let g = always-good up cs a in

@@ -18,13 +18,12 @@ use Rattle.replica.specs.Steps.{Answer, silent, says}
 use Rattle.replica.specs.Receive.{deliver}
 use Rattle.replica.proofs.Delivered.{either-way}
 use Rattle.coordinator.specs.declared.Step.{Step}
-use Rattle.coordinator.specs.System.{tree}
 use Rattle.coordinator.specs.Calls.{noNode}
 use Rattle.arrivals.specs.Receive.{forReplica, receiveOf}
 use Rattle.due.specs.Kind.{dueKind, dueRefusals}
 use Rattle.clauses.proofs.Parts.{on-cond}
 use Rattle.due.specs.Due.{messageDue}
-use Rattle.steps.specs.Station.{Station, without}
+use Rattle.steps.specs.Station.{Station, system, without}
 use Rattle.steps.specs.Step.{Call, begin, openRead, openWrite, setValue, found, reselect, requestCommit, abort, send, delivery, drop, switch, step, Outcome}
 use Rattle.steps.specs.Step.{refusedWith, taken, putting, full, whenOff, sendNumber, sendOf, hosted, answered, atReplica, atCoordinator, arriving, deliveryOf}
 use Rattle.steps.specs.Step.{dropOf, switchOf}
@@ -74,7 +73,7 @@ module _ (st : Station) (room : length (st .pool) ≤ mostWaiting) where
         (either-way Room (forReplica (kindOf b)) _ _
         (let d = deliver longestMessage (st .images (toOf b)) (toOf b) b in
         either-way Room (eqb (d .number) 0) _ _ (answered-room kept (toOf b) (d .image) (d .answer)) room)
-        (either-way Room (eqb (receiveOf tree (st .records (toOf b)) (toOf b) b .number) 0) _ _ (taken-less kept) room))
+        (either-way Room (eqb (receiveOf (system st) (st .records (toOf b)) (toOf b) b .number) 0) _ _ (taken-less kept) room))
         (taken-less kept)
 
   delivery-room : (k : ℕ) (kept : Bool) → Room (deliveryOf st k kept)
@@ -100,7 +99,7 @@ module _ (st : Station) (room : length (st .pool) ≤ mostWaiting) where
   unfolding sendOf sendNumber
   send-room n to object =
       let c = st .records n in
-      let kind = dueKind tree c to object in
+      let kind = dueKind (system st) c to object in
       let a = messageDue c n to object kind in
       let refused = firstOf (dueRefusals c n to object) in
       let number = sendNumber st n to object a (not (eqb kind 0)) in

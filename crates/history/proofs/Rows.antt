@@ -11,6 +11,7 @@ use lib.Dec.{eqb, ltb}
 use borrow.Author.Tests.{eqb-true, eqb-false}
 use Rattle.numbers.specs.Sizes.{nobody, objects}
 use Rattle.image.specs.Layout.{value, version, holder, serial, state}
+use Rattle.coordinator.specs.System.{System}
 use Rattle.steps.specs.Station.{Station, putAt, withImage}
 use Rattle.protocol.specs.Table.{put2, putRow}
 use Rattle.protocol.specs.State.{Tx, over, listed, held, State, Writes, writes?}
@@ -20,7 +21,7 @@ use Rattle.protocol.specs.Log.{logged}
 use Rattle.protocol.specs.Proof.Tables.{on, put2-cases, putRow-cases}
 use Rattle.protocol.specs.Refine.Growth.{step-grows}
 use Rattle.protocol.specs.Refine.Holders.{holders-as-read, holds?, taken, freed}
-use Rattle.history.proofs.Quorums.{rules}
+use Rattle.history.proofs.Quorums.{Sane, rules}
 use Rattle.history.proofs.Sim.{stateOf, holderOf, holders, Owner, Sim}
 use Rattle.history.proofs.Carry.{onward, owner-on, by-one}
 
@@ -78,20 +79,20 @@ holder-as : (l k : List ℕ) → SameHolders l k → (t : ℕ) → holderOf k t 
 holder-as l k same t = ap (λ (h : ℕ). cond (ltb t objects) (cond (eqb h nobody) none (some h)) none) (same t)
 
 -- ---- the transitions
-module _ (st : Station) (σ : State ℕ) (l : List Tx) (sim : Sim st σ l) (n : ℕ) (k : List ℕ) where
+module _ {s : System} {sane : Sane s} (st : Station) (σ : State ℕ) (l : List Tx) (sim : Sim sane st σ l) (n : ℕ) (k : List ℕ) where
   abbrev old : List ℕ
   old = st .images n
 
   abbrev next : Station
   next = withImage st n k
 
-  owners-on : {σ' : State ℕ} (s : Step rules σ σ') → ((y : Tx) → σ' .history .phase y ≡ σ .history .phase y)
+  owners-on : {σ' : State ℕ} (s : Step (rules sane) σ σ') → ((y : Tx) → σ' .history .phase y ≡ σ .history .phase y)
       → ((y : Tx) → σ' .history .contents y ≡ σ .history .contents y)
       → (i : ℕ) → Owner (σ' .history) (σ' .votes) (σ' .sent) i (st .records i)
   owners-on s p q i = owner-on (onward (step-grows s)) i (st .records i) (λ r. p _) (λ r. q _) (sim .owners i)
 
   -- nothing that is read changes: lists of readers and writers
-  pub sim-lists : SameCopies old k → SameHolders old k → ((w : ℕ) → serial k w ≡ serial old w) → ((w : ℕ) → state k w ≡ state old w) → Sim next σ l
+  pub sim-lists : SameCopies old k → SameHolders old k → ((w : ℕ) → serial k w ≡ serial old w) → ((w : ℕ) → state k w ≡ state old w) → Sim sane next σ l
   sim-lists a b c d =
       let r = sim .reads in
       record {
@@ -135,23 +136,23 @@ module _ (st : Station) (σ : State ℕ) (l : List Tx) (sim : Sim st σ l) (n : 
       (λ w e. ap stateOf (b .states w e))
 
   -- listed, with a new serial
-  pub sim-listed : (x : Tx) → CanList σ n x → SameCopies old k → SameHolders old k → OneOwner old k (x .owner) (x .serial) 1 → Sim next (doList σ n x) l
+  pub sim-listed : (x : Tx) → CanList σ n x → SameCopies old k → SameHolders old k → OneOwner old k (x .owner) (x .serial) 1 → Sim sane next (doList σ n x) l
   sim-listed x g a b c = by-one st next l sim (list n x g)
       (record { r-version = versions-same a; r-value = values-same a; r-last = serial-put _ _ _ c; r-state = state-put _ _ _ c })
       (holders-same b) (owners-on (list n x g) (λ y. refl) (λ y. refl)) (λ y i. inl i)
 
   -- voted no
   pub sim-refused : (x : Tx) → CanNo σ n x → SameCopies old k → SameHolders old k → OneOwner old k (x .owner) (serial old (x .owner)) 3
-      → Sim next (doNo σ n x) l
+      → Sim sane next (doNo σ n x) l
   sim-refused x g a b c = by-one st next l sim (voteNo n x g)
       (record { r-version = versions-same a; r-value = values-same a; r-last = serial-kept _ _ c; r-state = state-put _ _ _ c })
       (holders-same b) (owners-on (voteNo n x g) (λ y. refl) (λ y. refl)) (λ y i. inl i)
 
   -- voted yes: what is written is held
-  pub sim-held : (x : Tx) → (g : CanYes rules σ n x) → SameCopies old k → OneOwner old k (x .owner) (serial old (x .owner)) 2
+  pub sim-held : (x : Tx) → (g : CanYes (rules sane) σ n x) → SameCopies old k → OneOwner old k (x .owner) (serial old (x .owner)) 2
       → ((t : ℕ) → Writes (σ .history .contents) x t → holderOf k t ≡ some (x .owner))
       → ((t : ℕ) → (Writes (σ .history .contents) x t → ⊥) → holderOf k t ≡ holderOf old t)
-      → Sim next (doYes σ n x) (logged (voteYes n x g) l)
+      → Sim sane next (doYes σ n x) (logged (voteYes n x g) l)
   sim-held x g a c here else = by-one st next l sim (voteYes n x g)
       (record { r-version = versions-same a; r-value = values-same a; r-last = serial-kept _ _ c; r-state = state-put _ _ _ c })
       (row-putRow (λ m t. holderOf m t) (holders st) (st .images) n k (λ i t. refl) (writes? (σ .history .contents x)) (λ t. some (x .owner)) here else)
@@ -165,7 +166,7 @@ module _ (st : Station) (σ : State ℕ) (l : List Tx) (sim : Sim st σ l) (n : 
   pub sim-applied : (x : Tx) → CanApply σ n x → OneOwner old k (x .owner) (serial old (x .owner)) 0 → FreedHolders old k (x .owner)
       → ((t : ℕ) → Writes (σ .history .contents) x t → (version k t ≡ suc (σ .history .contents x .version t)) × (value k t ≡ σ .history .contents x .new t))
       → ((t : ℕ) → (Writes (σ .history .contents) x t → ⊥) → (version k t ≡ version old t) × (value k t ≡ value old t))
-      → Sim next (doApply σ n x) l
+      → Sim sane next (doApply σ n x) l
   sim-applied x g c f here else = by-one st next l sim (apply n x g)
       (record {
         r-version = row-putRow (λ m t. version m t) _ (st .images) n k (sim .reads .r-version) (writes? (σ .history .contents x))
@@ -178,17 +179,17 @@ module _ (st : Station) (σ : State ℕ) (l : List Tx) (sim : Sim st σ l) (n : 
       (holders-freed (x .owner) f) (owners-on (apply n x g) (λ y. refl) (λ y. refl)) (λ y i. inl i)
 
   -- an abort taken
-  pub sim-dropped : (x : Tx) → CanDrop σ n x → SameCopies old k → OneOwner old k (x .owner) (x .serial) 0 → FreedHolders old k (x .owner) → Sim next
+  pub sim-dropped : (x : Tx) → CanDrop σ n x → SameCopies old k → OneOwner old k (x .owner) (x .serial) 0 → FreedHolders old k (x .owner) → Sim sane next
       (doDrop σ n x) l
   sim-dropped x g a c f = by-one st next l sim (drop n x g)
       (record { r-version = versions-same a; r-value = values-same a; r-last = serial-put _ _ _ c; r-state = state-put _ _ _ c })
       (holders-freed (x .owner) f) (owners-on (drop n x g) (λ y. refl) (λ y. refl)) (λ y i. inl i)
 
 -- a copy sent: no image changes
-pub sim-sent : (st : Station) (σ : State ℕ) (l : List Tx) → Sim st σ l → (n t : ℕ) → Sim st (doCopy σ n t) l
-sim-sent st σ l sim n t =
+pub sim-sent : {s : System} {sane : Sane s} (st : Station) (σ : State ℕ) (l : List Tx) → Sim sane st σ l → (n t : ℕ) → Sim sane st (doCopy σ n t) l
+sim-sent {sane = sane} st σ l sim n t =
     let r = sim .reads in
-    let s : Step rules σ (doCopy σ n t) = copy n t in
+    let s : Step (rules sane) σ (doCopy σ n t) = copy n t in
     by-one st st l sim s (record { r-version = r .r-version; r-value = r .r-value; r-last = r .r-last; r-state = r .r-state }) (λ i j. refl)
     (λ i. owner-on (onward (step-grows s)) i (st .records i) (λ u. refl) (λ u. refl) (sim .owners i)) (λ b i. inl i)
 
@@ -201,6 +202,7 @@ put-put f n a b = λ k i. same (eqb i n) (f i) k
     same true y = refl
     same false y = refl
 
-pub sim-twice : (st : Station) (σ : State ℕ) (l : List Tx) (n : ℕ) (a b : List ℕ) → Sim (withImage (withImage st n a) n b) σ l → Sim (withImage st n b) σ l
-sim-twice st σ l n a b s =
-    subst (λ (f : ℕ → List ℕ). Sim (record { images = f; records = st .records; pool = st .pool; own = st .own }) σ l) (put-put (st .images) n a b) s
+pub sim-twice : {s : System} {sane : Sane s} (st : Station) (σ : State ℕ) (l : List Tx) (n : ℕ) (a b : List ℕ)
+    → Sim sane (withImage (withImage st n a) n b) σ l → Sim sane (withImage st n b) σ l
+sim-twice {sane = sane} st σ l n a b s =
+    subst (λ (f : ℕ → List ℕ). Sim sane (record { images = f; records = st .records; pool = st .pool; own = st .own }) σ l) (put-put (st .images) n a b) s

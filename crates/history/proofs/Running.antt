@@ -19,7 +19,6 @@ use Rattle.replica.specs.Receive.{deliver}
 use Rattle.replica.proofs.Delivered.{either-way}
 use Rattle.coordinator.specs.declared.Coordinator.{Coordinator}
 use Rattle.coordinator.specs.declared.Step.{Step}
-use Rattle.coordinator.specs.System.{tree}
 use Rattle.coordinator.specs.State.{openPhase, votingPhase, stepOf, ready}
 use Rattle.coordinator.specs.Calls.{openRefusals, openOf, setRefusals, setOf}
 use Rattle.arrivals.specs.Receive.{forReplica, receiveOf}
@@ -30,7 +29,7 @@ use Rattle.replay.specs.Digest.{Digest, largest}
 use Rattle.replay.specs.Layout.{size}
 use Rattle.replay.specs.Sheet.{valueOf}
 use Rattle.replay.proofs.Laws.{Reads, owner-below, blank-law, begun-law, opened-law, valued-law, put-law, committed-law, value-reads}
-use Rattle.steps.specs.Station.{Station, blankStation}
+use Rattle.steps.specs.Station.{Station, system, blankStation}
 use Rattle.steps.specs.Step.{Call, begin, openRead, openWrite, setValue, found, reselect, requestCommit, abort, send, delivery, drop, switch, step, Outcome}
 use Rattle.steps.specs.Step.{refusedWith, taken, whenOff, hosted, full, answered, atReplica, atCoordinator, arriving, deliveryOf}
 use Rattle.steps.specs.Run.{eventOf, trace}
@@ -133,17 +132,17 @@ module _ (st : Station) (k : ℕ) (kept : Bool) where
 
   at-coordinator : (n : ℕ) → Told (atCoordinator st k kept n b)
   unfolding atCoordinator
-  at-coordinator n = either-way Told (eqb (receiveOf tree (st .records n) n b .number) 0) _ _ received mute
+  at-coordinator n = either-way Told (eqb (receiveOf (system st) (st .records n) n b .number) 0) _ _ received mute
     where
       not-ready : (r : Bool) → cond {A = ℕ} r 3 0 ≡ 1 → ⊥
       not-ready true e = let z : ⊥ = omega (arith, e) in z
       not-ready false e = clash e
 
-      received : receiveOf tree (st .records n) n b .answer ≡ 1 → Voted (ownerOf b)
-      received = receive-cases (λ (s : Step). s .answer ≡ 1 → Voted (ownerOf b)) tree (st .records n) n b
+      received : receiveOf (system st) (st .records n) n b .answer ≡ 1 → Voted (ownerOf b)
+      received = receive-cases (λ (s : Step). s .answer ≡ 1 → Voted (ownerOf b)) (system st) (st .records n) n b
           (record {
             as-before = λ number e. absurd (clash e);
-            copied = λ f e. absurd (not-ready (ready tree (copiedObject (st .records n) b)) e);
+            copied = λ f e. absurd (not-ready (ready (system st) (copiedObject (st .records n) b)) e);
             endings = λ r. record {
               gone = λ u q e. absurd (let z : ⊥ = omega (arith, e) in z);
               aborting = λ u q e. absurd (let z : ⊥ = omega (arith, e) in z);

@@ -22,7 +22,7 @@ use Rattle.letters.specs.Write.{sent}
 use Rattle.wire.specs.Encode.{encode, All, EntryFits, Fits}
 use Rattle.coordinator.specs.declared.Object.{Object}
 use Rattle.coordinator.specs.declared.Coordinator.{Coordinator}
-use Rattle.coordinator.specs.System.{tree}
+use Rattle.coordinator.specs.System.{System}
 use Rattle.coordinator.specs.State.{openPhase, votingPhase, finishingPhase, placeOf, objectAt, isOpen, awaited, ready}
 use Rattle.due.specs.Kind.{dueKind, openDue, votingDue, finishingDue, dueRefusals}
 use Rattle.clauses.proofs.Facts.{Meets}
@@ -31,7 +31,7 @@ use Rattle.due.proofs.Entries.{Stands, open-place, every-entry, entries-only, e
 use Rattle.coordinator.specs.Calls.{noNode}
 use Rattle.coordinator.proofs.Refusals.{clear}
 use Rattle.steps.proofs.Nodes.{off-number}
-use Rattle.steps.specs.Station.{Station, withPool}
+use Rattle.steps.specs.Station.{Station, system, withPool}
 use Rattle.steps.specs.Step.{send, refusedWith, putting, full, whenOff, sendNumber, sendOf}
 use Rattle.protocol.specs.Table.{In}
 use Rattle.protocol.specs.Rules.{unused, read, write}
@@ -51,7 +51,7 @@ use Rattle.history.proofs.Tests.{not-false}
 use Rattle.history.proofs.Calls.{Next, refused-next}
 
 -- ---- the entries of a record are its contents
-module _ (c : Coordinator) (m : Meets tree c) where
+module _ {s : System} (c : Coordinator) (m : Meets s c) where
   standing : {e : Entry} → Stands e (entriesOf c) → In e (entriesOf c)
   standing z = subst (λ (y : Entry). In y (entriesOf c)) (z .2) (in-place (entriesOf c) (z .0) noEntry (z .1))
 
@@ -60,7 +60,7 @@ module _ (c : Coordinator) (m : Meets tree c) where
   open-mode t false e q = absurd (q refl)
 
   only-entry : (e : Entry) → In e (entriesOf c) → (isOpen c (e .object) ≡ true) × (e ≡ entryFor (objectAt c (e .object)))
-  only-entry e i = all-in _ (entriesOf c) (entries-only tree c m) e i
+  only-entry e i = all-in _ (entriesOf c) (entries-only s c m) e i
 
   written-value : (y : Object) (b : Bool) → eqb (y .mode) 0 ≡ b → cond b read write ≡ write → cond b 0 (y .new) ≡ y .new
   written-value y true p e = absurd (clash (cc))
@@ -69,7 +69,7 @@ module _ (c : Coordinator) (m : Meets tree c) where
   pub entries-match : Match (contentsOf c) (entriesOf c)
   entries-match = record {
     lists = λ t q. let o = open-mode t (isOpen c t) refl q in
-        (entryFor (objectAt c t), standing (entries-every tree c m t o), open-place tree c m t o .1);
+        (entryFor (objectAt c t), standing (entries-every s c m t o), open-place s c m t o .1);
     mode-as = λ e i. let z = only-entry e i in
         ap (λ (b : Bool). cond b (modeOf (objectAt c (e .object) .mode)) unused) (z .0) ∙ ap (λ (y : Entry). modeOf (y .mode)) (sym (z .1));
     version-as = λ e i. ap (λ (y : Entry). y .version) (sym (only-entry e i .1));
@@ -104,7 +104,7 @@ tells-sent h v sent a f w no2 no4 asks commits aborts =
     }
 
 -- ---- it fits its bytes
-module _ (c : Coordinator) (m : Meets tree c) (f : Rattle.clauses.proofs.Fits.Fits c) where
+module _ {s : System} (c : Coordinator) (m : Meets s c) (f : Rattle.clauses.proofs.Fits.Fits c) where
   entry-fits : (n : ℕ) → isOpen c n ≡ true → EntryFits (entryFor (objectAt c n))
   entry-fits n o = let y = f .objects-fit (placeOf c n) in record {
     object = y .object-8;
@@ -119,7 +119,7 @@ module _ (c : Coordinator) (m : Meets tree c) (f : Rattle.clauses.proofs.Fits.F
 
   entries-fit : All EntryFits (entriesOf c)
   unfolding entriesOf
-  entries-fit = every-entry tree c m EntryFits entry-fits objects
+  entries-fit = every-entry s c m EntryFits entry-fits objects
 
   serial-fits : (c .serial < 256 ^ 4) × (c .timestamp < 256 ^ 4)
   serial-fits = (omega (arith, f .widths .serial-32), omega (arith, f .widths .timestamp-32))
@@ -157,7 +157,7 @@ module _ (st : Station) (L : Ledger) (F : Past) (w : World st L F) (n : ℕ) (f 
   abbrev c : Coordinator
   c = st .records n
 
-  abbrev mc : Meets tree c
+  abbrev mc : Meets (system st) c
   mc = w .valid .records n
 
   abbrev ow : Owner (w .state .history) (w .state .votes) (w .state .sent) n c
@@ -170,10 +170,10 @@ module _ (st : Station) (L : Ledger) (F : Past) (w : World st L F) (n : ℕ) (f 
     pub tells : Tells (w .state .history) (w .state .votes) (w .state .sent) (encode a)
 
   due-cases : (P : ℕ → Type 0) → P 0 → (c .phase ≡ openPhase → P 1) → (c .phase ≡ votingPhase → P 3) → (c .phase ≡ finishingPhase → P 5)
-      → (c .phase ≡ finishingPhase → P 7) → P (dueKind tree c to object)
+      → (c .phase ≡ finishingPhase → P 7) → P (dueKind (system st) c to object)
   unfolding dueKind openDue votingDue finishingDue
   due-cases P z a b d e = by (eqb (c .phase) 1) (eqb (c .phase) 2) (eqb (c .phase) 3)
-      (contains (c .quorum) to && not (ready tree (objectAt c object))) (contains (c .participants) to && not (contains (c .yes) to))
+      (contains (c .quorum) to && not (ready (system st) (objectAt c object))) (contains (c .participants) to && not (contains (c .yes) to))
       (contains (awaited c) to && not (contains (c .done) to)) (eqb (c .outcome) 1 && not (eqb (getD (c .rivals) to 0) 0)) refl refl refl
     where
       by : (x y g p q r s : Bool) → eqb (c .phase) 1 ≡ x → eqb (c .phase) 2 ≡ y → eqb (c .phase) 3 ≡ g
@@ -254,8 +254,8 @@ module _ (st : Station) (L : Ledger) (F : Past) (w : World st L F) (n : ℕ) (f 
             (λ e. absurd (let z : ⊥ = omega arith in z)) (λ e. absurd (let z : ⊥ = omega arith in z));
       }
 
-  pub due-sent : (dueKind tree c to object ≡ 0 → ⊥) → wellFormed (messageDue c n to object (dueKind tree c to object)) ≡ true
-      → Sent (messageDue c n to object (dueKind tree c to object))
+  pub due-sent : (dueKind (system st) c to object ≡ 0 → ⊥) → wellFormed (messageDue c n to object (dueKind (system st) c to object)) ≡ true
+      → Sent (messageDue c n to object (dueKind (system st) c to object))
   unfolding messageDue
   due-sent = due-cases (λ k. (k ≡ 0 → ⊥) → wellFormed (messageDue c n to object k) ≡ true → Sent (messageDue c n to object k))
       (λ e v. absurd (e refl)) (λ p e v. fetch-sent v) (λ p e v. ask-sent p v) (λ p e v. outcome-sent p v) (λ p e v. yield-sent v)
@@ -281,7 +281,7 @@ module _ (st : Station) (L : Ledger) (F : Past) (w : World st L F) (n to object 
   number = firstOf (dueRefusals d n to object)
 
   abbrev kind : ℕ
-  kind = dueKind tree d to object
+  kind = dueKind (system st) d to object
 
   abbrev a : Message
   a = messageDue d n to object kind
@@ -306,7 +306,7 @@ module _ (st : Station) (L : Ledger) (F : Past) (w : World st L F) (n to object 
   put-world : (b : List ℕ) → Bytes b → Tells (w .state .history) (w .state .votes) (w .state .sent) b → (rootYes b ≡ false)
       → World (withPool st (st .pool ++ (b ∷ []))) (withPut L (L .pool) (some b)) (More F (withPool st (st .pool ++ (b ∷ []))))
   put-world b y t quiet =
-      steady st L F w (st .pool ++ (b ∷ [])) (st .own) (withPut L (L .pool) (some b))
+      steady st L F w (st .pool ++ (b ∷ [])) (st .own .on) (withPut L (L .pool) (some b))
       (λ z i. on (in-append z (st .pool) (b ∷ []) i) inl
       (λ j. on j (λ e. inr (subst (Tells (w .state .history) (w .state .votes) (w .state .sent)) (sym e) t, subst Bytes (sym e) y)) (λ q. absurd q)))
       (ap (λ (l : List (List ℕ)). l ++ (b ∷ [])) (w .books .pool-as))
@@ -332,6 +332,6 @@ module _ (st : Station) (L : Ledger) (F : Past) (w : World st L F) (n to object 
       by true true p q = idle-here
         where
           idle-here : World st (withPut L (L .pool) none) (More F st)
-          idle-here = fewer st L F w (st .pool) (st .own) (withPut L (L .pool) none) (λ y i. i) (w .books .pool-as) refl refl refl refl
+          idle-here = fewer st L F w (st .pool) (st .own .on) (withPut L (L .pool) none) (λ y i. i) (w .books .pool-as) refl refl refl refl
               (record { serials = refl; modes = refl; news = refl; parties = refl })
       by false y p q = refused-next st L F w (send n to object) num (eqb-false num 0 p)

@@ -21,7 +21,7 @@ use Rattle.replica.proofs.Spoken.{named-of}
 use Rattle.replica.proofs.Taken.{Taken, taken}
 use Rattle.coordinator.specs.Calls.{noNode}
 use Rattle.arrivals.specs.Receive.{forReplica}
-use Rattle.steps.specs.Station.{Station, withImage, nowOn, withOn, withPool, without}
+use Rattle.steps.specs.Station.{Station, withImage, withOn, withPool, without}
 use Rattle.steps.specs.Step.{delivery, drop, switch, refusedWith, full, takenOut, answered, atReplica, atCoordinator, arriving, deliveryOf, dropOf, switchOf}
 use Rattle.protocol.specs.Table.{In}
 use Rattle.protocol.specs.State.{Tx, fresh, committed, aborted}
@@ -155,7 +155,7 @@ module _ (st : Station) (L : Ledger) (F : Past) (w : World st L F) (k : ℕ) (ke
   off-taken : Next st L F w (delivery k kept) (record { number = 0; answer = 0; put = none; station = takenOut st k kept })
   unfolding note
   off-taken = subst (λ (L' : Ledger). World (takenOut st k kept) L' (More F (takenOut st k kept))) (sym (as-told none))
-      (fewer st L F w pool (st .own) (told none) sub refl refl refl refl refl (record { serials = refl; modes = refl; news = refl; parties = refl }))
+      (fewer st L F w pool (st .own .on) (told none) sub refl refl refl refl refl (record { serials = refl; modes = refl; news = refl; parties = refl }))
 
   pub arriving-next : Next st L F w (delivery k kept) (arriving st k kept b)
   unfolding arriving
@@ -188,7 +188,7 @@ module _ (st : Station) (L : Ledger) (F : Past) (w : World st L F) where
     where
       by : (x : Bool) → Next st L F w (drop k) (cond x (record { number = 0; answer = 0; put = none; station = withPool st (without k (st .pool)) })
           (refusedWith 5 st))
-      by true = fewer st L F w (without k (st .pool)) (st .own) (withPut L (without k (L .pool)) none) (λ y i. in-without y k (st .pool) i)
+      by true = fewer st L F w (without k (st .pool)) (st .own .on) (withPut L (without k (L .pool)) none) (λ y i. in-without y k (st .pool) i)
           (ap (without k) (w .books .pool-as)) refl refl refl refl (record { serials = refl; modes = refl; news = refl; parties = refl })
       by false = refused-next st L F w (drop k) 5 (λ e. let z : ⊥ = omega arith in z)
 
@@ -201,5 +201,5 @@ module _ (st : Station) (L : Ledger) (F : Past) (w : World st L F) where
 
       by : (x : Bool) → Next st L F w (switch n up) (cond x (refusedWith 4 st) (record { number = 0; answer = 0; put = none; station = withOn st on' }))
       by true = refused-next st L F w (switch n up) 4 (λ e. let z : ⊥ = omega arith in z)
-      by false = fewer st L F w (st .pool) (nowOn (st .own) on') L (λ y i. i) (w .books .pool-as) refl refl refl refl
+      by false = fewer st L F w (st .pool) on' L (λ y i. i) (w .books .pool-as) refl refl refl refl
           (record { serials = refl; modes = refl; news = refl; parties = refl })

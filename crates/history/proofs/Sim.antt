@@ -18,6 +18,7 @@ use Rattle.wire.specs.Items.{entryOf, wordOf}
 use Rattle.image.specs.Layout.{value, version, holder, serial, state}
 use Rattle.coordinator.specs.declared.Object.{Object}
 use Rattle.coordinator.specs.declared.Coordinator.{Coordinator}
+use Rattle.coordinator.specs.System.{System}
 use Rattle.coordinator.specs.State.{openPhase, votingPhase, finishingPhase, noObject, objectAt, isOpen}
 use Rattle.steps.specs.Station.{Station}
 use Rattle.protocol.specs.Table.{In}
@@ -27,7 +28,7 @@ use Rattle.protocol.specs.State.{Votes, History, State}
 use Rattle.protocol.specs.Refine.Holders.{HolderTable}
 use Rattle.protocol.specs.Refine.Simulate.{Kept, Reads}
 use Rattle.history.specs.Ledger.{txOf}
-use Rattle.history.proofs.Quorums.{rules}
+use Rattle.history.proofs.Quorums.{Sane, rules}
 
 -- ---- an image read as a row of the abstract tables
 abbrev pub stateOf : ℕ → OwnerState
@@ -109,8 +110,8 @@ pub record Tells (h : History ℕ) (v : Votes) (sent : List (Copy ℕ)) (b : Lis
   pub an-abort : kindOf b ≡ outcome → wordOf b ≡ 0 → h .phase (txOf b) ≡ aborted
 
 -- ---- all of it, with the log
-pub record Sim (st : Station) (σ : State ℕ) (l : List Tx) : Type 0 where
-  pub kept : Kept rules σ l (holders st)
+pub record Sim {s : System} (sane : Sane s) (st : Station) (σ : State ℕ) (l : List Tx) : Type 0 where
+  pub kept : Kept (rules sane) σ l (holders st)
   pub reads : Read st σ
   pub owners : (n : ℕ) → Owner (σ .history) (σ .votes) (σ .sent) n (st .records n)
   pub waits : (b : List ℕ) → In b (st .pool) → Tells (σ .history) (σ .votes) (σ .sent) b

@@ -26,7 +26,7 @@ use Rattle.replica.proofs.Delivered.{either-way}
 use Rattle.coordinator.specs.declared.Coordinator.{Coordinator}
 use Rattle.coordinator.specs.declared.BeginWith.{BeginWith}
 use Rattle.coordinator.specs.declared.Step.{Step}
-use Rattle.coordinator.specs.System.{tree}
+use Rattle.coordinator.specs.System.{System}
 use Rattle.coordinator.specs.State.{idleAfter}
 use Rattle.coordinator.specs.Calls.{noNode, beginRefusals, begun, beginOf, openRefusals, opened, openOf, setRefusals, withNew, setOf, foundOf}
 use Rattle.coordinator.specs.Calls.{reselectRefusals, reselected, reselectOf, requestCommitRefusals, requested, requestCommitOf, abortOf}
@@ -37,7 +37,7 @@ use Rattle.clauses.proofs.Cases.{step-keeps}
 use Rattle.clauses.proofs.Cases.{Endings, abort-cases}
 use Rattle.clauses_arrive.proofs.Deliveries.{receive-cases}
 use Rattle.due.specs.Due.{entriesOf, fetchTo, askTo, outcomeTo, yieldTo, messageDue}
-use Rattle.steps.specs.Station.{Own, Station, blankStation, putAt, without}
+use Rattle.steps.specs.Station.{Own, Station, system, blankStation, putAt, without}
 use Rattle.steps.specs.Step.{Call, begin, openRead, openWrite, setValue, found, reselect, requestCommit, abort, send, delivery, drop, switch, Outcome}
 use Rattle.steps.specs.Step.{refusedWith, taken, putting, full, sendNumber, hosted, answered, atReplica, atCoordinator, arriving, deliveryOf, dropOf}
 use Rattle.steps.specs.Step.{switchOf, sendOf}
@@ -65,10 +65,10 @@ GoesOn c d = ((d .serial ≡ c .serial) × (d .timestamp ≡ c .timestamp)) ⊎ 
 same : (c : Coordinator) → GoesOn c c
 same c = inl (refl, refl)
 
-module _ (c : Coordinator) (n : ℕ) where
-  begin-on : (a : BeginWith) → GoesOn c (beginOf tree c n a .coordinator)
+module _ (s : System) (c : Coordinator) (n : ℕ) where
+  begin-on : (a : BeginWith) → GoesOn c (beginOf s c n a .coordinator)
   unfolding beginOf beginRefusals begun
-  begin-on a = let q = tree .nearestRead (a .live) (a .distances) in
+  begin-on a = let q = s .nearestRead (a .live) (a .distances) in
       step-keeps (GoesOn c) (beginRefusals c n a q) (maskOf q) c (begun c a (maskOf q)) tt (same c) (λ k. inr (omega arith))
 
   open-on : (t mode : ℕ) → GoesOn c (openOf c n t mode .coordinator)
@@ -79,20 +79,20 @@ module _ (c : Coordinator) (n : ℕ) where
   unfolding setOf setRefusals withNew
   set-on t v = step-keeps (GoesOn c) (setRefusals c n t) 0 c (withNew c t v) tt (same c) (λ k. inl (refl, refl))
 
-  found-on : (t : ℕ) → GoesOn c (foundOf tree c n t .coordinator)
-  found-on t = subst (GoesOn c) (sym (found-leaves tree c n t)) (same c)
+  found-on : (t : ℕ) → GoesOn c (foundOf s c n t .coordinator)
+  found-on t = subst (GoesOn c) (sym (found-leaves s c n t)) (same c)
 
-  reselect-on : (live : ℕ) (distances : List ℕ) → GoesOn c (reselectOf tree c n live distances .coordinator)
+  reselect-on : (live : ℕ) (distances : List ℕ) → GoesOn c (reselectOf s c n live distances .coordinator)
   unfolding reselectOf reselectRefusals reselected
-  reselect-on live distances = let q = tree .nearestRead live distances in
+  reselect-on live distances = let q = s .nearestRead live distances in
       step-keeps (GoesOn c) (reselectRefusals c n live q) (maskOf q) c (reselected c live distances (maskOf q)) tt (same c) (λ k. inl (refl, refl))
 
-  request-on : GoesOn c (requestCommitOf tree c n .coordinator)
+  request-on : GoesOn c (requestCommitOf s c n .coordinator)
   unfolding requestCommitOf requestCommitRefusals requested
   request-on =
-      let q = tree .nearestWrite (c .live) (c .distances) in
+      let q = s .nearestWrite (c .live) (c .distances) in
       let party = joined (maskOf q) (c .contacted) in
-      step-keeps (GoesOn c) (requestCommitRefusals tree c n q) party c (requested c party) tt (same c) (λ k. inl (refl, refl))
+      step-keeps (GoesOn c) (requestCommitRefusals s c n q) party c (requested c party) tt (same c) (λ k. inl (refl, refl))
 
   idle-on : (outcome : ℕ) → GoesOn c (idleAfter (c .serial) (c .timestamp) outcome)
   unfolding idleAfter
@@ -104,8 +104,8 @@ module _ (c : Coordinator) (n : ℕ) where
   abort-on : GoesOn c (abortOf c n .coordinator)
   abort-on = abort-cases (GoesOn c) c n (same c) ends-on
 
-  receive-on : (b : List ℕ) → GoesOn c (receiveOf tree c n b .coordinator)
-  receive-on b = receive-cases (λ (x : Step). GoesOn c (x .coordinator)) tree c n b
+  receive-on : (b : List ℕ) → GoesOn c (receiveOf s c n b .coordinator)
+  receive-on b = receive-cases (λ (x : Step). GoesOn c (x .coordinator)) s c n b
       (record {
         as-before = λ number. same c;
         copied = λ f. inl (refl, refl);
@@ -217,7 +217,7 @@ module _ (st : Station) (s : Stamped st) (v : Valid st) (w : Wide st) where
   unfolding sendOf
   send-stamped n to t =
       let c = st .records n in
-      let kind = dueKind tree c to t in
+      let kind = dueKind (system st) c to t in
       let m = messageDue c n to t kind in
       let due = not (eqb kind 0) in
       let number = sendNumber st n to t m due in
@@ -256,8 +256,8 @@ module _ (st : Station) (s : Stamped st) (v : Valid st) (w : Wide st) where
         (either-way (λ (r : Outcome). Stamped (r .station)) (forReplica (kindOf b)) _ _
         (either-way (λ (r : Outcome). Stamped (r .station)) (eqb (d .number) 0) _ _
         (answered-stamped n (d .image) (d .answer) (deliver-echoes (st .images n) n b)) s)
-        (either-way (λ (r : Outcome). Stamped (r .station)) (eqb (receiveOf tree (st .records n) n b .number) 0) _ _
-        (record-stamped n _ left (st .own) (receive-on (st .records n) n b) sub) s))
+        (either-way (λ (r : Outcome). Stamped (r .station)) (eqb (receiveOf (system st) (st .records n) n b .number) 0) _ _
+        (record-stamped n _ left (st .own) (receive-on (system st) (st .records n) n b) sub) s))
         (pool-stamped (st .images) left (st .own) (λ y i. inl (sub y i)))
 
   delivery-stamped : (k : ℕ) (kept : Bool) → Stamped (deliveryOf st k kept .station)
@@ -275,14 +275,14 @@ module _ (st : Station) (s : Stamped st) (v : Valid st) (w : Wide st) where
 
   pub stamped-next : (c : Call) → Typed c → Stamped (Rattle.steps.specs.Step.step st c .station)
   unfolding Rattle.steps.specs.Step.step dropOf switchOf
-  stamped-next (begin n a) t = hosted-stamped n _ (begin-on (st .records n) n a)
-  stamped-next (openRead n x) t = hosted-stamped n _ (open-on (st .records n) n x 0)
-  stamped-next (openWrite n x) t = hosted-stamped n _ (open-on (st .records n) n x 1)
-  stamped-next (setValue n x y) t = hosted-stamped n _ (set-on (st .records n) n x y)
-  stamped-next (found n x) t = hosted-stamped n _ (found-on (st .records n) n x)
-  stamped-next (reselect n live d) t = hosted-stamped n _ (reselect-on (st .records n) n live d)
-  stamped-next (requestCommit n) t = hosted-stamped n _ (request-on (st .records n) n)
-  stamped-next (abort n) t = hosted-stamped n _ (abort-on (st .records n) n)
+  stamped-next (begin n a) t = hosted-stamped n _ (begin-on (system st) (st .records n) n a)
+  stamped-next (openRead n x) t = hosted-stamped n _ (open-on (system st) (st .records n) n x 0)
+  stamped-next (openWrite n x) t = hosted-stamped n _ (open-on (system st) (st .records n) n x 1)
+  stamped-next (setValue n x y) t = hosted-stamped n _ (set-on (system st) (st .records n) n x y)
+  stamped-next (found n x) t = hosted-stamped n _ (found-on (system st) (st .records n) n x)
+  stamped-next (reselect n live d) t = hosted-stamped n _ (reselect-on (system st) (st .records n) n live d)
+  stamped-next (requestCommit n) t = hosted-stamped n _ (request-on (system st) (st .records n) n)
+  stamped-next (abort n) t = hosted-stamped n _ (abort-on (system st) (st .records n) n)
   stamped-next (send n to x) t = send-stamped n to x
   stamped-next (delivery k kept) t = delivery-stamped k kept
   stamped-next (drop k) t = either-way (λ (r : Outcome). Stamped (r .station)) (ltb k (length (st .pool))) _ _

@@ -23,7 +23,7 @@ use Rattle.protocol.specs.Refine.Simulate.{blank-kept}
 use Rattle.protocol.specs.Refine.Holders.{holders-as-read}
 use Rattle.history.specs.Ledger.{Ledger, nothingYet, note}
 use Rattle.history.specs.Claims.{Typed}
-use Rattle.history.proofs.Quorums.{rules}
+use Rattle.history.proofs.Quorums.{tree-sane, rules}
 use Rattle.history.proofs.Sim.{stateOf, holderOf, Owner, Sim}
 use Rattle.history.proofs.Quiet.{found-blank, no-bit}
 use Rattle.history.proofs.Books.{Present, Past, More, World}
@@ -60,7 +60,7 @@ pub good-next : (st : Station) (L : Ledger) (F : Past) → Good st L F → (c : 
     → Good (step st c .station) (note L (eventOf c (step st c))) (More F (step st c .station))
 good-next st L F g c t = record {
   world = world-next st L F (g .world) (g .wide) c t;
-  wide = wide-next st (g .wide) (g .world .valid) c t;
+  wide = wide-next st (g .wide) (g .world .valid) (g .world .sane .choices) c t;
   stamped = stamped-next st (g .stamped) (g .world .valid) (g .wide) c t;
 }
 
@@ -69,6 +69,7 @@ pub good-past : (st : Station) (L : Ledger) (F G : Past) → ((x : Tx) (t v : �
     → Good st L F → Good st L G
 good-past st L F G to from g = let w = g .world in let b = w .books in record {
   world = record {
+    sane = w .sane;
     state = w .state;
     log = w .log;
     sim = w .sim;
@@ -93,7 +94,7 @@ good-past st L F G to from g = let w = g .world in let b = w .books in record {
 
 -- ---- the blank station
 abbrev β : State ℕ
-β = blankState rules
+β = blankState (rules tree-sane)
 
 blank-row : (t : ℕ) → holderOf (blankAs shape) t ≡ none
 blank-row t = on (lt-or-le t objects) (λ h. rw (lt-ltb t objects h, blank-holder t h)) (λ h. rw (le-ltb t objects h))
@@ -111,8 +112,8 @@ blank-owner n = record {
   found = found-blank [] mostOpen;
 }
 
-blank-sim : (up : ℕ) → Sim (blankStation up) β []
-blank-sim up = let k = blank-kept rules in record {
+blank-sim : (up : ℕ) → Sim tree-sane (blankStation up) β []
+blank-sim up = let k = blank-kept (rules tree-sane) in record {
   kept = record { inv = k .inv; log = k .log; holders = holders-as-read _ _ _ _ (λ n t. sym (blank-row t)) (k .holders) };
   reads = record {
     r-version = λ n t. sym (blank-zero (versionField shape) t tt tt tt);
@@ -138,6 +139,7 @@ blank-present n = record {
 pub blank-good : (up : ℕ) (F : Past) → ((x : Tx) (t v : ℕ) → F x t v → ⊥) → Good (blankStation up) nothingYet F
 blank-good up F none-yet = record {
   world = record {
+    sane = tree-sane;
     state = β;
     log = [];
     sim = blank-sim up;

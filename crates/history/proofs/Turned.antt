@@ -24,7 +24,6 @@ use Rattle.replica.proofs.Delivered.{either-way, or-neither, refused-is, delive
 use Rattle.replica.proofs.Taken.{Taken, taken}
 use Rattle.coordinator.specs.declared.Coordinator.{Coordinator}
 use Rattle.coordinator.specs.declared.Step.{Step}
-use Rattle.coordinator.specs.System.{tree}
 use Rattle.coordinator.specs.State.{openPhase, votingPhase, finishingPhase, placeOf, objectAt, isOpen, awaited, ready}
 use Rattle.coordinator.specs.Calls.{noNode}
 use Rattle.arrivals.specs.Receive.{forReplica, receiveOf}
@@ -34,7 +33,7 @@ use Rattle.clauses.proofs.Facts.{Meets}
 use Rattle.clauses.proofs.Parts.{true-T, false-T, by-test, on-cond}
 use Rattle.clauses.proofs.Places.{place-open}
 use Rattle.due.specs.Due.{entriesOf, fetchTo, askTo, outcomeTo, yieldTo, messageDue}
-use Rattle.steps.specs.Station.{Station, putAt, without}
+use Rattle.steps.specs.Station.{Station, system, putAt, without}
 use Rattle.steps.specs.Step.{Call, begin, openRead, openWrite, setValue, found, reselect, requestCommit, abort, send, delivery, drop, switch, Outcome}
 use Rattle.steps.specs.Step.{refusedWith, putting, full, sendNumber, hosted, answered, atReplica, atCoordinator, arriving, deliveryOf, dropOf, switchOf}
 use Rattle.steps.specs.Step.{sendOf}
@@ -72,17 +71,17 @@ encoded-timely images records a f orders commits yeses dones = record {
     back P {x} {y} e p = subst (λ (z : Tx). P x (z .owner) (z .serial)) (sym (tx-of a f)) (subst (λ (i : ℕ). P i (a .owner) (a .serial)) (sym e) p)
 
 -- ---- a message that a coordinator sends
-module _ (st : Station) (t : InTurn st) (n : ℕ) (m : Meets tree (st .records n)) (f : Rattle.clauses.proofs.Fits.Fits (st .records n)) (to object : ℕ) where
+module _ (st : Station) (t : InTurn st) (n : ℕ) (m : Meets (system st) (st .records n)) (f : Rattle.clauses.proofs.Fits.Fits (st .records n)) (to object : ℕ) where
   abbrev c : Coordinator
   c = st .records n
 
   -- what is due goes to a node of the quorum, to a participant, to an awaited one
   due-to : (P : ℕ → Type 0) → P 0 → (c .phase ≡ openPhase → contains (c .quorum) to ≡ true → P 1)
       → (c .phase ≡ votingPhase → contains (c .participants) to ≡ true → P 3)
-      → (c .phase ≡ finishingPhase → contains (awaited c) to ≡ true → P 5) → P 7 → P (dueKind tree c to object)
+      → (c .phase ≡ finishingPhase → contains (awaited c) to ≡ true → P 5) → P 7 → P (dueKind (system st) c to object)
   unfolding dueKind openDue votingDue finishingDue
   due-to P z a b d e = by (eqb (c .phase) 1) (eqb (c .phase) 2) (eqb (c .phase) 3)
-      (contains (c .quorum) to && not (ready tree (objectAt c object))) (contains (c .participants) to && not (contains (c .yes) to))
+      (contains (c .quorum) to && not (ready (system st) (objectAt c object))) (contains (c .participants) to && not (contains (c .yes) to))
       (contains (awaited c) to && not (contains (c .done) to)) (eqb (c .outcome) 1 && not (eqb (getD (c .rivals) to 0) 0)) refl refl refl
       (λ q. and-true _ _ q .0) (λ q. and-true _ _ q .0) (λ q. and-true _ _ q .0)
     where
@@ -177,7 +176,7 @@ module _ (st : Station) (t : InTurn st) (n : ℕ) (m : Meets tree (st .records n
         (λ e. absurd (no-both e refl)) (λ e. absurd (let y : ⊥ = omega (arith, e) in y)) (λ e. absurd (let y : ⊥ = omega (arith, e) in y))
         (λ e. absurd (let y : ⊥ = omega (arith, e) in y))
 
-    pub due-timely : (dueKind tree c to object ≡ 0 → ⊥) → Fine (messageDue c n to object (dueKind tree c to object))
+    pub due-timely : (dueKind (system st) c to object ≡ 0 → ⊥) → Fine (messageDue c n to object (dueKind (system st) c to object))
     unfolding messageDue
     due-timely = due-to (λ (k : ℕ). (k ≡ 0 → ⊥) → Fine (messageDue c n to object k)) (λ e. absurd (e refl)) (λ p q e. fetch-timely p q)
         (λ p q e. ask-timely p q) (λ p q e. outcome-timely p q) (λ e. yield-timely)
@@ -202,7 +201,7 @@ module _ (st : Station) (L : Ledger) (F : Past) (w : World st L F) (g : Wide st)
 
     coordinator-turn : (n : ℕ) → Kept (atCoordinator st k kept n b)
     unfolding atCoordinator
-    coordinator-turn n = either-way Kept (eqb (receiveOf tree (st .records n) n b .number) 0) _ _
+    coordinator-turn n = either-way Kept (eqb (receiveOf (system st) (st .records n) n b .number) 0) _ _
         (record-turn st t n _ (receive-goes st t (w .valid) n b (t .waits b in-pool)) pool (st .own) sub) t
 
     -- at a replica, which is the node that it names
@@ -275,7 +274,7 @@ module _ (st : Station) (L : Ledger) (F : Past) (w : World st L F) (g : Wide st)
   unfolding sendOf sendNumber
   send-turn n to object =
       let c = st .records n in
-      let kind = dueKind tree c to object in
+      let kind = dueKind (system st) c to object in
       let a = messageDue c n to object kind in
       let number = sendNumber st n to object a (not (eqb kind 0)) in
       on-cond Kept (eqb number 0) (cond (not (eqb kind 0)) (putting (encode a) st) (Rattle.steps.specs.Step.taken 0 st)) (refusedWith number st)

@@ -11,17 +11,14 @@ use borrow.Author.Tests.{ltb-true, lt-ltb}
 use Rattle.numbers.specs.Sizes.{mostOpen}
 use Rattle.mask.specs.Mask.{contains, only, joined, within}
 use Rattle.mask.proofs.Tests.{T-true, and-left, or-cases}
-use Rattle.quorum.specs.declared.Kind.the-variants.{Write}
-use Rattle.quorum.specs.Quorum.{isQuorum}
 use Rattle.coordinator.specs.declared.Object.{Object}
 use Rattle.coordinator.specs.declared.Coordinator.{Coordinator}
-use Rattle.coordinator.specs.System.{tree}
 use Rattle.coordinator.specs.State.{idlePhase, openPhase, votingPhase, finishingPhase, placeOf, objectAt, isOpen, ready, settled, allSettled}
 use Rattle.coordinator.specs.State.{awaited, idleAfter}
 use Rattle.coordinator.specs.Calls.{withPhase, requested, endedAborted}
 use Rattle.clauses.proofs.Facts.{Meets}
 use Rattle.clauses.proofs.Places.{place-open, across-at}
-use Rattle.steps.specs.Station.{Station, putAt}
+use Rattle.steps.specs.Station.{Station, system, putAt}
 use Rattle.protocol.specs.Table.{put, In}
 use Rattle.protocol.specs.Rules.{Mode, unused}
 use Rattle.protocol.specs.State.{Tx, Tx-discrete, tx-path, Phase, fresh, voting, committed, aborted, Contents, History, State}
@@ -51,15 +48,15 @@ module _ (st : Station) (L : Ledger) (F : Past) (w : World st L F) (n : ℕ) whe
   h = w .state .history
 
   -- what a fresh transaction found, other than the present one of n, is not touched by a change of n's record
-  pub elsewhere : (c' : Coordinator) (y : Tx) (t v : ℕ) → (y ≡ x → ⊥) → Finds st y t v → Shows (putAt (st .records) n c' (y .owner)) (y .serial) t v
-  elsewhere c' y t v e f = put-all (λ i d. (i ≡ y .owner) → Shows (st .records i) (y .serial) t v → Shows d (y .serial) t v) (st .records) n c'
+  pub elsewhere : (c' : Coordinator) (y : Tx) (t v : ℕ) → (y ≡ x → ⊥) → Finds st y t v → Shows (system st) (putAt (st .records) n c' (y .owner)) (y .serial) t v
+  elsewhere c' y t v e f = put-all (λ i d. (i ≡ y .owner) → Shows (system st) (st .records i) (y .serial) t v → Shows (system st) d (y .serial) t v) (st .records) n c'
       (λ q g. absurd (e (tx-path y x (sym q) (sym (g .present))))) (λ i q r g. g) (y .owner) refl f
 
   -- whatever was put still tells the truth
-  pub puts-on : {σ' : State ℕ} → Step rules (w .state) σ' → (b : List ℕ) → In b (L .puts) → Tells (σ' .history) (σ' .votes) (σ' .sent) b
+  pub puts-on : {σ' : State ℕ} → Step (rules (w .sane)) (w .state) σ' → (b : List ℕ) → In b (L .puts) → Tells (σ' .history) (σ' .votes) (σ' .sent) b
   puts-on s b i = tells-on (onward (step-grows s)) b (w .books .puts-true b i)
 
-  module _ (σ' : State ℕ) (l' : List Tx) (c' : Coordinator) (pool : List (List ℕ)) (sim' : Sim (changed st n c' pool) σ' l') (m : Meets tree c') where
+  module _ (σ' : State ℕ) (l' : List Tx) (c' : Coordinator) (pool : List (List ℕ)) (sim' : Sim (w .sane) (changed st n c' pool) σ' l') (m : Meets (system st) c') where
     abbrev st' : Station
     st' = changed st n c' pool
 
@@ -71,8 +68,9 @@ module _ (st : Station) (L : Ledger) (F : Past) (w : World st L F) (n : ℕ) whe
         → ((y : Tx) (t : ℕ) → Asked (σ' .history) y → σ' .history .contents y .mode t ≢ unused → More F st' y t (σ' .history .contents y .found t))
         → World st' L' (More F st')
     turned L' sub a b d e f fp g i j =
-        let meets = put-all (λ (k : ℕ) (z : Coordinator). Meets tree z) (st .records) n c' m (λ k q. w .valid .records k) in
+        let meets = put-all (λ (k : ℕ) (z : Coordinator). Meets (system st) z) (st .records) n c' m (λ k q. w .valid .records k) in
         record {
+          sane = w .sane;
           state = σ';
           log = l';
           sim = sim';
@@ -81,7 +79,7 @@ module _ (st : Station) (L : Ledger) (F : Past) (w : World st L F) (n : ℕ) whe
         }
 
   -- ---- votes asked for
-  module _ (party : ℕ) (is-open : c .phase ≡ openPhase) (counts : isQuorum Write party ≡ true) (m : Meets tree (requested c party)) where
+  module _ (party : ℕ) (is-open : c .phase ≡ openPhase) (counts : system st .isWrite party ≡ true) (m : Meets (system st) (requested c party)) where
     placed : (t : ℕ) → isOpen c t ≡ true → objectAt c t .object ≡ t
     placed t e = place-open (c .objects) (c .count) t (ltb-true (placeOf c t) mostOpen e) .1 .1
 
@@ -97,7 +95,7 @@ module _ (st : Station) (L : Ledger) (F : Past) (w : World st L F) (n : ℕ) whe
     abbrev h₁ : History ℕ
     h₁ = τ₁ .history
 
-    sim₁ : Sim (changed st n c₁ (st .pool)) τ₁ (w .log)
+    sim₁ : Sim (w .sane) (changed st n c₁ (st .pool)) τ₁ (w .log)
     sim₁ = sim-asked st (w .state) (w .log) (w .sim) n party is-open counts placed
 
     x-fresh : h .phase x ≡ fresh
@@ -117,16 +115,16 @@ module _ (st : Station) (L : Ledger) (F : Past) (w : World st L F) (n : ℕ) whe
     asked-before y e a = on a (λ q. inl (sym e ∙ q)) (λ q. inr (sym e ∙ q))
 
     -- every open object is ready, by the clauses of the record after the call
-    all-ready : (t : ℕ) → isOpen c t ≡ true → ready tree (objectAt c t) ≡ true
+    all-ready : (t : ℕ) → isOpen c t ≡ true → ready (system st) (objectAt c t) ≡ true
     unfolding requested allSettled
     all-ready t e =
         let p = placeOf c t in
         let z = place-open (c .objects) (c .count) t (ltb-true p mostOpen e) in
-        let a = across-at (λ i y. not (ltb i (c .count)) || settled tree y) (c .objects)
+        let a = across-at (λ i y. not (ltb i (c .count)) || settled (system st) y) (c .objects)
         (true-T _ (m .party .full (m .party .asked-for refl) .all-settled)) p (z .1 .0) in
-        or-cases (ready tree (objectAt c t) ≡ true) (not (ltb p (c .count))) (settled tree (objectAt c t))
+        or-cases (ready (system st) (objectAt c t) ≡ true) (not (ltb p (c .count))) (settled (system st) (objectAt c t))
         (λ q. absurd (T-not (ltb p (c .count)) q (true-T _ (lt-ltb p (c .count) (z .0)))))
-        (λ q. T-true _ (and-left (ready tree (objectAt c t)) _ q)) a
+        (λ q. T-true _ (and-left (ready (system st) (objectAt c t)) _ q)) a
 
     same-mode : (t : ℕ) → k₁ .mode t ≡ contentsOf c .mode t
     unfolding requested
@@ -136,7 +134,7 @@ module _ (st : Station) (L : Ledger) (F : Past) (w : World st L F) (n : ℕ) whe
     unfolding requested
     same-open t = (refl, refl)
 
-    shown₁ : (t : ℕ) → isOpen c t ≡ true → Shows c₁ (c .serial) t (objectAt c t .value)
+    shown₁ : (t : ℕ) → isOpen c t ≡ true → Shows (system st) c₁ (c .serial) t (objectAt c t .value)
     unfolding requested
     shown₁ t e = record { begun = λ z. let q : ⊥ = omega arith in q; present = refl; opened = e; is-ready = all-ready t e; value = refl }
 
@@ -202,8 +200,8 @@ module _ (st : Station) (L : Ledger) (F : Past) (w : World st L F) (n : ℕ) whe
         (λ y t a q. on (moved y)
         (λ e. let o = touched t (isOpen c t) refl (λ r. q (ap (λ (u : Contents ℕ). u .mode t) (has y e) ∙ same-mode t ∙ r)) in
         subst (λ (u : Tx). More F (changed st n c₁ (st .pool)) u t (h₁ .contents u .found t)) (sym e)
-        (inr (put-all (λ i d. (i ≡ n) → Shows d (c .serial) t (h₁ .contents x .found t)) (st .records) n c₁
-        (λ r. subst (Shows c₁ (c .serial) t) (sym (ap (λ (u : Contents ℕ). u .found t) (has x refl) ∙ ap (λ (u : Object). u .value) (same-open t .1)))
+        (inr (put-all (λ i d. (i ≡ n) → Shows (system st) d (c .serial) t (h₁ .contents x .found t)) (st .records) n c₁
+        (λ r. subst (Shows (system st) c₁ (c .serial) t) (sym (ap (λ (u : Contents ℕ). u .found t) (has x refl) ∙ ap (λ (u : Object). u .value) (same-open t .1)))
         (shown₁ t o))
         (λ i r s. absurd (r s)) n refl)))
         (λ z. subst (λ (u : Contents ℕ). More F (changed st n c₁ (st .pool)) y t (u .found t)) (sym (z .2))
@@ -233,13 +231,13 @@ module _ (st : Station) (L : Ledger) (F : Past) (w : World st L F) (n : ℕ) whe
     phase-moved y = put-cases Tx-discrete (h .phase) x end y
 
     -- who is fresh is not the present one
-    pub fresh-else : (c' : Coordinator) (y : Tx) (t v : ℕ) → F y t v → p₂ y ≡ fresh → Shows (putAt (st .records) n c' (y .owner)) (y .serial) t v
+    pub fresh-else : (c' : Coordinator) (y : Tx) (t v : ℕ) → F y t v → p₂ y ≡ fresh → Shows (system st) (putAt (st .records) n c' (y .owner)) (y .serial) t v
     fresh-else c' y t v f q = on (phase-moved y) (λ z. absurd (not-fresh (sym (z .1) ∙ q)))
         (λ z. elsewhere c' y t v (z .0) (w .books .found .still y t v f (sym (z .1) ∙ q)))
 
   -- ---- an abort
   module _ (undecided : (c .phase ≡ openPhase) ⊎ (c .phase ≡ votingPhase)) (pool : List (List ℕ)) (L' : Ledger) (told : SameTold L L')
-      (m : Meets tree (endedAborted c)) where
+      (m : Meets (system st) (endedAborted c)) where
     abbrev τ₂ : State ℕ
     τ₂ = doAbort (w .state) x
 
@@ -343,7 +341,7 @@ module _ (st : Station) (L : Ledger) (F : Past) (w : World st L F) (n : ℕ) whe
         of : (y : Tx) → y ≡ x → h .contents y ≡ contentsOf c
         of y e = ap (h .contents) e ∙ x-contents
 
-    pub commit-world : Meets tree c₃ → ((b : List ℕ) → In b pool → In b (st .pool)) → L' .pool ≡ pool → L' .log ≡ L .log
+    pub commit-world : Meets (system st) c₃ → ((b : List ℕ) → In b pool → In b (st .pool)) → L' .pool ≡ pool → L' .log ≡ L .log
         → L' .committed ≡ x ∷ L .committed → L' .dones ≡ L .dones → L' .puts ≡ L .puts
         → World (changed st n c₃ pool) L' (More F (changed st n c₃ pool))
     commit-world m sub a b d e ep =
@@ -379,7 +377,7 @@ module _ (st : Station) (L : Ledger) (F : Past) (w : World st L F) (n : ℕ) whe
         (λ q. let o = m .votes .else-aborted finishing (λ g. q (m .votes .agreed-commits finishing g)) in
         let p = w .sim .owners n .when-aborted finishing o in clash (cc))
 
-    pub idle-world : Meets tree c₄ → ((b : List ℕ) → In b pool → In b (st .pool)) → L' .pool ≡ pool → L' .log ≡ L .log → L' .committed ≡ L .committed
+    pub idle-world : Meets (system st) c₄ → ((b : List ℕ) → In b pool → In b (st .pool)) → L' .pool ≡ pool → L' .log ≡ L .log → L' .committed ≡ L .committed
         → L' .dones ≡ L .dones → L' .puts ≡ L .puts → World (changed st n c₄ pool) L' (More F (changed st n c₄ pool))
     idle-world m sub a b d e ep = quiet st L F w n c₄ pool L'
         (idle-owner h (w .state .votes) (w .state .sent) n c (w .sim .owners n) (c .timestamp) (c .outcome)) m sub a b

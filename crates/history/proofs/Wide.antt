@@ -19,16 +19,16 @@ use Rattle.replica.specs.Receive.{refusal, step, Delivered, deliver}
 use Rattle.replica.proofs.Delivered.{cleared, either-way}
 use Rattle.coordinator.specs.declared.Coordinator.{Coordinator}
 use Rattle.coordinator.specs.declared.Step.{Step}
-use Rattle.coordinator.specs.System.{tree}
+use Rattle.coordinator.specs.System.{System}
 use Rattle.coordinator.specs.Calls.{noNode, foundOf}
 use Rattle.arrivals.specs.Receive.{forReplica, receiveOf}
 use Rattle.due.specs.Kind.{dueKind}
 use Rattle.due.specs.Due.{messageDue}
 use Rattle.coordinator.proofs.Theorems.{found-leaves}
-use Rattle.clauses.proofs.Quorums.{tree-quorums}
+use Rattle.clauses.proofs.Quorums.{Quorums}
 use Rattle.clauses.proofs.Fits.{Fits, blank-fits, begin-fits, open-fits, set-fits, reselect-fits, request-fits, abort-fits}
 use Rattle.clauses_arrive.proofs.Fits.{receive-fits}
-use Rattle.steps.specs.Station.{Own, Station, blankStation, putAt}
+use Rattle.steps.specs.Station.{Own, Station, system, blankStation, putAt}
 use Rattle.steps.specs.Step.{Call, begin, openRead, openWrite, setValue, found, reselect, requestCommit, abort, send, delivery, drop, switch}
 use Rattle.steps.specs.Step.{Outcome, refusedWith, taken, putting, sendNumber, hosted, answered, atReplica, atCoordinator, arriving, deliveryOf, dropOf}
 use Rattle.steps.specs.Step.{switchOf, sendOf}
@@ -42,9 +42,9 @@ pub record Wide (st : Station) : Type 0 where
   pub beyond : (n : ℕ) → nodes ≤ n → st .images n ≡ blankAs shape
 
 pub blank-wide : (on : ℕ) → Wide (blankStation on)
-blank-wide on = record { fits = λ n. blank-fits tree; beyond = λ n h. refl }
+blank-wide on = record { fits = λ n. blank-fits (system (blankStation on)); beyond = λ n h. refl }
 
-module _ (st : Station) (w : Wide st) (v : Valid st) where
+module _ (st : Station) (w : Wide st) (v : Valid st) (q : Quorums (system st)) where
   -- one record changed, whatever becomes of pool and nodes
   record-wide : (n : ℕ) (c : Coordinator) (pool : List (List ℕ)) (own : Own) → Fits c
       → Wide (record { images = st .images; records = putAt (st .records) n c; pool = pool; own = own })
@@ -92,8 +92,8 @@ module _ (st : Station) (w : Wide st) (v : Valid st) where
 
   coordinator-wide : (k : ℕ) (kept : Bool) (n : ℕ) (b : List ℕ) → Bytes b → Wide (atCoordinator st k kept n b .station)
   unfolding atCoordinator
-  coordinator-wide k kept n b y = either-way (λ (r : Outcome). Wide (r .station)) (eqb (receiveOf tree (st .records n) n b .number) 0) _ _
-      (record-wide n _ _ (st .own) (receive-fits tree tree-quorums (st .records n) n (v .records n) (w .fits n) b y)) w
+  coordinator-wide k kept n b y = either-way (λ (r : Outcome). Wide (r .station)) (eqb (receiveOf (system st) (st .records n) n b .number) 0) _ _
+      (record-wide n _ _ (st .own) (receive-fits (system st) q (st .records n) n (v .records n) (w .fits n) b y)) w
 
   delivery-wide : (k : ℕ) (kept : Bool) → Wide (deliveryOf st k kept .station)
   unfolding deliveryOf arriving
@@ -116,26 +116,26 @@ module _ (st : Station) (w : Wide st) (v : Valid st) where
   send-wide : (n to t : ℕ) → Wide (sendOf st n to t .station)
   unfolding sendOf
   send-wide n to t =
-      let kind = dueKind tree (st .records n) to t in
+      let kind = dueKind (system st) (st .records n) to t in
       let m = messageDue (st .records n) n to t kind in
       let due = not (eqb kind 0) in
       let number = sendNumber st n to t m due in
       either-way (λ (r : Outcome). Wide (r .station)) (eqb number 0) (cond due (putting (encode m) st) (taken 0 st)) (refusedWith number st)
       (either-way (λ (r : Outcome). Wide (r .station)) due (putting (encode m) st) (taken 0 st) (pool-wide (st .pool ++ (encode m ∷ [])) (st .own)) w) w
 
-  found-wide : (n t : ℕ) → Fits (foundOf tree (st .records n) n t .coordinator)
-  found-wide n t = subst Fits (sym (found-leaves tree (st .records n) n t)) (w .fits n)
+  found-wide : (n t : ℕ) → Fits (foundOf (system st) (st .records n) n t .coordinator)
+  found-wide n t = subst Fits (sym (found-leaves (system st) (st .records n) n t)) (w .fits n)
 
   pub wide-next : (c : Call) → Typed c → Wide (Rattle.steps.specs.Step.step st c .station)
   unfolding Rattle.steps.specs.Step.step dropOf switchOf
-  wide-next (begin n a) t = hosted-wide n _ (begin-fits tree tree-quorums (st .records n) n (v .records n) (w .fits n) a (t .1 .0) (t .0) (t .1 .1))
-  wide-next (openRead n t) u = hosted-wide n _ (open-fits tree tree-quorums (st .records n) n (v .records n) (w .fits n) t 0 (omega arith))
-  wide-next (openWrite n t) u = hosted-wide n _ (open-fits tree tree-quorums (st .records n) n (v .records n) (w .fits n) t 1 (omega arith))
-  wide-next (setValue n t x) u = hosted-wide n _ (set-fits tree tree-quorums (st .records n) n (v .records n) (w .fits n) t x u)
+  wide-next (begin n a) t = hosted-wide n _ (begin-fits (system st) q (st .records n) n (v .records n) (w .fits n) a (t .1 .0) (t .0) (t .1 .1))
+  wide-next (openRead n t) u = hosted-wide n _ (open-fits (system st) q (st .records n) n (v .records n) (w .fits n) t 0 (omega arith))
+  wide-next (openWrite n t) u = hosted-wide n _ (open-fits (system st) q (st .records n) n (v .records n) (w .fits n) t 1 (omega arith))
+  wide-next (setValue n t x) u = hosted-wide n _ (set-fits (system st) q (st .records n) n (v .records n) (w .fits n) t x u)
   wide-next (found n t) u = hosted-wide n _ (found-wide n t)
-  wide-next (reselect n live d) u = hosted-wide n _ (reselect-fits tree tree-quorums (st .records n) n (v .records n) (w .fits n) live d (u .0) (u .1))
-  wide-next (requestCommit n) u = hosted-wide n _ (request-fits tree tree-quorums (st .records n) n (v .records n) (w .fits n))
-  wide-next (abort n) u = hosted-wide n _ (abort-fits tree tree-quorums (st .records n) n (v .records n) (w .fits n))
+  wide-next (reselect n live d) u = hosted-wide n _ (reselect-fits (system st) q (st .records n) n (v .records n) (w .fits n) live d (u .0) (u .1))
+  wide-next (requestCommit n) u = hosted-wide n _ (request-fits (system st) q (st .records n) n (v .records n) (w .fits n))
+  wide-next (abort n) u = hosted-wide n _ (abort-fits (system st) q (st .records n) n (v .records n) (w .fits n))
   wide-next (send n to t) u = send-wide n to t
   wide-next (delivery k kept) u = delivery-wide k kept
   wide-next (drop k) u = either-way (λ (r : Outcome). Wide (r .station)) (ltb k (length (st .pool))) _ _ (pool-wide _ (st .own)) w

@@ -11,8 +11,6 @@ use lib.ListN.{length, getD}
 use Rattle.numbers.specs.Sizes.{nodes, objects, mostWaiting}
 use Rattle.mask.specs.Mask.{contains}
 use Rattle.numbers.specs.Numbers.{outOfTurn, poolFull}
-use Rattle.quorum.specs.declared.Kind.the-variants.{Read}
-use Rattle.quorum.specs.Quorum.{isQuorum}
 use Rattle.wire.specs.declared.Entry.{Entry}
 use Rattle.wire.specs.Message.{ask, outcome}
 use Rattle.wire.specs.Decode.{kindOf, decode}
@@ -20,8 +18,8 @@ use Rattle.wire.specs.Items.{wordOf}
 use Rattle.image.specs.Layout.{value, version}
 use Rattle.coordinator.specs.declared.Coordinator.{Coordinator}
 use Rattle.coordinator.specs.State.{idlePhase, committed, objectAt, isOpen, ready}
-use Rattle.coordinator.specs.System.{tree}
-use Rattle.steps.specs.Station.{Station, blankStation}
+use Rattle.coordinator.specs.System.{System}
+use Rattle.steps.specs.Station.{Station, system, blankStation}
 use Rattle.steps.specs.Step.{Call, begin, openRead, openWrite, setValue, found, reselect, requestCommit, abort, send, delivery, drop, switch, step}
 use Rattle.steps.specs.Run.{after, Event, eventOf, trace}
 use Rattle.protocol.specs.Table.{In, Suffix, times}
@@ -53,17 +51,17 @@ abbrev pub AllTyped : List Call → Type 0
 AllTyped [] = Unit {0}
 AllTyped (c ∷ cs) = Typed c × AllTyped cs
 
--- A record's present transaction has this serial, has the object open and ready, and found the value.
-pub record Shows (c : Coordinator) (serial t v : ℕ) : Type 0 where
+-- A record's present transaction has this serial, has the object open and, by the quorums, ready, and found the value.
+pub record Shows (s : System) (c : Coordinator) (serial t v : ℕ) : Type 0 where
   pub begun : c .phase ≢ idlePhase
   pub present : c .serial ≡ serial
   pub opened : isOpen c t ≡ true
-  pub is-ready : ready tree (objectAt c t) ≡ true
+  pub is-ready : ready s (objectAt c t) ≡ true
   pub value : objectAt c t .value ≡ v
 
 -- In the station the transaction is its owner's present one, and found the value for the object.
 abbrev pub Finds : Station → Tx → ℕ → ℕ → Type 0
-Finds st x t v = Shows (st .records (x .owner)) (x .serial) t v
+Finds st x t v = Shows (system st) (st .records (x .owner)) (x .serial) t v
 
 -- the entries of a message are a transaction's objects with their modes, and of what it writes the new values
 pub record Carries (L : Ledger) (x : Tx) (es : List Entry) : Type 0 where
@@ -140,7 +138,8 @@ module _ (on : ℕ) where
     pub sourced : (x : Tx) (t v : ℕ) → Finds (reached cs) x t v
         → (v ≡ 0) ⊎ ((y : Tx) × In y (told cs .committed) × (told cs .mode y t ≡ write) × (v ≡ told cs .new y t))
     -- (c) if it is settled, then in every read quorum, larger sets too, whichever nodes are on, every newest copy has replay's last value
-    pub newest : Settled (told cs) → (q : ℕ) → isQuorum Read q ≡ true → (n t : ℕ) → n < nodes → contains q n ≡ true → t < objects → Newest (reached cs) q n t
+    pub newest : Settled (told cs) → (q : ℕ) → system (reached cs) .isRead q ≡ true → (n t : ℕ) → n < nodes → contains q n ≡ true
+        → t < objects → Newest (reached cs) q n t
         → value (reached cs .images n) t ≡ lastValue (told cs) t
 
   -- The numbers of deliveries: 5 only where no such message waits, 12 as above, else 0. So whatever waits is accepted where it goes: it is never garbled,

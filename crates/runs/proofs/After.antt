@@ -42,7 +42,7 @@ use Rattle.pool.specs.Pool.{check as checkPool}
 use Rattle.pool.specs.Change.{added, removed}
 use Rattle.pool.proofs.Numbers.{passed-number, Room, fine, add-after}
 use Rattle.pool.proofs.Laws.{length-waiting, getD-waiting, waiting-added, check-added, waiting-removed, check-removed}
-use Rattle.steps.specs.Station.{Station, putAt, withImage, withRecord, withPool, nowOn, sent, without}
+use Rattle.steps.specs.Station.{Station, system, putAt, withImage, withRecord, withPool, nowOn, sent, without}
 use Rattle.steps.specs.Step.{Call, begin, openRead, openWrite, setValue, found, reselect, requestCommit, abort, send, delivery, drop, switch, Outcome}
 use Rattle.steps.specs.Step.{refusedWith, taken, putting, whenOff, hosted, full, sendNumber, sendOf, takenOut, answered, atReplica, atCoordinator, arriving}
 use Rattle.steps.specs.Step.{deliveryOf, dropOf, switchOf, step}
@@ -63,7 +63,7 @@ use Rattle.runs.proofs.Kept.{Kept, same-kept, own-is, none-damaged, hos
 -- what is known of a station that steps reached: its records are records, and its images have their length
 pub record Sane (st : Station) : Type 0 where
   pub fits : (n : ℕ) → Fits (st .records n)
-  pub meets : (n : ℕ) → Meets tree (st .records n)
+  pub meets : (n : ℕ) → Meets (system st) (st .records n)
   pub sized : (n : ℕ) → length (st .images n) ≡ imageSize shape
 
 told-zero : (f : ℕ) (o : Outcome) → f ≡ 0 → told f o ≡ answerWith (o .number) (o .answer)

@@ -9,11 +9,14 @@ use Rattle.numbers.specs.Sizes.{nodes}
 use Rattle.image.specs.Layout.{shape}
 use Rattle.image.specs.Blank.{blankAs}
 use Rattle.coordinator.specs.declared.Coordinator.{Coordinator}
+use Rattle.coordinator.specs.System.{System, tree}
 use Rattle.coordinator.specs.State.{idlePhase, blankRecord}
 
--- What is of the station itself and of none of its nodes: the mask of the nodes that are on.
+-- What is of the station itself and of none of its nodes: the mask of the nodes that are on, and the quorums that all thirteen work by (the tree, the
+-- one instance so far).
 pub record Own : Type 0 where
   pub on : ℕ
+  pub system : System
 
 -- By node its image (the bytes) and its record; the pool, the waiting messages (the bytes) in sending order; what is the station's own.
 -- A number above 12 is no node: what stands there is blank and stays so.
@@ -23,9 +26,12 @@ pub record Station : Type 0 where
   pub pool : List (List ℕ)
   pub own : Own
 
+abbrev pub system : Station → System
+system st = st .own .system
+
 -- the station's own part of a blank station
 abbrev pub blankOwn : ℕ → Own
-blankOwn on = record { on = on }
+blankOwn on = record { on = on; system = tree }
 
 -- "A station is blank when its 13 images are, no message waits, and every booking end is idle with last serial and stamp 0." Any nodes may be on.
 abbrev pub blankStation : ℕ → Station
@@ -54,7 +60,7 @@ withOwn st own = record { images = st .images; records = st .records; pool = st 
 
 -- others are on, and the rest of what is the station's own stays
 abbrev pub nowOn : Own → ℕ → Own
-nowOn own on = record { on = on }
+nowOn own on = record { on = on; system = own .system }
 
 abbrev pub withOn : Station → ℕ → Station
 withOn st on = withOwn st (nowOn (st .own) on)

@@ -19,12 +19,11 @@ use Rattle.replica.specs.Receive.{Delivered, deliver}
 use Rattle.coordinator.specs.declared.Coordinator.{Coordinator}
 use Rattle.coordinator.specs.declared.BeginWith.{BeginWith}
 use Rattle.coordinator.specs.declared.Step.{Step}
-use Rattle.coordinator.specs.System.{tree}
 use Rattle.coordinator.specs.Calls.{noNode, beginOf, openOf, setOf, foundOf, reselectOf, requestCommitOf, abortOf}
 use Rattle.arrivals.specs.Receive.{forReplica, receiveOf}
 use Rattle.due.specs.Kind.{noKind, dueKind, dueRefusals}
 use Rattle.due.specs.Due.{messageDue}
-use Rattle.steps.specs.Station.{Station, withImage, withRecord, withPool, withOn, sent, without}
+use Rattle.steps.specs.Station.{Station, system, withImage, withRecord, withPool, withOn, sent, without}
 
 -- ---- what a step is asked to do; a number is a node's unless it says otherwise
 pub data Call : Type 0 where
@@ -84,7 +83,7 @@ sendNumber st n to object m due =
 
 unfoldable pub sendOf : Station → ℕ → ℕ → ℕ → Outcome
 sendOf st n to object =
-    let kind = dueKind tree (st .records n) to object in
+    let kind = dueKind (system st) (st .records n) to object in
     let m = messageDue (st .records n) n to object kind in
     let due = not (eqb kind noKind) in
     let number = sendNumber st n to object m due in
@@ -108,7 +107,7 @@ atReplica st k kept n b =
 -- at a coordinator: the step's answer is what the message brought about
 unfoldable pub atCoordinator : Station → ℕ → Bool → ℕ → List ℕ → Outcome
 atCoordinator st k kept n b =
-    let s = receiveOf tree (st .records n) n b in
+    let s = receiveOf (system st) (st .records n) n b in
     cond (eqb (s .number) 0) (taken (s .answer) (withRecord (takenOut st k kept) n (s .coordinator))) (refusedWith (s .number) st)
 
 -- at the node that the message names; one that is off does nothing
@@ -133,13 +132,13 @@ switchOf st n up = cond (noNode n) (refusedWith stranger st) (taken 0 (withOn st
 
 -- ---- the step
 unfoldable pub step : Station → Call → Outcome
-step st (begin n w) = hosted st n (beginOf tree (st .records n) n w)
+step st (begin n w) = hosted st n (beginOf (system st) (st .records n) n w)
 step st (openRead n object) = hosted st n (openOf (st .records n) n object 0)
 step st (openWrite n object) = hosted st n (openOf (st .records n) n object 1)
 step st (setValue n object value) = hosted st n (setOf (st .records n) n object value)
-step st (found n object) = hosted st n (foundOf tree (st .records n) n object)
-step st (reselect n live distances) = hosted st n (reselectOf tree (st .records n) n live distances)
-step st (requestCommit n) = hosted st n (requestCommitOf tree (st .records n) n)
+step st (found n object) = hosted st n (foundOf (system st) (st .records n) n object)
+step st (reselect n live distances) = hosted st n (reselectOf (system st) (st .records n) n live distances)
+step st (requestCommit n) = hosted st n (requestCommitOf (system st) (st .records n) n)
 step st (abort n) = hosted st n (abortOf (st .records n) n)
 step st (send n to object) = sendOf st n to object
 step st (delivery k kept) = deliveryOf st k kept
