@@ -13,9 +13,7 @@ use borrow.Author.Tests.{eqb-true, eqb-false}
 use Rattle.numbers.specs.Sizes.{mostOpen, highest}
 use Rattle.mask.specs.Mask.{contains, joined, within}
 use Rattle.mask.proofs.Tests.{and-both, and-left, and-right, or-cases, T-true}
-use Rattle.quorum.specs.declared.Kind.the-variants.{Write}
 use Rattle.quorum.specs.Tree.{root}
-use Rattle.quorum.specs.Quorum.{isQuorum}
 use Rattle.quorum.specs.Nearest.{maskOf}
 use Rattle.quorum.proofs.Theorems.{root-in-write}
 use Rattle.coordinator.specs.declared.Object.{Object}
@@ -32,16 +30,17 @@ use Rattle.clauses.proofs.Facts.{Meets}
 use Rattle.clauses.proofs.Quorums.{Quorums}
 use Rattle.clauses.proofs.Cases.{step-keeps, Endings, abort-cases}
 
--- ---- the participants: a write quorum, node 0 in it, and every contacted node
-pub record Participants (c : Coordinator) : Type 0 where
-  pub write-quorum : T (isQuorum Write (c .participants))
-  pub has-root : T (contains (c .participants) root)
+-- ---- the participants: a write quorum, and every contacted node
+pub record Participants (s : System) (c : Coordinator) : Type 0 where
+  pub write-quorum : T (s .isWrite (c .participants))
   pub has-contacted : T (within (c .contacted) (c .participants))
 
-pub participants-contain : (c : Coordinator) → Meets tree c → (c .participants ≡ 0 → ⊥) → Participants c
-participants-contain c m n =
-    let f = m .party .full n in
-    record { write-quorum = f .write-quorum; has-root = root-in-write (c .participants) (f .write-quorum); has-contacted = f .everyone }
+pub participants-contain : (s : System) (c : Coordinator) → Meets s c → (c .participants ≡ 0 → ⊥) → Participants s c
+participants-contain s c m n = let f = m .party .full n in record { write-quorum = f .write-quorum; has-contacted = f .everyone }
+
+-- node 0 is in each write quorum of the tree
+pub has-root : (c : Coordinator) → Participants tree c → T (contains (c .participants) root)
+has-root c p = root-in-write (c .participants) (p .write-quorum)
 
 -- ---- a transaction is over only when every awaited node has said done, or nobody was contacted
 -- nobody awaited: nobody contacted, and no vote asked for

@@ -11,13 +11,12 @@ use lib.ListN.{length}
 use borrow.Author.Tests.{eq-eqb}
 use Rattle.numbers.specs.Sizes.{nodes, everyNode, objects}
 use Rattle.mask.specs.Mask.{contains}
-use Rattle.quorum.specs.declared.Kind.the-variants.{Read}
 use Rattle.quorum.specs.Quorum.{isQuorum}
 use Rattle.image.specs.Layout.{shape, value, version, state, serial, stateField}
 use Rattle.image.specs.Valid.{over, held}
 use Rattle.image.proofs.Each.{lt-or-le}
 use Rattle.image.proofs.Lens.{of-out}
-use Rattle.steps.specs.Station.{Station, Quiescent, blankStation}
+use Rattle.steps.specs.Station.{Station, system, Quiescent, blankStation}
 use Rattle.steps.specs.Step.{Call}
 use Rattle.steps.specs.Run.{trace}
 use Rattle.buffers.specs.Buffers.{Buffers, imageAt, stationOf}
@@ -115,14 +114,9 @@ module _ (st : Station) (L : Ledger) (F : Past) (w : World st L F) (t : InTurn s
 pub rest-released : (st : Station) → Quiescent st → Released st
 rest-released st rest o n small h e f party z = let k = rest o small in clash (cc)
 
--- all nodes together are a read quorum
-everyone : isQuorum Read everyNode ≡ true
-unfolding isQuorum
-everyone = refl
-
 -- THE THEOREM: where no participant holds what was committed, in every read quorum, whichever nodes are on, every newest copy has replay's last value
-pub settled-newest : (up : ℕ) (cs : List Call) → AllTyped cs → Released (reached up cs) → (q : ℕ) → isQuorum Read q ≡ true → (n t : ℕ)
-    → Newest (reached up cs) q n t → value (reached up cs .images n) t ≡ lastValue (told up cs) t
+pub settled-newest : (up : ℕ) (cs : List Call) → AllTyped cs → Released (reached up cs) → (q : ℕ) → system (reached up cs) .isRead q ≡ true
+    → (n t : ℕ) → Newest (reached up cs) q n t → value (reached up cs .images n) t ≡ lastValue (told up cs) t
 settled-newest up cs a free q r n t new =
     let g = always-good up cs a in
     applied-newest _ _ _ g (released-applied (reached up cs) _ _ (g .world) (always-in-turn up cs a) free) q r n t new
@@ -134,6 +128,11 @@ module _ (up : ℕ) (cs : List Call) (a : AllTyped cs) (b : Buffers) (h : Holds 
 
   its-version : (n t : ℕ) → n < nodes → version (reached up cs .images n) t ≡ version (imageAt (b .images) n) t
   its-version n t s = ap (λ (l : List ℕ). version l t) (its-image n s)
+
+  -- the station of the buffers works by the tree, and all nodes together are a read quorum of it
+  everyone : system (reached up cs) .isRead everyNode ≡ true
+  unfolding isQuorum
+  everyone = subst (λ (st : Station). system st .isRead everyNode ≡ true) (h .station) refl
 
   -- a node with the newest copy has replay's last value
   at-node : Released (reached up cs) → (n t : ℕ) → n < nodes → newestOf (b .images) t nodes .version ≡ version (imageAt (b .images) n) t

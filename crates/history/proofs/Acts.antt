@@ -95,7 +95,8 @@ pub put-same : {A : Type 0} (f : ℕ → A) (n : ℕ) (v : A) → putAt f n v n 
 unfolding putAt
 put-same f n v = ap (λ (b : Bool). cond b v (f n)) (eq-eqb n n refl)
 
-module _ {s : System} {sane : Sane s} (st : Station) (σ : State ℕ) (log : List Tx) (sim : Sim sane st σ log) (n : ℕ) (m : Message) (k : Taken (st .images n) m) where
+module _ {s : System} {sane : Sane s} (st : Station) (σ : State ℕ) (log : List Tx) (sim : Sim sane st σ log) (n : ℕ) (m : Message)
+    (k : Taken (st .images n) m) where
   abbrev l : List ℕ
   l = st .images n
 

@@ -159,7 +159,8 @@ module _ (st : Station) (L : Ledger) (F : Past) (w : World st L F) (n : ℕ) (c'
   still-shown : ((t v : ℕ) → Shows (system st) (st .records n) (st .records n .serial) t v → h .phase (tx n (st .records n .serial)) ≡ fresh
       → Shows (system st) c' (st .records n .serial) t v)
       → (i s t v : ℕ) → Shows (system st) (st .records i) s t v → h .phase (tx i s) ≡ fresh → Shows (system st) (putAt (st .records) n c' i) s t v
-  still-shown f i s t v g p = put-all (λ k c. Shows (system st) (st .records k) s t v → h .phase (tx k s) ≡ fresh → Shows (system st) c s t v) (st .records) n c'
+  still-shown f i s t v g p = put-all (λ k c. Shows (system st) (st .records k) s t v → h .phase (tx k s) ≡ fresh → Shows (system st) c s t v)
+      (st .records) n c'
       (λ g p. let e = g .present in
       subst (λ (r : ℕ). Shows (system st) c' r t v) e
       (f t v (subst (λ (r : ℕ). Shows (system st) (st .records n) r t v) (sym e) g) (subst (λ (r : ℕ). h .phase (tx n r) ≡ fresh) (sym e) p)))

@@ -109,7 +109,8 @@ module _ (st : Station) (L : Ledger) (F : Past) (w : World st L F) where
         let rs = beginRefusals d n a chosen in
         host-next n (begin n a) rs (maskOf chosen) (begun d a (maskOf chosen)) tt (λ k.
         begin-world st L F w n a (maskOf chosen) (eqb-true (d .phase) idlePhase (not-false _ (k .1 .0)))
-        (subst (Meets (system st)) (taken-record rs (maskOf chosen) d (begun d a (maskOf chosen)) k) (begin-keeps (system st) (w .sane .choices) d n md a size)))
+        (subst (Meets (system st)) (taken-record rs (maskOf chosen) d (begun d a (maskOf chosen)) k)
+        (begin-keeps (system st) (w .sane .choices) d n md a size)))
 
     open-next : (call : Call) (t mode : ℕ) → mode < 2 → ((answer : ℕ) → noted L call answer none ≡ withMode L n t (modeOf mode))
         → Next call (hosted st n (openOf d n t mode))
@@ -185,4 +186,5 @@ module _ (st : Station) (L : Ledger) (F : Past) (w : World st L F) where
         let rs = abortRefusals d n in
         host-next n (abort n) rs 0 (endedAborted d) tt (λ k.
         abort-world st L F w n (undecided (not-false (eqb (d .phase) openPhase || eqb (d .phase) votingPhase) (k .1 .0))) (st .pool) L told-still
-        (subst (Meets (system st)) (taken-record rs 0 d (endedAborted d) k) (abort-keeps (system st) d md n)) (λ b i. i) (w .books .pool-as) refl refl refl refl)
+        (subst (Meets (system st)) (taken-record rs 0 d (endedAborted d) k) (abort-keeps (system st) d md n))
+        (λ b i. i) (w .books .pool-as) refl refl refl refl)

@@ -101,7 +101,8 @@ pub reads-still : (st : Station) (σ : State ℕ) (h : History ℕ) (ch : Chain 
 reads-still st σ h ch r = record { r-version = r .r-version; r-value = r .r-value; r-last = r .r-last; r-state = r .r-state }
 
 -- ---- a step by none: the images stay, one record changes
-pub by-none : {s : System} {sane : Sane s} {σ : State ℕ} (st : Station) (l : List Tx) → Sim sane st σ l → (n : ℕ) (c : Coordinator) (pool : List (List ℕ)) (own : Own)
+pub by-none : {s : System} {sane : Sane s} {σ : State ℕ} (st : Station) (l : List Tx) → Sim sane st σ l
+    → (n : ℕ) (c : Coordinator) (pool : List (List ℕ)) (own : Own)
     → Owner (σ .history) (σ .votes) (σ .sent) n c
     → ((b : List ℕ) → In b pool → In b (st .pool) ⊎ Tells (σ .history) (σ .votes) (σ .sent) b)
     → Sim sane (record { images = st .images; records = putAt (st .records) n c; pool = pool; own = own }) σ l

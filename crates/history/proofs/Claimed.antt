@@ -85,7 +85,8 @@ module _ (st : Station) (L : Ledger) (F : Past) (g : Good st L F) where
       ∙ given-ext Tx-discrete 0 (Rattle.protocol.specs.Replay.turn (σ .history .contents)) (turn L) x (Rattle.protocol.specs.Log.fed σ (w .log)) t
       (λ y i a. turn-as y (fed-committed y i) t a)
 
-  last-as : (t : ℕ) → lastValue L t ≡ Rattle.protocol.specs.Replay.lastValue (rules (w .sane)) (σ .history .contents) (Rattle.protocol.specs.Log.fed σ (w .log)) t
+  last-as : (t : ℕ) → lastValue L t ≡ Rattle.protocol.specs.Replay.lastValue (rules (w .sane)) (σ .history .contents)
+      (Rattle.protocol.specs.Log.fed σ (w .log)) t
   unfolding lastValue
   last-as t = ap (λ (l : List Tx). replay 0 (turn L) l t) fed-as
       ∙ replay-ext 0 (Rattle.protocol.specs.Replay.turn (σ .history .contents)) (turn L) (Rattle.protocol.specs.Log.fed σ (w .log)) t
@@ -159,7 +160,8 @@ module _ (st : Station) (L : Ledger) (F : Past) (g : Good st L F) where
   applied-newest applied q r n t new =
       sym (w .sim .reads .r-value n t)
       ∙ core .newest applied (contains q)
-      (λ x p. quorums (w .sane) .meet (contains q) (σ .history .contents x .participants) (of-mask (system st .isRead) q r) (committed-good (rules (w .sane)) σ (w .sim .kept .inv) x p)) n t
+      (λ x p. quorums (w .sane) .meet (contains q) (σ .history .contents x .participants) (of-mask (system st .isRead) q r)
+      (committed-good (rules (w .sane)) σ (w .sim .kept .inv) x p)) n t
       (λ m j. subst (λ (k : ℕ). k ≤ σ .store .version n t) (sym (w .sim .reads .r-version m t))
       (subst (λ (k : ℕ). version (st .images m) t ≤ k) (sym (w .sim .reads .r-version n t)) (below m j)))
       ∙ sym (base .last t) ∙ sym (last-as t)

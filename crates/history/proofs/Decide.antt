@@ -32,7 +32,8 @@ pub put-else : {X : Type 0} (f : Tx → X) (x : Tx) (a : X) (y : Tx) → (y ≡ 
 put-else f x a y e = on (put-cases Tx-discrete f x a y) (λ z. absurd (e (z .0))) (λ z. z .1)
 
 -- ---- a station after a coordinator's transition: the record at n is c, all other records are as they were
-module _ {s : System} {sane : Sane s} (st : Station) (σ σ' : State ℕ) (l : List Tx) (sim : Sim sane st σ l) (n : ℕ) (c : Coordinator) (g : Step (rules sane) σ σ')
+module _ {s : System} {sane : Sane s} (st : Station) (σ σ' : State ℕ) (l : List Tx) (sim : Sim sane st σ l) (n : ℕ) (c : Coordinator)
+    (g : Step (rules sane) σ σ')
     (others : (y : Tx) → (y .owner ≡ n → ⊥) → (σ' .history .phase y ≡ σ .history .phase y) × (σ' .history .contents y ≡ σ .history .contents y)) where
   pub owners-after : Owner (σ' .history) (σ' .votes) (σ' .sent) n c
       → (i : ℕ) → Owner (σ' .history) (σ' .votes) (σ' .sent) i (putAt (st .records) n c i)

@@ -79,8 +79,9 @@ no-yes : (a : Message) (f : Fits a) (log : List Tx) → (eqb (a .kind) 4 && (eqb
 no-yes a f log e = sym (ap (λ (b : Bool). cond b (firstOnly (txOf (encode a)) log) log) (root-yes a f ∙ e))
 
 -- what is told of a state and a log, told otherwise
-then : {s : System} {sane : Sane s} {st : Station} {σ : State ℕ} {log : List Tx} {sim : Sim sane st σ log} {n : ℕ} {m : Message} {k : Taken (st .images n) m} {i : List ℕ}
-    {P Q : State ℕ → List Tx → Type 0} → Acted st σ log sim n m k i P → ((τ : State ℕ) (l' : List Tx) → P τ l' → Q τ l') → Acted st σ log sim n m k i Q
+then : {s : System} {sane : Sane s} {st : Station} {σ : State ℕ} {log : List Tx} {sim : Sim sane st σ log} {n : ℕ} {m : Message}
+    {k : Taken (st .images n) m} {i : List ℕ} {P Q : State ℕ → List Tx → Type 0} → Acted st σ log sim n m k i P
+    → ((τ : State ℕ) (l' : List Tx) → P τ l' → Q τ l') → Acted st σ log sim n m k i Q
 then a f = record {
   after = a .after;
   log-after = a .log-after;

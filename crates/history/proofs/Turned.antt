@@ -71,7 +71,8 @@ encoded-timely images records a f orders commits yeses dones = record {
     back P {x} {y} e p = subst (λ (z : Tx). P x (z .owner) (z .serial)) (sym (tx-of a f)) (subst (λ (i : ℕ). P i (a .owner) (a .serial)) (sym e) p)
 
 -- ---- a message that a coordinator sends
-module _ (st : Station) (t : InTurn st) (n : ℕ) (m : Meets (system st) (st .records n)) (f : Rattle.clauses.proofs.Fits.Fits (st .records n)) (to object : ℕ) where
+module _ (st : Station) (t : InTurn st) (n : ℕ) (m : Meets (system st) (st .records n)) (f : Rattle.clauses.proofs.Fits.Fits (st .records n))
+    (to object : ℕ) where
   abbrev c : Coordinator
   c = st .records n
 

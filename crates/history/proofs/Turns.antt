@@ -48,15 +48,18 @@ module _ (st : Station) (L : Ledger) (F : Past) (w : World st L F) (n : ℕ) whe
   h = w .state .history
 
   -- what a fresh transaction found, other than the present one of n, is not touched by a change of n's record
-  pub elsewhere : (c' : Coordinator) (y : Tx) (t v : ℕ) → (y ≡ x → ⊥) → Finds st y t v → Shows (system st) (putAt (st .records) n c' (y .owner)) (y .serial) t v
-  elsewhere c' y t v e f = put-all (λ i d. (i ≡ y .owner) → Shows (system st) (st .records i) (y .serial) t v → Shows (system st) d (y .serial) t v) (st .records) n c'
+  pub elsewhere : (c' : Coordinator) (y : Tx) (t v : ℕ) → (y ≡ x → ⊥) → Finds st y t v
+      → Shows (system st) (putAt (st .records) n c' (y .owner)) (y .serial) t v
+  elsewhere c' y t v e f = put-all (λ i d. (i ≡ y .owner) → Shows (system st) (st .records i) (y .serial) t v → Shows (system st) d (y .serial) t v)
+      (st .records) n c'
       (λ q g. absurd (e (tx-path y x (sym q) (sym (g .present))))) (λ i q r g. g) (y .owner) refl f
 
   -- whatever was put still tells the truth
   pub puts-on : {σ' : State ℕ} → Step (rules (w .sane)) (w .state) σ' → (b : List ℕ) → In b (L .puts) → Tells (σ' .history) (σ' .votes) (σ' .sent) b
   puts-on s b i = tells-on (onward (step-grows s)) b (w .books .puts-true b i)
 
-  module _ (σ' : State ℕ) (l' : List Tx) (c' : Coordinator) (pool : List (List ℕ)) (sim' : Sim (w .sane) (changed st n c' pool) σ' l') (m : Meets (system st) c') where
+  module _ (σ' : State ℕ) (l' : List Tx) (c' : Coordinator) (pool : List (List ℕ)) (sim' : Sim (w .sane) (changed st n c' pool) σ' l')
+      (m : Meets (system st) c') where
     abbrev st' : Station
     st' = changed st n c' pool
 
@@ -201,7 +204,8 @@ module _ (st : Station) (L : Ledger) (F : Past) (w : World st L F) (n : ℕ) whe
         (λ e. let o = touched t (isOpen c t) refl (λ r. q (ap (λ (u : Contents ℕ). u .mode t) (has y e) ∙ same-mode t ∙ r)) in
         subst (λ (u : Tx). More F (changed st n c₁ (st .pool)) u t (h₁ .contents u .found t)) (sym e)
         (inr (put-all (λ i d. (i ≡ n) → Shows (system st) d (c .serial) t (h₁ .contents x .found t)) (st .records) n c₁
-        (λ r. subst (Shows (system st) c₁ (c .serial) t) (sym (ap (λ (u : Contents ℕ). u .found t) (has x refl) ∙ ap (λ (u : Object). u .value) (same-open t .1)))
+        (λ r. subst (Shows (system st) c₁ (c .serial) t)
+        (sym (ap (λ (u : Contents ℕ). u .found t) (has x refl) ∙ ap (λ (u : Object). u .value) (same-open t .1)))
         (shown₁ t o))
         (λ i r s. absurd (r s)) n refl)))
         (λ z. subst (λ (u : Contents ℕ). More F (changed st n c₁ (st .pool)) y t (u .found t)) (sym (z .2))

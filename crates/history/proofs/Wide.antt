@@ -19,7 +19,6 @@ use Rattle.replica.specs.Receive.{refusal, step, Delivered, deliver}
 use Rattle.replica.proofs.Delivered.{cleared, either-way}
 use Rattle.coordinator.specs.declared.Coordinator.{Coordinator}
 use Rattle.coordinator.specs.declared.Step.{Step}
-use Rattle.coordinator.specs.System.{System}
 use Rattle.coordinator.specs.Calls.{noNode, foundOf}
 use Rattle.arrivals.specs.Receive.{forReplica, receiveOf}
 use Rattle.due.specs.Kind.{dueKind}

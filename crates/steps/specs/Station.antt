@@ -26,6 +26,7 @@ pub record Station : Type 0 where
   pub pool : List (List ℕ)
   pub own : Own
 
+-- the quorums that the station works by
 abbrev pub system : Station → System
 system st = st .own .system
 
