@@ -4,6 +4,7 @@
 --   Quorums           a station's quorums as the rules of the abstract system
 --   Sim               the station read as an abstract state; what records and waiting messages say is true there
 --   Carry             what one transition leaves true of records and messages
+--   Lasting           no step changes the quorums
 -- The coordinators:
 --   Quiet, Decide     calls and messages that are no transition; that are one
 --   Objects           what a record has of each object after one place is set
@@ -36,6 +37,7 @@ pub mod Tests
 pub mod Quorums
 pub mod Sim
 pub mod Carry
+pub mod Lasting
 pub mod Quiet
 pub mod Decide
 pub mod Rows
