@@ -122,7 +122,7 @@ settled-newest up cs a free q r n t new =
     applied-newest _ _ _ g (released-applied (reached up cs) _ _ (g .world) (always-in-turn up cs a) free) q r n t new
 
 -- ---- the same of the buffers that hold what the steps left
-module _ (up : ℕ) (cs : List Call) (a : AllTyped cs) (b : Buffers) (h : Holds up cs b) where
+module _ (up : ℕ) (cs : List Call) (b : Buffers) (h : Holds up cs b) where
   its-image : (n : ℕ) → n < nodes → reached up cs .images n ≡ imageAt (b .images) n
   its-image n s = ap (λ (st : Station). st .images n) (sym (h .station)) ∙ image-in (b .images) n s
 
@@ -137,7 +137,7 @@ module _ (up : ℕ) (cs : List Call) (a : AllTyped cs) (b : Buffers) (h : Holds 
   -- a node with the newest copy has replay's last value
   at-node : Released (reached up cs) → (n t : ℕ) → n < nodes → newestOf (b .images) t nodes .version ≡ version (imageAt (b .images) n) t
       → value (reached up cs .images n) t ≡ lastValue (told up cs) t
-  at-node free n t s e = settled-newest up cs a free everyNode everyone n t (λ m i j.
+  at-node free n t s e = settled-newest up cs (h .typed) free everyNode everyone n t (λ m i j.
       let k = none-newer (b .images) t nodes m i in
       let p = its-version m t i in
       let q = its-version n t s in
@@ -147,8 +147,8 @@ module _ (up : ℕ) (cs : List Call) (a : AllTyped cs) (b : Buffers) (h : Holds 
   its-value free t = on (some-has (b .images) t nodes)
       (λ z.
       let e : version (imageAt (b .images) 0) t ≡ 0 = let k = none-newer (b .images) t nodes 0 (omega arith) in let p = z .0 in omega arith in
-      let g = always-good up cs a in
-      z .1 ∙ sym (blank-value (reached up cs) _ _ (g .world) (always-in-turn up cs a) 0 t (its-version 0 t (omega arith) ∙ e))
+      let g = always-good up cs (h .typed) in
+      z .1 ∙ sym (blank-value (reached up cs) _ _ (g .world) (always-in-turn up cs (h .typed)) 0 t (its-version 0 t (omega arith) ∙ e))
       ∙ at-node free 0 t (omega arith) (z .0 ∙ sym e))
       (λ z. sym (z .its-value) ∙ sym (ap (λ (l : List ℕ). value l t) (its-image (z .node) (z .below)))
       ∙ at-node free (z .node) t (z .below) (sym (z .its-version)))
@@ -164,7 +164,7 @@ module _ (up : ℕ) (cs : List Call) (a : AllTyped cs) (b : Buffers) (h : Holds 
   -- where the events say that it is settled, it is said
   pub told-settled : Settled (told up cs) → settled (b .images) (b .records) ≡ true
   told-settled s = settled-said b (h .whole .images-long) (h .whole .records-long)
-      (subst Released (sym (h .station)) (settled-released (reached up cs) _ _ (always-good up cs a .world) (always-in-turn up cs a) s))
+      (subst Released (sym (h .station)) (settled-released (reached up cs) _ _ (always-good up cs (h .typed) .world) (always-in-turn up cs (h .typed)) s))
 
   -- the value printed as replay's is replay's, and it is the other one where it says `settled yes`
   module _ (few : length cs < 2 ^ 64 - 1) (l : List ℕ) (long : length l ≡ size) (t : ℕ) (known : t < objects) where
@@ -172,7 +172,7 @@ module _ (up : ℕ) (cs : List Call) (a : AllTyped cs) (b : Buffers) (h : Holds 
     printed = valueOf (sheet l (trace (blankStation up) cs)) t
 
     pub replay-shows : printed ≡ lastValue (told up cs) t
-    replay-shows = sheet-is-replay up cs a few l long t known
+    replay-shows = sheet-is-replay up cs (h .typed) few l long t known
 
     pub both-same : settled (b .images) (b .records) ≡ true → newest (b .images) t .value ≡ printed
     both-same e = settled-shows e t ∙ sym replay-shows

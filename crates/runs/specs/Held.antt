@@ -7,9 +7,11 @@ use Rattle.steps.specs.Step.{Call, step}
 use Rattle.buffers.specs.Buffers.{Buffers, stationOf, Whole}
 use Rattle.history.specs.Claims.{AllTyped, reached, Demand3, DeliveryNumbers}
 
--- the four buffers are whole, and the station that they are is the one that the steps of the list reached from a blank one with the nodes `up` on
+-- the four buffers are whole, the steps of the list have arguments of their C types, and the station that the buffers are is the one that the steps
+-- reached from a blank one with the nodes `up` on
 pub record Holds (up : ℕ) (cs : List Call) (b : Buffers) : Type 0 where
   pub whole : Whole b
+  pub typed : AllTyped cs
   pub station : stationOf b ≡ reached up cs
 
 -- after one more step, told r: the buffers hold what the longer list left, the number and the answer are the step's own, and the claims hold of
@@ -21,6 +23,6 @@ pub record Next (up : ℕ) (cs : List Call) (c : Call) (r : Answer) (b : Buffers
   pub demand-3 : Demand3 up (c ∷ cs)
   pub numbers : DeliveryNumbers up (c ∷ cs)
 
--- whatever list of steps the buffers before hold. (That the numbers of a step fit their C types is true of every order: `AllTyped` says it.)
+-- whatever list of steps the buffers before hold
 abbrev pub Claimed : Buffers → Call → Answer → Buffers → Type 0
-Claimed before c r after = (up : ℕ) (cs : List Call) → AllTyped (c ∷ cs) → Holds up cs before → Next up cs c r after
+Claimed before c r after = (up : ℕ) (cs : List Call) → Holds up cs before → Next up cs c r after

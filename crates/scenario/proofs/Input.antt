@@ -15,7 +15,6 @@ use Rattle.steps.specs.Station.{blankStation}
 use Rattle.steps.specs.Run.{trace}
 use Rattle.buffers.specs.Buffers.{Buffers, all, Whole}
 use Rattle.station_calls.specs.Calls.{blankNumber, blankAfter}
-use Rattle.history.specs.Claims.{AllTyped}
 use Rattle.history.specs.Running.{sheet, keptFrom}
 use Rattle.history.proofs.Running.{always-reads}
 use Rattle.orders.specs.declared.Order.{Order}
@@ -56,7 +55,7 @@ blank-goes I R P O mask w h =
 
 -- the sheet has its length all along
 sheet-long : (d : Desk) (s : Story) → Faithful d s → length (d .sheet) ≡ sheetSize
-sheet-long d s f = ap length (f .told) ∙ always-reads (s .up) (f .blank) (f .size) (s .steps) (f .typed) .long
+sheet-long d s f = ap length (f .told) ∙ always-reads (s .up) (f .blank) (f .size) (s .steps) (f .holds .typed) .long
 
 begins : (r : Reader) (d : Desk) (s : Story) (mask : ℕ) → Fit (r .said) → Inv d s → mask ≤ everyNode
     → Inv (desk r (blankAfter (d .buffers) mask) (sheetBlank (d .sheet))) (record { up = mask; steps = [] })
@@ -68,7 +67,6 @@ begins r d s mask f i h =
       fit = f;
       faithful = record {
         holds = begun b mask (blank-goes (b .images) (b .records) (b .pool) (b .own) mask w h);
-        typed = tt;
         blank = d .sheet;
         size = sheet-long d s (i .faithful);
         told = refl;
@@ -82,13 +80,12 @@ goes-on : (r : Reader) (d : Desk) (s : Story) → Fit (r .said) → Inv d s
 goes-on r d s f i =
     let b = d .buffers in
     let o = parsed (d .reader .said) .order in
-    let t : AllTyped (callOf o ∷ s .steps) = (typed (d .reader .said) (i .fit), i .faithful .typed) in
+    let t = typed (d .reader .said) (i .fit) in
     let h = i .faithful .holds in
     record {
       fit = f;
       faithful = record {
-        holds = claimed (b .images) (b .records) (b .pool) (b .own) (callOf o) (s .up) (s .steps) t h .holds;
-        typed = t;
+        holds = claimed (b .images) (b .records) (b .pool) (b .own) (callOf o) t (s .up) (s .steps) h .holds;
         blank = i .faithful .blank;
         size = i .faithful .size;
         told = ap (stepSheet b o) (i .faithful .told) ∙ sheet-is (s .up) (s .steps) o (b .images) (b .records) (b .pool) (b .own) t h (i .faithful .blank);
@@ -101,7 +98,6 @@ read-on r d s f i = record {
   fit = f;
   faithful = record {
     holds = i .faithful .holds;
-    typed = i .faithful .typed;
     blank = i .faithful .blank;
     size = i .faithful .size;
     told = i .faithful .told;
@@ -189,6 +185,6 @@ input-faithful bytes d z =
     let e = z .reader in
     let i : Inv d noSteps = record {
       fit = subst (λ (r : Reader). Fit (r .said)) (sym e) start-fit;
-      faithful = record { holds = z .buffers; typed = tt; blank = z .blank; size = z .size; told = z .sheet-blank };
+      faithful = record { holds = z .buffers; blank = z .blank; size = z .size; told = z .sheet-blank };
     } in
     subst (λ (r : Reader). Faithful (after d bytes) (storyAfter r noSteps bytes)) e (bytes-inv bytes d noSteps i .faithful)

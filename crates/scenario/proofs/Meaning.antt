@@ -28,7 +28,7 @@ use Rattle.steps.specs.Step.{refusedWith, taken, whenOff, hosted, step, deliver
 use Rattle.steps.specs.Run.{trace}
 use Rattle.buffers.specs.Buffers.{Buffers, all, stationOf}
 use Rattle.history.specs.Ledger.{Ledger, poolPut, note, noted, ledger}
-use Rattle.history.specs.Claims.{AllTyped, reached, told}
+use Rattle.history.specs.Claims.{Typed, AllTyped, reached, told}
 use Rattle.history.specs.Running.{putIn, sheetKeeper, telling, keeping, keptFrom, sheet}
 use Rattle.history.proofs.Claimed.{always-good}
 use Rattle.history.proofs.Room.{length-without}
@@ -223,7 +223,7 @@ module _ (up : ℕ) (cs : List Call) (o : Order) where
           ∙ ap (λ (l : List (List ℕ)). ownerOf (getD l (o .place) [])) (w ∙ sym (pool-told a))
 
   -- ---- THE MEANING of a step, where the buffers hold what the steps of a list left
-  module _ (I R P O : List ℕ) (a : AllTyped (callOf o ∷ cs)) (h : Holds up cs (all I R P O)) where
+  module _ (I R P O : List ℕ) (t : Typed (callOf o)) (h : Holds up cs (all I R P O)) where
     abbrev B : Buffers
     B = all I R P O
 
@@ -231,7 +231,7 @@ module _ (up : ℕ) (cs : List Call) (o : Order) where
     now = toldOf B (callOf o)
 
     next : Next up cs (callOf o) now (leftOf B (callOf o))
-    next = claimed I R P O (callOf o) up cs a h
+    next = claimed I R P O (callOf o) t up cs h
 
     before-as : waiting P ≡ st .pool
     before-as = ap (λ (s : Station). s .pool) (h .station)
@@ -244,7 +244,7 @@ module _ (up : ℕ) (cs : List Call) (o : Order) where
     unfolding putBy
     put-is z =
         simp (eq-eqb (now .number) 0 z)
-        (by-kind P (leftOf B (callOf o) .pool) before-as (next .holds .whole .pool-fine) (o .kind) a (sym (next .number) ∙ z) after-as)
+        (by-kind P (leftOf B (callOf o) .pool) before-as (next .holds .whole .pool-fine) (o .kind) (next .holds .typed) (sym (next .number) ∙ z) after-as)
 
     -- the sheet after the step is the one of the longer list
     pub sheet-is : (l : List ℕ) → stepSheet B o (sheet l (trace (blankStation up) cs)) ≡ sheet l (trace (blankStation up) (callOf o ∷ cs))
@@ -268,7 +268,7 @@ module _ (up : ℕ) (cs : List Call) (o : Order) where
             let y : r .number ≡ 0 = sym (next .number) ∙ z in
             simp (t, eq-eqb (r .number) 0 y)
             ((λ i. sheetTold (o .kind) (sheetPut S (put-is z i)) o (next .answer i) w)
-            ∙ told-as S w (o .kind) (owner-named P before-as (h .whole .pool-fine) (a .1) (o .kind) y))
+            ∙ told-as S w (o .kind) (owner-named P before-as (h .whole .pool-fine) (h .typed) (o .kind) y))
         go false t =
             let z = eqb-false (now .number) 0 t in
             simp (t, ne-eqb (r .number) 0 (λ y. z (next .number ∙ y)))

@@ -12,7 +12,6 @@ use Rattle.steps.specs.Run.{trace}
 use Rattle.buffers.specs.Buffers.{Buffers}
 use Rattle.replay.specs.Layout.{size as sheetSize}
 use Rattle.replay.specs.Sheet.{blankAfter as sheetBlank}
-use Rattle.history.specs.Claims.{AllTyped}
 use Rattle.history.specs.Running.{sheet}
 use Rattle.runs.specs.Order.{callOf}
 use Rattle.runs.specs.Held.{Holds}
@@ -59,7 +58,6 @@ storyAfter r s (byte ∷ bytes) = storyAfter (readerAfter r byte) (cond (eqb byt
 -- sheet is the one that they tell replay
 pub record Faithful (d : Desk) (s : Story) : Type 0 where
   pub holds : Holds (s .up) (s .steps) (d .buffers)
-  pub typed : AllTyped (s .steps)
   pub blank : List ℕ
   pub size : length blank ≡ sheetSize
   pub told : d .sheet ≡ sheet blank (trace (blankStation (s .up)) (s .steps))

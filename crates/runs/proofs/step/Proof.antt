@@ -1,10 +1,15 @@
 -- `runs::step`: by the kind, the station's own step.
 use mathlib.Core.Path.{_≡_, refl, ap}
+use Prim.Native.Nat.{ℕ, _<_, _^_}
+use lib.ListN.{getD}
+use mir.Syntax.{w16}
+use mir.Val.{Fits}
 use denote.Ref.{now}
 use Rattle.coordinator.specs.System.{tree}
 use Rattle.coordinator.specs.Calls.{beginOf, openOf, setOf, foundOf, reselectOf, requestCommitOf, abortOf}
 use Rattle.steps.specs.Step.{begin, openRead, openWrite, setValue, found, reselect, requestCommit, abort, step}
 use Rattle.buffers.specs.Buffers.{recordIn}
+use Rattle.history.specs.Claims.{Distances}
 use Rattle.orders.specs.declared.Kind.{Kind}
 use Rattle.runs.specs.Order.{callBy}
 use Rattle.runs.specs.Left.{toldOf, leftOf}
@@ -12,6 +17,19 @@ use Rattle.runs.proofs.Orders.{hosted-tells, send-tells, delivery-tells
 use borrow.Author.Needs.{needs}
 use Rattle.runs.proofs.step.Statement.{statement}
 use Rattle.runs.proofs.step.Tie as tie
+
+-- an order's numbers are of their types
+typed-value : (c : tie.Start) → c .args .o .value < 2 ^ 64
+typed-value c = search needs
+
+typed-timestamp : (c : tie.Start) → c .args .o .with .timestamp < 2 ^ 32
+typed-timestamp c = search needs
+
+typed-distances : (c : tie.Start) → Distances (c .args .o .with .distances)
+typed-distances c = (search needs, λ i. typed-distance i .fits)
+  where
+    typed-distance : (i : ℕ) → Fits w16 (getD (c .args .o .with .distances) i 0)
+    typed-distance i = search needs
 
 enum-told : tie.Need-enum-told
 enum-told c = search needs
@@ -100,7 +118,8 @@ returns c =
     let e = c .before .before .begin .ensures in
     hosted-tells (now (x .images)) (now (x .records)) (now (x .pool)) (now (x .own)) (x .o) (x .o .node) (begin (x .o .node) (x .o .with))
     (beginOf tree (recordIn (now (x .records)) (x .o .node)) (x .o .node) (x .o .with))
-    (ap (λ (k : Kind). callBy k (x .o)) (c .before .before .before .before .before .enum-told .given .1)) refl refl refl refl _ _ (e .0) (e .1)
+    (ap (λ (k : Kind). callBy k (x .o)) (c .before .before .before .before .before .enum-told .given .1))
+    (typed-timestamp c12, typed-distances c12) refl refl refl refl _ _ (e .0) (e .1)
 
 same-length-3 : tie.Need-same-length-3
 same-length-3 c = search needs
@@ -117,7 +136,7 @@ returns-2 c =
     let e = c .before .before .open-read .ensures in
     hosted-tells (now (x .images)) (now (x .records)) (now (x .pool)) (now (x .own)) (x .o) (x .o .node) (openRead (x .o .node) (x .o .object))
     (openOf (recordIn (now (x .records)) (x .o .node)) (x .o .node) (x .o .object) 0)
-    (ap (λ (k : Kind). callBy k (x .o)) (c .before .before .before .before .before .enum-told2 .given .1)) refl refl refl refl _ _ (e .0) (e .1)
+    (ap (λ (k : Kind). callBy k (x .o)) (c .before .before .before .before .before .enum-told2 .given .1)) tt refl refl refl refl _ _ (e .0) (e .1)
 
 same-length-5 : tie.Need-same-length-5
 same-length-5 c = search needs
@@ -134,7 +153,7 @@ returns-3 c =
     let e = c .before .before .open-write .ensures in
     hosted-tells (now (x .images)) (now (x .records)) (now (x .pool)) (now (x .own)) (x .o) (x .o .node) (openWrite (x .o .node) (x .o .object))
     (openOf (recordIn (now (x .records)) (x .o .node)) (x .o .node) (x .o .object) 1)
-    (ap (λ (k : Kind). callBy k (x .o)) (c .before .before .before .before .before .enum-told3 .given .1)) refl refl refl refl _ _ (e .0) (e .1)
+    (ap (λ (k : Kind). callBy k (x .o)) (c .before .before .before .before .before .enum-told3 .given .1)) tt refl refl refl refl _ _ (e .0) (e .1)
 
 same-length-7 : tie.Need-same-length-7
 same-length-7 c = search needs
@@ -151,7 +170,7 @@ returns-4 c =
     let e = c .before .before .set-value .ensures in
     hosted-tells (now (x .images)) (now (x .records)) (now (x .pool)) (now (x .own)) (x .o) (x .o .node) (setValue (x .o .node) (x .o .object) (x .o .value))
     (setOf (recordIn (now (x .records)) (x .o .node)) (x .o .node) (x .o .object) (x .o .value))
-    (ap (λ (k : Kind). callBy k (x .o)) (c .before .before .before .before .before .enum-told4 .given .1)) refl refl refl refl _ _ (e .0) (e .1)
+    (ap (λ (k : Kind). callBy k (x .o)) (c .before .before .before .before .before .enum-told4 .given .1)) (typed-value c12) refl refl refl refl _ _ (e .0) (e .1)
 
 same-length-9 : tie.Need-same-length-9
 same-length-9 c = search needs
@@ -168,7 +187,7 @@ returns-5 c =
     let e = c .before .before .found .ensures in
     hosted-tells (now (x .images)) (now (x .records)) (now (x .pool)) (now (x .own)) (x .o) (x .o .node) (found (x .o .node) (x .o .object))
     (foundOf tree (recordIn (now (x .records)) (x .o .node)) (x .o .node) (x .o .object))
-    (ap (λ (k : Kind). callBy k (x .o)) (c .before .before .before .before .before .enum-told5 .given .1)) refl refl refl refl _ _ (e .0) (e .1)
+    (ap (λ (k : Kind). callBy k (x .o)) (c .before .before .before .before .before .enum-told5 .given .1)) tt refl refl refl refl _ _ (e .0) (e .1)
 
 same-length-11 : tie.Need-same-length-11
 same-length-11 c = search needs
@@ -186,7 +205,7 @@ returns-6 c =
     hosted-tells (now (x .images)) (now (x .records)) (now (x .pool)) (now (x .own)) (x .o) (x .o .node)
     (reselect (x .o .node) (x .o .with .live) (x .o .with .distances))
     (reselectOf tree (recordIn (now (x .records)) (x .o .node)) (x .o .node) (x .o .with .live) (x .o .with .distances))
-    (ap (λ (k : Kind). callBy k (x .o)) (c6 .enum-told6 .given .1)) refl refl refl refl _ _ (e .0) (e .1)
+    (ap (λ (k : Kind). callBy k (x .o)) (c6 .enum-told6 .given .1)) (typed-distances (c12 .before)) refl refl refl refl _ _ (e .0) (e .1)
 
 same-length-13 : tie.Need-same-length-13
 same-length-13 c = search needs
@@ -203,7 +222,7 @@ returns-7 c =
     let e = c .before .before .request-commit .ensures in
     hosted-tells (now (x .images)) (now (x .records)) (now (x .pool)) (now (x .own)) (x .o) (x .o .node) (requestCommit (x .o .node))
     (requestCommitOf tree (recordIn (now (x .records)) (x .o .node)) (x .o .node))
-    (ap (λ (k : Kind). callBy k (x .o)) (c .before .before .before .before .before .enum-told7 .given .1)) refl refl refl refl _ _ (e .0) (e .1)
+    (ap (λ (k : Kind). callBy k (x .o)) (c .before .before .before .before .before .enum-told7 .given .1)) tt refl refl refl refl _ _ (e .0) (e .1)
 
 same-length-15 : tie.Need-same-length-15
 same-length-15 c = search needs
@@ -220,7 +239,7 @@ returns-8 c =
     let e = c .before .before .abort .ensures in
     hosted-tells (now (x .images)) (now (x .records)) (now (x .pool)) (now (x .own)) (x .o) (x .o .node) (abort (x .o .node))
     (abortOf (recordIn (now (x .records)) (x .o .node)) (x .o .node))
-    (ap (λ (k : Kind). callBy k (x .o)) (c .before .before .before .before .before .enum-told8 .given .1)) refl refl refl refl _ _ (e .0) (e .1)
+    (ap (λ (k : Kind). callBy k (x .o)) (c .before .before .before .before .before .enum-told8 .given .1)) tt refl refl refl refl _ _ (e .0) (e .1)
 
 same-length-17 : tie.Need-same-length-17
 same-length-17 c = search needs
