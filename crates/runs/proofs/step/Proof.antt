@@ -170,7 +170,8 @@ returns-4 c =
     let e = c .before .before .set-value .ensures in
     hosted-tells (now (x .images)) (now (x .records)) (now (x .pool)) (now (x .own)) (x .o) (x .o .node) (setValue (x .o .node) (x .o .object) (x .o .value))
     (setOf (recordIn (now (x .records)) (x .o .node)) (x .o .node) (x .o .object) (x .o .value))
-    (ap (λ (k : Kind). callBy k (x .o)) (c .before .before .before .before .before .enum-told4 .given .1)) (typed-value c12) refl refl refl refl _ _ (e .0) (e .1)
+    (ap (λ (k : Kind). callBy k (x .o)) (c .before .before .before .before .before .enum-told4 .given .1))
+    (typed-value c12) refl refl refl refl _ _ (e .0) (e .1)
 
 same-length-9 : tie.Need-same-length-9
 same-length-9 c = search needs

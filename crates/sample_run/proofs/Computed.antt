@@ -1,0 +1,81 @@
+-- The sample run, computed.
+use mathlib.Core.Path.{_≡_, refl}
+use mathlib.Core.Bool.{cond}
+use mathlib.Core.List.{List, [], _∷_, map}
+use Prim.Native.Nat.{ℕ}
+use native.Mathlib.Decide.{ℕ-discrete}
+use Rattle.numbers.specs.Sizes.{nodes}
+use Rattle.mask.specs.Mask.{contains}
+use Rattle.image.specs.Layout.{value, version}
+use Rattle.steps.specs.Step.{Call, begin, openWrite, setValue, found, requestCommit, send}
+use Rattle.protocol.specs.State.{Tx}
+use Rattle.history.specs.Ledger.{Done, givenTo, lastValue}
+use Rattle.sample_run.specs.Sample.{beginning, participants, mask, transaction, Shown}
+use Rattle.sample_run.proofs.Listed.{listed, member}
+use Rattle.sample_run.proofs.Quick.{accepted}
+use Rattle.sample_run.proofs.Both.{Both, blank, noted, stepped, oldest, delivered, bothExchanged}
+use Rattle.sample_run.proofs.Opened.{computed}
+
+-- the passes of its parts
+unfoldable pub whenReady : Both
+whenReady = delivered (delivered (stepped (stepped (stepped blank (begin 4 beginning)) (openWrite 4 7)) (send 4 0 7)))
+
+unfoldable pub whenAsked : Both
+whenAsked = stepped (stepped (stepped whenReady (found 4 7)) (setValue 4 7 500)) (requestCommit 4)
+
+unfoldable pub atLast : Both
+atLast = bothExchanged participants (bothExchanged participants whenAsked)
+
+-- what is looked at in the end; of the nodes, in a list
+pub record Seen : Type 0 where
+  pub committed : List Tx
+  pub log : List Tx
+  pub party : ℕ
+  pub dones : List Done
+  pub given : ℕ
+  pub last : ℕ
+  pub values : List ℕ
+  pub versions : List ℕ
+  pub phases : List ℕ
+
+unfoldable pub seen : Both → Seen
+seen b = record {
+  committed = b .ledger .committed;
+  log = b .ledger .log;
+  party = b .ledger .participants transaction;
+  dones = b .ledger .dones;
+  given = givenTo (b .ledger) transaction 7;
+  last = lastValue (b .ledger) 7;
+  values = listed (λ n. value (b .station .images n) 7) nodes;
+  versions = listed (λ n. version (b .station .images n) 7) nodes;
+  phases = listed (λ n. b .station .records n .phase) nodes;
+}
+
+-- the dones, newest first
+abbrev pub sayingDone : List ℕ
+sayingDone = 8 ∷ 7 ∷ 5 ∷ 4 ∷ 2 ∷ 1 ∷ 0 ∷ []
+
+abbrev pub doneBy : ℕ → Done
+doneBy n = record { node = n; tx = transaction }
+
+pub is-seen : seen atLast
+    ≡ record {
+      committed = transaction ∷ [];
+      log = transaction ∷ [];
+      party = mask;
+      dones = map doneBy sayingDone;
+      given = 0;
+      last = 500;
+      values = listed (λ n. cond (contains mask n) 500 0) nodes;
+      versions = listed (λ n. cond (contains mask n) 1 0) nodes;
+      phases = listed (λ n. 0) nodes;
+    }
+unfolding computed ℕ-discrete accepted blank noted stepped oldest delivered bothExchanged whenReady whenAsked atLast seen
+is-seen = refl
+
+pub all-say-done : listed (contains mask) nodes ≡ listed (λ n. member n sayingDone) nodes
+all-say-done = refl
+
+pub is-shown : Shown (whenReady .station)
+unfolding computed ℕ-discrete accepted blank noted stepped oldest delivered whenReady
+is-shown = record { number = refl; answer = refl }

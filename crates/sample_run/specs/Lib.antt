@@ -1,0 +1,2 @@
+-- A run that commits.
+pub mod Sample
