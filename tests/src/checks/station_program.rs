@@ -19,10 +19,14 @@ use std::path::{Path, PathBuf};
 /// The stored scenarios, NAME.txt with NAME.out beside it.
 const STORED: &str = "tests/scenarios";
 
+/// The program's sample: its input, and what it prints.
+const SAMPLE: [&str; 2] = ["crates/station_program/stdin", "crates/station_program/stdout"];
+
 pub fn run(runner: &mut Runner, path: &Path) {
     let child = Child::new(path);
     runner.check("station program: known texts", |_, _| known_texts(&child));
     runner.check("station program: stored scenarios", |_, _| stored(&child));
+    runner.check("station program: its sample", |_, _| sample(&child));
     runner.check("station program: every byte at every place", |_, _| every_byte(&child));
     runner.check("station program: random scenarios", |random, rounds| random_scenarios(&child, random, rounds));
     runner.check("station program: a pipe in small pieces", |random, rounds| small_pieces(&child, random, rounds));
@@ -98,6 +102,20 @@ fn stored(child: &Child) -> Verdict {
     }
     ensure!(names.len() >= 10 && read > 2000, "{} scenarios of {read} lines are too few", names.len());
     Ok(format!("{} scenarios, {read} lines", names.len()))
+}
+
+/// The program's sample: what is stored is what the program prints and what the model prints, and it commits.
+fn sample(child: &Child) -> Verdict {
+    let [text, expected] = SAMPLE.map(|path| fs::read(path).map_err(|error| format!("{path}: {error}")));
+    let (text, expected) = (text?, expected?);
+    same(child, &text, Feed::File, &expected)?;
+    let modelled = output(&text)?;
+    ensure!(modelled == expected, "{}", difference(&expected, &modelled));
+    let printed = lines(&expected);
+    for line in ["  ok committed", "  ok finished", "  at rest yes", "  settled yes"] {
+        ensure!(printed.contains(&line.as_bytes()), "no line {line:?}");
+    }
+    Ok(format!("{} lines", lines(&text).len()))
 }
 
 /// Lines of each kind, with each of the 256 bytes put in at each place and put in place of each of their bytes.
