@@ -69,13 +69,18 @@ module _ (me : ℕ) (m : List ℕ) (g : Taken me m) where
       let b = and-right (namesOk d) _ a in
       (and-left (directionOk d) _ b, and-right (entriesOk d) (rivalsOk d) (and-right (directionOk d) (entriesOk d && rivalsOk d) b))
 
-  -- a vote goes to its owner
-  pub vote-owner : kindOf m ≡ vote → ownerOf m ≡ me
+  -- an answer, which has an even kind, goes to its owner
+  pub answer-owner : (k : ℕ) → eqb (k % 2) 1 ≡ false → kindOf m ≡ k → ownerOf m ≡ me
   unfolding decode
-  vote-owner e =
+  answer-owner k even e =
       let t : T (cond (eqb (kindOf m % 2) 1) (eqb (fromOf m) (ownerOf m)) (eqb (toOf m) (ownerOf m))) = parts .0 in
-      let u : T (eqb (toOf m) (ownerOf m)) = subst (λ (k : ℕ). T (cond (eqb (k % 2) 1) (eqb (fromOf m) (ownerOf m)) (eqb (toOf m) (ownerOf m)))) e t in
-      sym (eqb→eq (toOf m) (ownerOf m) u) ∙ g .to-me
+      let u : T (cond (eqb (k % 2) 1) (eqb (fromOf m) (ownerOf m)) (eqb (toOf m) (ownerOf m))) =
+      subst (λ (j : ℕ). T (cond (eqb (j % 2) 1) (eqb (fromOf m) (ownerOf m)) (eqb (toOf m) (ownerOf m)))) e t in
+      let v : T (eqb (toOf m) (ownerOf m)) = subst (λ (b : Bool). T (cond b (eqb (fromOf m) (ownerOf m)) (eqb (toOf m) (ownerOf m)))) even u in
+      sym (eqb→eq (toOf m) (ownerOf m) v) ∙ g .to-me
+
+  pub vote-owner : kindOf m ≡ vote → ownerOf m ≡ me
+  vote-owner = answer-owner vote refl
 
   rival-ok : (i : ℕ) → i < rivalCount m → T (rivalOk (kindOf m) (ownerOf m) (toOf m) (rivalOf m i))
   unfolding rivalsOk decode

@@ -7,7 +7,7 @@ use native.Mathlib.Numerals.{add-one}
 use native.Mathlib.Omega.{arith}
 use lib.Dec.{eqb, ltb}
 use borrow.Author.Tests.{eqb-true, eqb-false, ne-eqb, ltb-true, ltb-false}
-use lib.ListN.{length, getD, take, drop, set, replicate, length-append, getD-replicate}
+use lib.ListN.{length, getD, drop, set, replicate, length-append, getD-replicate}
 use lib.Seq.{take-suc-set, getD-set-same, getD-set-other}
 use Rattle.numbers.specs.Sizes.{objects as objectsEnd, mostOpen}
 use Rattle.mask.proofs.Tests.{and-left, T-true}

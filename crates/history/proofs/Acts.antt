@@ -4,7 +4,7 @@ use mathlib.Core.Logic.{_≢_, _⊎_, inl, inr, by-cases}
 use mathlib.Core.Bool.{Bool, true, false, cond}
 use mathlib.Core.List.{List, _∷_}
 use mathlib.Core.Option.{none, some}
-use Prim.Native.Nat.{ℕ, suc, _<_, _≤_}
+use Prim.Native.Nat.{ℕ, zero, suc, _<_, _≤_}
 use native.Mathlib.Decide.{ℕ-discrete}
 use native.Mathlib.Numerals.{add-one}
 use native.Mathlib.Omega.{arith}
@@ -35,16 +35,17 @@ use Rattle.replica.proofs.After.{commit-copy, abort-copy, outcome-owner, early-
 use Rattle.coordinator.specs.System.{System}
 use Rattle.steps.specs.Station.{Station, putAt, withImage}
 use Rattle.protocol.specs.Table.{pick, In}
-use Rattle.protocol.specs.State.{Tx, Tx-discrete, fresh, committed, aborted, over, listed, held, History, State, Writes, Touches, Held}
+use Rattle.protocol.specs.State.{Tx, Tx-discrete, fresh, committed, aborted, over, listed, History, State, Writes, Touches, Held}
 use Rattle.protocol.specs.Transitions.{doList, CanList, list, doCopy, copy, doNo, voteNo, doYes, CanYes, voteYes, doApply, CanApply, apply, doDrop, CanDrop}
 use Rattle.protocol.specs.Transitions.{drop}
 use Rattle.protocol.specs.Log.{logged}
 use Rattle.protocol.specs.Tree.{tree-free}
-use Rattle.protocol.specs.Proof.Tables.{on, put2-here}
+use Rattle.protocol.specs.Proof.Tables.{on, clash, put2-here}
 use Rattle.protocol.specs.Proof.Yes.{first-yes}
 use Rattle.protocol.specs.Refine.Holders.{nobody-else}
 use Rattle.protocol.specs.Refine.Growth.{Late, Grows, step-grows, grows-same, grows-then}
-use Rattle.history.proofs.Quorums.{Sane, quorums, rules}
+use Rattle.history.specs.Sane.{Sane}
+use Rattle.history.proofs.Quorums.{quorums, rules}
 use Rattle.history.proofs.Sim.{stateOf, holderOf, holders, Match, Sim}
 use Rattle.history.proofs.Words.{txIn}
 use Rattle.history.proofs.Rows.{SameCopies, OneOwner, sim-lists, sim-listed, sim-sent, sim-refused, sim-held, sim-applied, sim-dropped, sim-twice}
@@ -89,6 +90,27 @@ pub late-standing : (l : List ℕ) (m : Message) → standing l m ≡ 0 → (m .
 unfolding standing
 late-standing l m e = late-by (ltb (serial l (m .owner)) (m .serial)) (eqb (serial l (m .owner)) (m .serial)) (state l (m .owner)) (serial l (m .owner))
     (m .serial) refl refl e
+
+-- and the other way: how a transaction stands, from what is here
+stands-by : (a b : Bool) (n s st : ℕ) → ltb n s ≡ a → eqb n s ≡ b → n ≡ s → cond a (aboveOf st) (cond b st 0) ≡ st
+stands-by true b n s st p q e = absurd (let h = ltb-true n s p in let z : ⊥ = omega (arith, h, e) in z)
+stands-by false true n s st p q e = refl
+stands-by false false n s st p q e = absurd (eqb-false n s q e)
+
+module _ (l : List ℕ) (m : Message) where
+  -- the last one has its owner's state
+  pub last-stands : serial l (m .owner) ≡ m .serial → standing l m ≡ state l (m .owner)
+  unfolding standing
+  last-stands e = stands-by (ltb (serial l (m .owner)) (m .serial)) (eqb (serial l (m .owner)) (m .serial)) (serial l (m .owner)) (m .serial)
+      (state l (m .owner)) refl refl e
+
+  pub behind-stands : (m .serial < serial l (m .owner)) ⊎ ((serial l (m .owner) ≡ m .serial) × (state l (m .owner) ≡ 0)) → standing l m ≡ 0
+  unfolding standing
+  behind-stands (inl h) = simp (
+    le-ltb (serial l (m .owner)) (m .serial) (omega (arith, h)),
+    ne-eqb (serial l (m .owner)) (m .serial) (λ e. let z : ⊥ = omega (arith, h, e) in z),
+  )
+  behind-stands (inr z) = last-stands (z .0) ∙ z .1
 
 -- what is read at the node whose image was changed
 pub put-same : {A : Type 0} (f : ℕ → A) (n : ℕ) (v : A) → putAt f n v n ≡ v
@@ -419,6 +441,18 @@ module _ {s : System} {sane : Sane s} (st : Station) (σ : State ℕ) (log : Lis
   late-here e = on (late-standing l m e)
       (λ q. inl (subst (λ (s : ℕ). m .serial < s) (sym (sim .reads .r-last n o)) q))
       (λ q. inr (sim .reads .r-last n o ∙ q .0, sim .reads .r-state n o ∙ ap stateOf (q .1)))
+
+  -- and the other way
+  pub here-late : Late (σ .ends) n x → standing l m ≡ 0
+  here-late z = behind-stands l m (on z
+      (λ q. inl (subst (λ (s : ℕ). m .serial < s) (sim .reads .r-last n o) q))
+      (λ q. inr (sym (sim .reads .r-last n o) ∙ q .0, over-zero (state l o) (sym (sim .reads .r-state n o) ∙ q .1))))
+    where
+      over-zero : (k : ℕ) → stateOf k ≡ over → k ≡ 0
+      over-zero zero e = refl
+      over-zero (suc zero) e = absurd (clash (cc))
+      over-zero (suc (suc zero)) e = absurd (clash (cc))
+      over-zero (suc (suc (suc k))) e = absurd (clash (cc))
 
   -- an image after which the owner is over with the message's serial: the done is true
   over-late : (i : List ℕ) (τ : State ℕ) (l' : List Tx) → Sim sane (withImage st n i) τ l' → serial i o ≡ m .serial → state i o ≡ 0 → Late (τ .ends) n x

@@ -11,6 +11,7 @@ use borrow.Author.Tests.{eq-eqb, ne-eqb, lt-ltb}
 use Rattle.numbers.specs.Sizes.{mostOpen}
 use Rattle.mask.specs.Mask.{within}
 use Rattle.mask.proofs.Tests.{T-true}
+use Rattle.wire.specs.Message.{copy}
 use Rattle.wire.specs.Decode.{fromOf}
 use Rattle.wire.specs.Items.{entryOf}
 use Rattle.coordinator.specs.declared.Coordinator.{Coordinator}
@@ -21,7 +22,7 @@ use Rattle.arrivals.specs.Receive.{brought}
 use Rattle.clauses.proofs.Facts.{Meets}
 use Rattle.clauses.proofs.Parts.{T-false}
 use Rattle.clauses.proofs.Sets.{node-known}
-use Rattle.clauses_arrive.proofs.Messages.{vote-owner}
+use Rattle.clauses_arrive.proofs.Messages.{answer-owner, vote-owner}
 use Rattle.clauses_arrive.proofs.Deliver.{receive-keeps}
 use Rattle.clauses.proofs.Cases.{OpenOrVoting}
 use Rattle.clauses_arrive.proofs.Deliveries.{CopyFitting, YesFitting, DoneFitting, copiedObject, afterCopy, saidYes, named, saidDone}
@@ -30,9 +31,9 @@ use Rattle.steps.specs.Station.{Station, system, withRecord, without}
 use Rattle.steps.specs.Step.{delivery, Outcome, refusedWith, taken, takenOut, atCoordinator}
 use Rattle.protocol.specs.Table.{In}
 use Rattle.protocol.specs.State.{Tx, tx-path}
-use Rattle.protocol.specs.Proof.Tables.{on}
+use Rattle.protocol.specs.Proof.Tables.{on, clash}
 use Rattle.history.specs.Ledger.{Ledger, txOf, withPut, withDelivered, noted, note}
-use Rattle.history.proofs.Sim.{tx}
+use Rattle.history.proofs.Sim.{tx, Tells, waits-tells}
 use Rattle.history.proofs.Quiet.{yes-owner, done-owner}
 use Rattle.history.proofs.Books.{Past, More, World, changed}
 use Rattle.history.proofs.Host.{SameTold, objects-still, same-world, copy-world}
@@ -94,9 +95,13 @@ module _ (st : Station) (L : Ledger) (F : Past) (w : World st L F) (k : ℕ) (ke
   copied-case : CopyFitting (system st) c n b → P (brought (cond (ready (system st) (copiedObject c b)) 3 0) (afterCopy c b))
   copied-case f m =
       let answer : ℕ = cond (ready (system st) (copiedObject c b)) 3 0 in
+      let p = w .sim .owners n .while-open (f .answer .in-phase) in
+      let names : txOf b ≡ tx n (c .serial) =
+      tx-path (txOf b) (tx n (c .serial)) (answer-owner n b (f .answer .taken) copy refl (f .answer .its-kind)) (f .answer .its-serial) in
+      let t = waits-tells (w .state) b (tx n (c .serial)) names (λ e. clash (cc)) (λ e. clash (cc)) (w .sim .waits b in-pool) in
       go answer (afterCopy c b)
       (copy-world st L F w n (f .answer .in-phase) (fromOf b) (entryOf b 0) (lt-ltb (placeOf c (entryOf b 0 .object)) mostOpen (f .is-open))
-      (T-false _ (f .not-ready)) (w .sim .waits b in-pool .a-copy (f .answer .its-kind)) pool (told answer) (same-told answer) m sub refl refl
+      (T-false _ (f .not-ready)) (t .a-copy (f .answer .its-kind)) pool (told answer) (same-told answer) m sub refl refl
       (no-commit (ready (system st) (copiedObject c b))) refl refl)
 
   -- an abort
@@ -122,9 +127,13 @@ module _ (st : Station) (L : Ledger) (F : Past) (w : World st L F) (k : ℕ) (ke
     names-it : txOf b ≡ tx n (c .serial)
     names-it = tx-path (txOf b) (tx n (c .serial)) (vote-owner n b (f .answer .taken) (f .answer .its-kind)) (f .answer .its-serial)
 
+    still-told : Tells (w .state .history) (w .state .votes) (w .state .sent) b
+    still-told = let p = w .sim .owners n .while-voting is-voting in
+        waits-tells (w .state) b (tx n (c .serial)) names-it (λ e. clash (cc)) (λ e. clash (cc)) (w .sim .waits b in-pool)
+
     was-yes : w .state .votes .yes (fromOf b) (tx n (c .serial)) ≡ true
     was-yes = on (word-known b (f .answer .taken .checked) (f .answer .its-kind)) (λ q. absurd (f .says-yes q))
-        (λ q. subst (λ (x : Tx). w .state .votes .yes (fromOf b) x ≡ true) names-it (w .sim .waits b in-pool .a-yes (f .answer .its-kind) q))
+        (λ q. subst (λ (x : Tx). w .state .votes .yes (fromOf b) x ≡ true) names-it (still-told .a-yes (f .answer .its-kind) q))
 
     from-small : fromOf b < 16
     from-small = omega (arith, node-known (c .participants) (fromOf b) (w .valid .records n .party .participants-known) (f .answer .from-node))

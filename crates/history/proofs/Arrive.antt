@@ -5,6 +5,7 @@ use mathlib.Core.Bool.{Bool, true, false, cond, _&&_}
 use mathlib.Core.List.{List, [], _∷_, _++_}
 use mathlib.Core.Option.{Option, none, some}
 use Prim.Native.Nat.{ℕ, zero, suc, _+_, _<_}
+use native.Mathlib.Decide.{ℕ-discrete}
 use native.Mathlib.Omega.{arith}
 use lib.ListN.{length, getD, take, drop}
 use Rattle.octets.proofs.Laws.{Bytes}
@@ -16,13 +17,13 @@ use Rattle.replica.specs.Receive.{step}
 use Rattle.replica.proofs.Kept.{keeps-step}
 use Rattle.replica.proofs.Taken.{Taken}
 use Rattle.steps.specs.Station.{Station, putAt, withImage, without}
-use Rattle.protocol.specs.Table.{In}
-use Rattle.protocol.specs.State.{Tx, Contents, History, State}
-use Rattle.protocol.specs.Proof.Tables.{on}
+use Rattle.protocol.specs.Table.{put2, In}
+use Rattle.protocol.specs.State.{Tx, Tx-discrete, Contents, History, State}
+use Rattle.protocol.specs.Proof.Tables.{on, put2-cases}
 use Rattle.protocol.specs.Refine.Growth.{Late}
 use borrow.Author.Tests.{eqb-true}
 use Rattle.history.proofs.Tests.{and-true}
-use Rattle.history.specs.Ledger.{Done, Ledger, txOf, isCommit, isDone, poolPut, logPut, donesPut, withPut, withDelivered}
+use Rattle.history.specs.Ledger.{Ledger, txOf, isCommit, isDone, poolPut, logPut, donesPut, withPut, withDelivered}
 use Rattle.history.proofs.Sim.{Tells}
 use Rattle.history.proofs.Carry.{put-all, onward, tells-on, by-pool}
 use Rattle.history.proofs.Books.{Decided, Past, More, Asked, Valid, World, found-next}
@@ -122,7 +123,7 @@ module _ (st : Station) (L : Ledger) (F : Past) (w : World st L F) (n : ℕ) (b 
     pub arrived : (p : Option (List ℕ)) (pool' : List (List ℕ)) → poolPut p pool ≡ pool' → a .log-after ≡ logPut p (w .log)
         → ((y : List ℕ) → In y pool' → In y pool ⊎ (Tells (τ .history) (τ .votes) (τ .sent) y × Bytes y))
         → ((y : List ℕ) → In y (poolPut p (L .puts)) → In y (L .puts) ⊎ Tells (τ .history) (τ .votes) (τ .sent) y)
-        → ((d : Done) → In d (donesPut b p (L .dones)) → In d (L .dones) ⊎ Late (τ .ends) (d .node) (d .tx))
+        → ((x : Tx) (i : ℕ) → donesPut b p (L .dones) x i ≡ true → (L .dones x i ≡ true) ⊎ Late (τ .ends) i x)
         → World (next pool') (told p) (More F (next pool'))
     arrived p pool' e f g gp h =
         let sim' = by-pool (withImage st n image) (a .log-after) (a .sim-after) pool' (st .own) (λ y i. on (g y i) (λ j. inl (sub y j)) (λ z. inr (z .0))) in
@@ -139,7 +140,7 @@ module _ (st : Station) (L : Ledger) (F : Past) (w : World st L F) (n : ℕ) (b 
             log-as = ap (logPut p) (bk .log-as) ∙ sym f;
             decided = decided-as p;
             present = λ i. present-on L (told p) i (st .records i) (st .records i) (objects-still (st .records i)) (same-told p) (bk .present i);
-            dones = λ d i. on (h d i) (λ j. a .grows .g-late (d .node) (d .tx) (bk .dones d j)) (λ z. z);
+            dones = λ x i e. on (h x i e) (λ j. a .grows .g-late i x (bk .dones x i j)) (λ z. z);
             found = found-next F (next pool') τ (a .log-after) sim' (w .valid .records)
                 (λ x t v q r. bk .found .still x t v q (sym (phase-as x) ∙ r))
                 (λ x t v q r. let z = bk .found .carried x t v q (asked-as x r) in
@@ -151,17 +152,18 @@ module _ (st : Station) (L : Ledger) (F : Past) (w : World st L F) (n : ℕ) (b 
 
   -- no answer
   pub silent-world : Acted st σ (w .log) (w .sim) n m k image (λ τ l'. l' ≡ w .log) → World (next pool) (told none) (More F (next pool))
-  silent-world a = arrived _ a none pool refl (a .told) (λ y i. inl i) (λ y i. inl i) (λ d i. inl i)
+  silent-world a = arrived _ a none pool refl (a .told) (λ y i. inl i) (λ y i. inl i) (λ x i e. inl e)
 
   -- an answer at the pool's end
   put-cases : (y c : List ℕ) → In y (pool ++ (c ∷ [])) → In y pool ⊎ (y ≡ c)
   put-cases y c i = on (in-append y pool (c ∷ []) i) inl (λ j. on j (λ e. inr e) (λ z. absurd z))
 
-  done-of : (c : Message) (t : Bool) (dones : List Done) (d : Done) → In d (cond t (record { node = fromOf (encode c); tx = txOf b } ∷ dones) dones)
-      → In d dones ⊎ ((t ≡ true) × (d ≡ record { node = fromOf (encode c); tx = txOf b }))
-  done-of c true dones d (inl e) = inr (refl, e)
-  done-of c true dones d (inr i) = inl i
-  done-of c false dones d i = inl i
+  done-of : (c : Message) (t : Bool) (f : Tx → ℕ → Bool) (x : Tx) (i : ℕ)
+      → cond t (put2 Tx-discrete ℕ-discrete f (txOf b) (fromOf (encode c)) true) f x i ≡ true
+      → (f x i ≡ true) ⊎ ((t ≡ true) × (x ≡ txOf b) × (i ≡ fromOf (encode c)))
+  done-of c true f x i e = on (put2-cases Tx-discrete ℕ-discrete f (txOf b) (fromOf (encode c)) true x i)
+      (λ z. inr (refl, z .0 .0, z .0 .1)) (λ z. inl (sym (z .1) ∙ e))
+  done-of c false f x i e = inl e
 
   pub answer-world : (c : Message) → Acted st σ (w .log) (w .sim) n m k image (λ τ l'. Heard τ (w .log) l' (txIn m) c)
       → World (next (pool ++ (encode c ∷ []))) (told (some (encode c))) (More F (next (pool ++ (encode c ∷ []))))
@@ -171,8 +173,8 @@ module _ (st : Station) (L : Ledger) (F : Past) (w : World st L F) (n : ℕ) (b 
       (λ e. inr (subst (Tells (a .after .history) (a .after .votes) (a .after .sent)) (sym e) (z .tells), subst Bytes (sym e) (z .bytes))))
       (λ y i. on (in-append y (L .puts) (encode c ∷ []) i) inl
       (λ j. inr (on j (λ e. subst (Tells (a .after .history) (a .after .votes) (a .after .sent)) (sym e) (z .tells)) (λ q. absurd q))))
-      (λ d i. on (done-of c (isCommit b && isDone (encode c)) (L .dones) d i) inl
-      (λ q. inr (subst (λ (u : Done). Late (a .after .ends) (u .node) (u .tx)) (sym (q .1))
+      (λ x i e. on (done-of c (isCommit b && isDone (encode c)) (L .dones) x i e) inl
+      (λ q. inr (subst (Late (a .after .ends) i) (sym (q .1)) (subst (λ (g : ℕ). Late (a .after .ends) g (txOf b)) (sym (q .2))
       (subst (λ (g : ℕ). Late (a .after .ends) g (txOf b)) (sym (from-of c (z .fits)))
       (subst (Late (a .after .ends) (c .from)) (sym (tx-decoded b))
-      (z .a-done (sym (kind-of c (z .fits)) ∙ eqb-true (kindOf (encode c)) 6 (and-true (isCommit b) (isDone (encode c)) (q .0) .1))))))))
+      (z .a-done (sym (kind-of c (z .fits)) ∙ eqb-true (kindOf (encode c)) 6 (and-true (isCommit b) (isDone (encode c)) (q .0) .1)))))))))

@@ -20,9 +20,9 @@ use Rattle.protocol.specs.Rules.{unused, read, write}
 use Rattle.protocol.specs.State.{Tx, fresh, voting, committed, Contents, History, State}
 use Rattle.protocol.specs.Refine.Growth.{Late}
 use Rattle.protocol.specs.Proof.Tables.{on, clash}
-use Rattle.history.specs.Ledger.{Done, Ledger}
+use Rattle.history.specs.Ledger.{Ledger}
 use Rattle.history.specs.Claims.{Shows, Finds}
-use Rattle.history.proofs.Quorums.{Sane}
+use Rattle.history.specs.Sane.{Sane}
 use Rattle.history.proofs.Sim.{tx, modeOf, contentsOf, Owner, Tells, Sim}
 use Rattle.history.proofs.Carry.{put-all, by-none}
 
@@ -70,7 +70,7 @@ pub record Books (L : Ledger) (F : Past) (st : Station) (σ : State ℕ) (l : Li
   pub log-as : L .log ≡ l
   pub decided : Decided L (σ .history)
   pub present : (n : ℕ) → Present L n (st .records n)
-  pub dones : (d : Done) → In d (L .dones) → Late (σ .ends) (d .node) (d .tx)
+  pub dones : (x : Tx) (n : ℕ) → L .dones x n ≡ true → Late (σ .ends) n x
   pub found : Found F st (σ .history)
 
 -- ---- a station whose images and records are valid, and whose messages are bytes
@@ -187,7 +187,7 @@ module _ (st : Station) (L : Ledger) (F : Past) (w : World st L F) (n : ℕ) (c'
           log-as = ll ∙ b .log-as;
           decided = ld;
           present = lr;
-          dones = λ d i. b .dones d (subst (In d) le i);
+          dones = λ x m i. b .dones x m (ap (λ (f : Tx → ℕ → Bool). f x m) (sym le) ∙ i);
           found = found-next F after (w .state) (w .log) sim' meets
               (λ x t v g p. still-shown f (x .owner) (x .serial) t v (b .found .still x t v g p) p)
               (b .found .carried) (λ x t a q. inl (b .found .had x t a q));

@@ -21,8 +21,9 @@ use Rattle.protocol.specs.Proof.AskAbort.{Forward, committed-asked}
 use Rattle.protocol.specs.Refine.Growth.{Grows, history-same}
 use Rattle.protocol.specs.Refine.Holders.{shown, holders-as-read}
 use Rattle.protocol.specs.Refine.Simulate.{step-kept}
-use Rattle.history.proofs.Quorums.{Sane, rules, top}
-use Rattle.history.proofs.Sim.{tx, WasSent, Owner, Match, Tells, Read, holders, Sim}
+use Rattle.history.specs.Sane.{Sane}
+use Rattle.history.proofs.Quorums.{rules, top}
+use Rattle.history.proofs.Sim.{tx, WasSent, Owner, Match, Tells, Waits, Read, holders, Sim}
 
 -- ---- a table changed at one place
 put-by : {A : Type 0} (P : ℕ → A → Type 0) (t : Bool) (f : ℕ → A) (n : ℕ) (v : A) (i : ℕ) → eqb i n ≡ t → P n v → (eqb i n ≡ false → P i (f i))
@@ -81,6 +82,15 @@ module _ {h h' : History ℕ} {v v' : Votes} {m m' : List (Copy ℕ)} (g : Onwar
 pub onward-same : (h : History ℕ) (v : Votes) (m : List (Copy ℕ)) → Onward h h v v m m
 onward-same h v m = record { forward = history-same h; yes = λ n x e. e; copies = λ c i. i }
 
+-- what waits goes on with the state
+pub waits-on : {σ σ' : State ℕ} → Grows σ σ' → (b : List ℕ) → Waits σ b → Waits σ' b
+waits-on g b (inl t) = inl (tells-on (onward g) b t)
+waits-on g b (inr z) = inr (record {
+  well = z .well;
+  decided = on (z .decided) (λ e. inl (g .g-history .f-committed _ e)) (λ e. inr (g .g-history .f-aborted _ e));
+  late = λ e. g .g-late _ _ (z .late e);
+})
+
 -- ---- a step of the station by one transition
 pub by-one : {s : System} {sane : Sane s} {σ σ' : State ℕ} (st st' : Station) (l : List Tx) → Sim sane st σ l → (s : Step (rules sane) σ σ')
     → Read st' σ' → ((n t : ℕ) → shown s (holders st) n t ≡ holders st' n t)
@@ -93,7 +103,7 @@ by-one {sane = sane} st st' l sim s r e ow new =
       kept = record { inv = k .0 .inv; log = k .0 .log; holders = holders-as-read _ _ _ _ e (k .0 .holders) };
       reads = r;
       owners = ow;
-      waits = λ b i. on (new b i) (λ j. tells-on (onward (k .1)) b (sim .waits b j)) (λ t. t);
+      waits = λ b i. on (new b i) (λ j. waits-on (k .1) b (sim .waits b j)) inl;
     }
 
 -- a coordinator's transition leaves the images as they are read
@@ -110,7 +120,7 @@ by-none {σ = σ} st l sim n c pool own ow new = record {
   kept = sim .kept;
   reads = sim .reads;
   owners = put-all (Owner (σ .history) (σ .votes) (σ .sent)) (st .records) n c ow (λ i e. sim .owners i);
-  waits = λ b i. on (new b i) (λ j. sim .waits b j) (λ t. t);
+  waits = λ b i. on (new b i) (sim .waits b) inl;
 }
 
 -- only the pool changes, or who is on
@@ -118,4 +128,4 @@ pub by-pool : {s : System} {sane : Sane s} {σ : State ℕ} (st : Station) (l : 
     → ((b : List ℕ) → In b pool → In b (st .pool) ⊎ Tells (σ .history) (σ .votes) (σ .sent) b)
     → Sim sane (record { images = st .images; records = st .records; pool = pool; own = own }) σ l
 by-pool st l sim pool own new =
-    record { kept = sim .kept; reads = sim .reads; owners = sim .owners; waits = λ b i. on (new b i) (λ j. sim .waits b j) (λ t. t) }
+    record { kept = sim .kept; reads = sim .reads; owners = sim .owners; waits = λ b i. on (new b i) (sim .waits b) inl }

@@ -19,13 +19,12 @@ use Rattle.image.proofs.Blanks.{blank-zero}
 use Rattle.image.proofs.Each.{lt-or-le}
 use Rattle.coordinator.specs.declared.Coordinator.{Coordinator}
 use Rattle.coordinator.specs.declared.Step.{Step}
-use Rattle.coordinator.specs.State.{idlePhase, idleAfter, placeOf, objectAt, isOpen, ready, stepOf}
+use Rattle.coordinator.specs.State.{idlePhase, placeOf, objectAt, isOpen, ready, stepOf}
 use Rattle.coordinator.specs.Calls.{foundRefusals, foundOf}
 use Rattle.coordinator.proofs.Refusals.{clear}
 use Rattle.clauses.proofs.Places.{place-open}
 use Rattle.steps.specs.Station.{Station, system, withRecord}
 use Rattle.steps.specs.Step.{Call, found, Outcome, refusedWith, taken, hosted, whenOff, step}
-use Rattle.steps.specs.Run.{after}
 use Rattle.protocol.specs.Table.{In, Suffix, times, select}
 use Rattle.protocol.specs.Rules.{unused, write}
 use Rattle.protocol.specs.State.{Tx, Tx-discrete, committed, State}
@@ -37,17 +36,19 @@ use Rattle.protocol.specs.Proof.Lists.{select-ext, given-ext, replay-ext, in-se
 use Rattle.protocol.specs.Proof.Core.{claims, committed-good}
 use Rattle.protocol.specs.Proof.Log.{base-claims}
 use Rattle.protocol.specs.Refine.Messages.{done-applied}
-use Rattle.history.specs.Ledger.{Ledger, ledger, txOf, in?, fed, turn, givenTo, lastValue}
-use Rattle.history.specs.Ballots.{ballots}
-use Rattle.history.specs.Claims.{Typed, AllTyped, Shows, Finds, Carries, Settled, Newest, Ripe, SaysCommitted, reached, told, votes, event, Ripens}
-use Rattle.history.specs.Claims.{Demand3}
+use Rattle.history.specs.Ledger.{Ledger, ledgerFrom, txOf, in?, fed, current, turn, givenTo, lastValue}
+use Rattle.history.specs.Ballots.{ballotsFrom}
+use Rattle.history.specs.Origin.{Origin, ledgerOf, Rested}
+use Rattle.history.specs.Claims.{AllTyped, Shows, Finds, Carries, Settled, Newest, Ripe, SaysCommitted, reached, told, votes, event, Ripens}
+use Rattle.history.specs.Claims.{Sourced, Demand3}
 use Rattle.history.proofs.Quorums.{quorums, rules, top, of-mask}
-use Rattle.history.proofs.Sim.{tx, Match}
+use Rattle.history.proofs.Sim.{Match}
 use Rattle.history.proofs.Books.{Decided, Past, More, World}
 use Rattle.history.proofs.Tests.{not-false}
 use Rattle.steps.proofs.Nodes.{off-number}
-use Rattle.history.proofs.Theorem.{Good, good-next, good-past, blank-good}
-use Rattle.history.proofs.Polls.{Counts, blank-counts, counts-next}
+use Rattle.history.proofs.Theorem.{Good, good-next, good-past}
+use Rattle.history.proofs.Polls.{Counts, counts-next}
+use Rattle.history.proofs.Origins.{Had, rested-good, rested-counts}
 use Rattle.history.proofs.Meaning.{note-told, ripe-told, says-ripens, ripens-says}
 
 module _ (st : Station) (L : Ledger) (F : Past) (g : Good st L F) where
@@ -67,7 +68,7 @@ module _ (st : Station) (L : Ledger) (F : Past) (g : Good st L F) where
   core = claims (rules (w .sane)) σ (w .sim .kept .inv)
 
   -- what replay is fed is the same
-  fed-as : fed L ≡ Rattle.protocol.specs.Log.fed σ (w .log)
+  pub fed-as : fed L ≡ Rattle.protocol.specs.Log.fed σ (w .log)
   fed-as = ap (select (λ x. in? x (L .committed))) (w .books .log-as)
       ∙ select-ext (λ x. in? x (L .committed)) (committed? (σ .history)) (w .log) (λ x i. (d .told-so x, d .is-told x))
 
@@ -133,11 +134,11 @@ module _ (st : Station) (L : Ledger) (F : Past) (g : Good st L F) where
   -- ---- (b)
   source-as : (t v : ℕ) → (v ≡ 0) ⊎ ((y : Tx) × (σ .history .phase y ≡ committed) × (σ .history .contents y .mode t ≡ write) ×
       (v ≡ σ .history .contents y .new t))
-      → (v ≡ 0) ⊎ ((y : Tx) × In y (L .committed) × (L .mode y t ≡ write) × (v ≡ L .new y t))
+      → Sourced L t v
   source-as t v (inl e) = inl e
   source-as t v (inr z) = inr (z .0, d .is-told (z .0) (z .1), d .its-mode (z .0) (z .1) t ∙ z .2, z .3 ∙ sym (d .its-new (z .0) (z .1) t))
 
-  pub is-sourced : (x : Tx) (t v : ℕ) → Finds st x t v → (v ≡ 0) ⊎ ((y : Tx) × In y (L .committed) × (L .mode y t ≡ write) × (v ≡ L .new y t))
+  pub is-sourced : (x : Tx) (t v : ℕ) → Finds st x t v → Sourced L t v
   is-sourced x t v f =
       let c = st .records (x .owner) in
       let z = place-open (c .objects) (c .count) t (ltb-true (placeOf c t) mostOpen (f .opened)) in
@@ -152,7 +153,7 @@ module _ (st : Station) (L : Ledger) (F : Past) (g : Good st L F) where
   all-applied : Settled L → AllApplied (σ .votes) (σ .history)
   all-applied s x n p q =
       done-applied (rules (w .sane)) σ (w .sim .kept .inv) n x p q
-      (w .books .dones (record { node = n; tx = x }) (s x (d .is-told x p) n (d .its-party x p n ∙ q)))
+      (w .books .dones x n (s x (d .is-told x p) n (d .its-party x p n ∙ q)))
 
   -- where every participant has applied what was committed, every newest copy has the last value
   pub applied-newest : AllApplied (σ .votes) (σ .history) → (q : ℕ) → system st .isRead q ≡ true → (n t : ℕ) → Newest st q n t
@@ -219,29 +220,32 @@ shown-by st n t s e q =
       value = sym (z .1);
     }
 
--- ---- every list of steps
-module _ (up : ℕ) where
-  -- found after some earlier list
+-- ---- every list of steps from an origin
+module _ (o : Origin) (r : Rested o) where
+  -- found after some earlier list, or carried
   abbrev Earlier : List Call → Past
-  Earlier cs x t v = (ds : List Call) × Suffix ds cs × Finds (reached up ds) x t v
+  Earlier cs x t v = Had o x t v ⊎ ((ds : List Call) × Suffix ds cs × Finds (reached o ds) x t v)
 
-  nothing-found : (x : Tx) (t v : ℕ) → Earlier [] x t v → ⊥
-  unfolding idleAfter
-  nothing-found x t v z = z .2 .begun (ap (λ (cs : List Call). reached up cs .records (x .owner) .phase) (z .1))
+  only-carried : (x : Tx) (t v : ℕ) → Earlier [] x t v → Had o x t v
+  only-carried x t v (inl h) = h
+  only-carried x t v (inr z) = absurd (z .2 .begun (ap (λ (cs : List Call). reached o cs .records (x .owner) .phase) (z .1) ∙ r .idle (x .owner)))
 
-  longer : (c : Call) (cs : List Call) (x : Tx) (t v : ℕ) → More (Earlier cs) (reached up (c ∷ cs)) x t v → Earlier (c ∷ cs) x t v
-  longer c cs x t v (inl z) = (z .0, inr (z .1), z .2)
-  longer c cs x t v (inr f) = (c ∷ cs, inl refl, f)
+  longer : (c : Call) (cs : List Call) (x : Tx) (t v : ℕ) → More (Earlier cs) (reached o (c ∷ cs)) x t v → Earlier (c ∷ cs) x t v
+  longer c cs x t v (inl (inl h)) = inl h
+  longer c cs x t v (inl (inr z)) = inr (z .0, inr (z .1), z .2)
+  longer c cs x t v (inr f) = inr (c ∷ cs, inl refl, f)
 
-  shorter : (c : Call) (cs : List Call) (x : Tx) (t v : ℕ) → Earlier (c ∷ cs) x t v → More (Earlier cs) (reached up (c ∷ cs)) x t v
-  shorter c cs x t v z = on (z .1) (λ e. inr (subst (λ (ds : List Call). Finds (reached up ds) x t v) e (z .2))) (λ s. inl (z .0, s, z .2))
+  shorter : (c : Call) (cs : List Call) (x : Tx) (t v : ℕ) → Earlier (c ∷ cs) x t v → More (Earlier cs) (reached o (c ∷ cs)) x t v
+  shorter c cs x t v (inl h) = inl (inl h)
+  shorter c cs x t v (inr z) =
+      on (z .1) (λ e. inr (subst (λ (ds : List Call). Finds (reached o ds) x t v) e (z .2))) (λ s. inl (inr (z .0, s, z .2)))
 
-  pub always-good : (cs : List Call) → AllTyped cs → Good (reached up cs) (told up cs) (Earlier cs)
-  unfolding ledger
-  always-good [] a = blank-good up (Earlier []) nothing-found
+  pub always-good : (cs : List Call) → AllTyped cs → Good (reached o cs) (told o cs) (Earlier cs)
+  unfolding ledgerFrom
+  always-good [] a = good-past (o .station) (ledgerOf o) (Had o) (Earlier []) (λ x t v. inl) only-carried (rested-good o r)
   always-good (c ∷ cs) a =
-      good-past (reached up (c ∷ cs)) (told up (c ∷ cs)) (More (Earlier cs) (reached up (c ∷ cs))) (Earlier (c ∷ cs)) (longer c cs) (shorter c cs)
-      (good-next (reached up cs) (told up cs) (Earlier cs) (always-good cs (a .1)) c (a .0))
+      good-past (reached o (c ∷ cs)) (told o (c ∷ cs)) (More (Earlier cs) (reached o (c ∷ cs))) (Earlier (c ∷ cs)) (longer c cs) (shorter c cs)
+      (good-next (reached o cs) (told o cs) (Earlier cs) (always-good cs (a .1)) c (a .0))
 
   typed-suffix : (ds cs : List Call) → Suffix ds cs → AllTyped cs → AllTyped ds
   typed-suffix ds [] e a = subst AllTyped (sym e) tt
@@ -249,41 +253,46 @@ module _ (up : ℕ) where
   typed-suffix ds (c ∷ cs) (inr s) a = typed-suffix ds cs s (a .1)
 
   -- what the events tell of the votes goes with it
-  pub always-counts : (cs : List Call) → AllTyped cs → Counts (reached up cs) (told up cs) (votes up cs)
-  unfolding ledger ballots
-  always-counts [] a = blank-counts up
+  pub always-counts : (cs : List Call) → AllTyped cs → Counts (reached o cs) (told o cs) (votes o cs)
+  unfolding ledgerFrom ballotsFrom
+  always-counts [] a = rested-counts o r
   always-counts (c ∷ cs) a =
-      counts-next (reached up cs) (told up cs) (Earlier cs) (votes up cs) (always-good cs (a .1)) (always-counts cs (a .1)) c
+      counts-next (reached o cs) (told o cs) (Earlier cs) (votes o cs) (always-good cs (a .1)) (always-counts cs (a .1)) c
 
   -- one more step, and the steps before it
   module _ (cs : List Call) (a : AllTyped cs) (c : Call) (ds : List Call) (s : Suffix (c ∷ ds) cs) (x : Tx) where
     now : AllTyped (c ∷ ds)
     now = typed-suffix (c ∷ ds) cs s a
 
-    pub commits-ripen : SaysCommitted (told up ds) (event up ds c) x → Ripens up ds c x
-    unfolding ledger ballots
-    commits-ripen = says-ripens (reached up ds) (told up ds) (Earlier ds) (votes up ds) (always-good ds (now .1)) (always-counts ds (now .1)) c
+    pub commits-ripen : SaysCommitted (told o ds) (event o ds c) x → Ripens o ds c x
+    unfolding ledgerFrom ballotsFrom
+    commits-ripen = says-ripens (reached o ds) (told o ds) (Earlier ds) (votes o ds) (always-good ds (now .1)) (always-counts ds (now .1)) c
         (Earlier (c ∷ ds)) (always-good (c ∷ ds) now) (always-counts (c ∷ ds) now) x
 
-    pub ripe-commits : Ripens up ds c x → SaysCommitted (told up ds) (event up ds c) x
-    unfolding ledger ballots
-    ripe-commits = ripens-says (reached up ds) (told up ds) (Earlier ds) (votes up ds) (always-good ds (now .1)) (always-counts ds (now .1)) c
+    pub ripe-commits : Ripens o ds c x → SaysCommitted (told o ds) (event o ds c) x
+    unfolding ledgerFrom ballotsFrom
+    ripe-commits = ripens-says (reached o ds) (told o ds) (Earlier ds) (votes o ds) (always-good ds (now .1)) (always-counts ds (now .1)) c
         (Earlier (c ∷ ds)) (always-good (c ∷ ds) now) (always-counts (c ∷ ds) now) x
 
   -- hence: what is ripe after a list was told committed, and what was told committed was ripe after some earlier list
-  pub means-committed : (cs : List Call) → AllTyped cs → (x : Tx) → Ripe (told up cs) (votes up cs) x → In x (told up cs .committed)
-  means-committed cs a = ripe-told (reached up cs) (told up cs) (Earlier cs) (votes up cs) (always-good cs a) (always-counts cs a)
+  pub means-committed : (cs : List Call) → AllTyped cs → (x : Tx) → Ripe (told o cs) (votes o cs) x → In x (told o cs .committed)
+  means-committed cs a = ripe-told (reached o cs) (told o cs) (Earlier cs) (votes o cs) (always-good cs a) (always-counts cs a)
 
-  pub committed-means : (cs : List Call) → AllTyped cs → (x : Tx) → In x (told up cs .committed)
-      → (ds : List Call) × Suffix ds cs × Ripe (told up ds) (votes up ds) x
-  unfolding ledger
-  committed-means [] a x i = absurd i
-  committed-means (c ∷ cs) a x i = on (note-told (told up cs) x (event up cs c) i)
+  pub committed-means : (cs : List Call) → AllTyped cs → (x : Tx) → In x (told o cs .committed)
+      → (ds : List Call) × Suffix ds cs × Ripe (told o ds) (votes o ds) x
+  unfolding ledgerFrom ballotsFrom
+  committed-means [] a x i = let f = rested-counts o r .all-agreed x i in ([], refl, record { asked = f .is-asked; everyone = f .everyone; unspoilt = refl })
+  committed-means (c ∷ cs) a x i = on (note-told (told o cs) x (event o cs c) i)
       (λ j. let z = committed-means cs (a .1) x j in (z .0, inr (z .1), z .2))
       (λ s. (c ∷ cs, inl refl, commits-ripen (c ∷ cs) a c cs (inl refl) x s .1))
 
+  -- what an accepted found call shows, is found
+  shown-finds : (n t : ℕ) (ds : List Call) → AllTyped ds → step (reached o ds) (found n t) .number ≡ 0
+      → Finds (reached o ds) (current (told o ds) n) t (step (reached o ds) (found n t) .answer)
+  shown-finds n t ds a q = shown-by (reached o ds) n t (told o ds .serials n) (sym (always-good ds a .world .books .present n .serial-as)) q
+
   -- THE THEOREM: for every list of steps, whichever nodes are on
-  pub demand-3 : (cs : List Call) → AllTyped cs → Demand3 up cs
+  pub demand-3 : (cs : List Call) → AllTyped cs → Demand3 o cs
   demand-3 cs a = let g = always-good cs a in record {
     committed-ripens = λ x c ds s. commits-ripen cs a c ds s x;
     ripens-committed = λ x c ds s. ripe-commits cs a c ds s x;
@@ -291,16 +300,18 @@ module _ (up : ℕ) where
     fed-once = is-fed-once _ _ _ g;
     entries-as = entries-are _ _ _ g;
     commits-only = only-committed _ _ _ g;
-    was-ready = was-found _ _ _ g;
-    serial = λ x t v ds i s f. is-serial _ _ _ g x t v i (ds, s, f);
+    was-ready = λ x t i n q. on (was-found _ _ _ g x t i q) (λ h. absurd (n (h .0))) (λ z. z);
+    serial = λ x t v ds i s f. is-serial _ _ _ g x t v i (inr (ds, s, f));
     shown = λ x n t ds i s e q.
-        let h = always-good ds (typed-suffix ds cs (suffix-tail (found n t) ds cs s) a) in
-        is-serial _ _ _ g x t _ i (
+        let u = suffix-tail (found n t) ds cs s in
+        is-serial _ _ _ g x t _ i (inr (
           ds,
-          suffix-tail (found n t) ds cs s,
-          subst (λ (y : Tx). Finds (reached up ds) y t (step (reached up ds) (found n t) .answer)) e
-              (shown-by (reached up ds) n t (told up ds .serials n) (sym (h .world .books .present n .serial-as)) q),
-        );
-    sourced = is-sourced _ _ _ g;
+          u,
+          subst (λ (y : Tx). Finds (reached o ds) y t (step (reached o ds) (found n t) .answer)) e (shown-finds n t ds (typed-suffix ds cs u a) q),
+        ));
+    sourced = λ x t v ds s. is-sourced _ _ _ (always-good ds (typed-suffix ds cs s a)) x t v;
+    shown-sourced = λ n t ds s q.
+        let b = typed-suffix ds cs (suffix-tail (found n t) ds cs s) a in
+        is-sourced _ _ _ (always-good ds b) (current (told o ds) n) t _ (shown-finds n t ds b q);
     newest = is-newest _ _ _ g;
   }

@@ -22,7 +22,8 @@ use Rattle.protocol.specs.Transitions.{doAsk, CanAsk, doCommit, CanCommit, doAb
 use Rattle.protocol.specs.Proof.Tables.{on, put-cases, put-here}
 use Rattle.protocol.specs.Refine.Growth.{step-grows}
 use Rattle.clauses.proofs.Parts.{true-T}
-use Rattle.history.proofs.Quorums.{Sane, rules, of-mask}
+use Rattle.history.specs.Sane.{Sane}
+use Rattle.history.proofs.Quorums.{rules, of-mask}
 use Rattle.history.proofs.Sim.{tx, later-tx, modeOf, contentsOf, Owner, Sim}
 use Rattle.history.proofs.Carry.{onward, put-all, owner-on, by-one, reads-still}
 use Rattle.history.proofs.Quiet.{idle-owner, agreed-by}

@@ -1,7 +1,7 @@
 -- The host's calls that are no transition: begin, open, set, reselect. What the events tell of the transaction goes with its record.
 use mathlib.Core.Path.{_≡_, refl, sym, _∙_, ap, subst}
 use mathlib.Core.Logic.{_≢_, _⊎_, inl, inr, by-cases}
-use mathlib.Core.Bool.{Bool, true, false, cond, not}
+use mathlib.Core.Bool.{Bool, true, false, cond}
 use mathlib.Core.List.{List}
 use Prim.Native.Nat.{ℕ, _+_, _<_}
 use native.Mathlib.Decide.{ℕ-discrete}
@@ -22,7 +22,7 @@ use Rattle.wire.specs.declared.Entry.{Entry}
 use Rattle.clauses.proofs.Facts.{Meets}
 use Rattle.clauses.proofs.Places.{place-open}
 use Rattle.steps.specs.Station.{Station, system, nowOn}
-use Rattle.protocol.specs.Table.{put, put2, In}
+use Rattle.protocol.specs.Table.{put2, In}
 use Rattle.protocol.specs.Rules.{Mode, unused}
 use Rattle.protocol.specs.State.{Tx, Tx-discrete, fresh, committed}
 use Rattle.protocol.specs.Proof.Tables.{on, clash, put-cases, put-here, put2-cases}
@@ -417,7 +417,7 @@ module _ (st : Station) (L : Ledger) (F : Past) (w : World st L F) where
           log-as = b ∙ bk .log-as;
           decided = same-decided st L F w 0 d (told .modes) (told .news) (told .parties);
           present = λ i. present-on L L' i (st .records i) (st .records i) (objects-still (st .records i)) told (bk .present i);
-          dones = λ z i. bk .dones z (subst (In z) e i);
+          dones = λ z k i. bk .dones z k (ap (λ (f : Tx → ℕ → Bool). f z k) (sym e) ∙ i);
           found = found-next F st' (w .state) (w .log) sim' (w .valid .records) (bk .found .still) (bk .found .carried)
               (λ x t q r. inl (bk .found .had x t q r));
         };

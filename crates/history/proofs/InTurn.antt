@@ -12,17 +12,15 @@ use Rattle.mask.specs.Mask.{contains}
 use Rattle.wire.specs.Message.{vote, outcome, done}
 use Rattle.wire.specs.Decode.{kindOf, fromOf, toOf, ownerOf, serialOf, decode}
 use Rattle.wire.specs.Items.{wordOf}
-use Rattle.image.specs.Layout.{shape, serial, state, serialField, stateField}
+use Rattle.image.specs.Layout.{serial, state}
 use Rattle.image.specs.Valid.{over}
-use Rattle.image.proofs.Blanks.{blank-zero}
 use Rattle.coordinator.specs.declared.Coordinator.{Coordinator}
-use Rattle.coordinator.specs.State.{idlePhase, awaited, idleAfter}
+use Rattle.coordinator.specs.State.{idlePhase, awaited}
 use Rattle.arrivals.specs.Receive.{forReplica}
-use Rattle.steps.specs.Station.{Own, Station, blankStation, putAt}
+use Rattle.steps.specs.Station.{Own, Station, putAt}
 use Rattle.protocol.specs.Table.{In}
 use Rattle.protocol.specs.Proof.Tables.{on}
 use Rattle.history.proofs.Carry.{put-all}
-use Rattle.history.proofs.Quiet.{no-bit}
 use Rattle.history.proofs.Words.{header}
 use Rattle.history.proofs.Moves.{Behind, Bound, Moved, Moves, behind-on, bound-on, moved-other}
 
@@ -60,17 +58,6 @@ pub record InTurn (st : Station) : Type 0 where
 not-behind : (l : List ℕ) (o : ℕ) → state l o ≢ over → Behind l o (serial l o) → ⊥
 not-behind l o q (inl h) = let z : ⊥ = omega (arith, h) in z
 not-behind l o q (inr z) = q (z .1)
-
--- ---- the blank station
-pub blank-in-turn : (up : ℕ) → InTurn (blankStation up)
-unfolding idleAfter
-blank-in-turn up = record {
-  below = λ n o. subst (λ (s : ℕ). s ≤ 0) (sym (blank-zero (serialField shape) o tt tt tt)) (omega arith);
-  not-over = λ n o q. absurd (q (blank-zero (stateField shape) o tt tt tt));
-  said-yes = λ n o e. absurd (no-bit n e);
-  said-done = λ n o e. absurd (no-bit n e);
-  waits = λ b i. absurd i;
-}
 
 module _ (st : Station) (t : InTurn st) where
   -- a node whose state is not over has not said done

@@ -67,6 +67,8 @@ pub mod Theorem
 pub mod Counted
 pub mod Polls
 pub mod Meaning
+pub mod Spare
+pub mod Origins
 pub mod Claimed
 pub mod Numbered
 pub mod Resting

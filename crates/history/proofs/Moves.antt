@@ -7,8 +7,8 @@ use mathlib.Core.List.{List}
 use Prim.Native.Nat.{ℕ, _<_, _≤_}
 use native.Mathlib.Decide.{ℕ-discrete}
 use native.Mathlib.Omega.{arith}
-use lib.Dec.{eqb, ltb}
-use borrow.Author.Tests.{eqb-true, eqb-false, ne-eqb, le-ltb, ltb-true}
+use lib.Dec.{eqb}
+use borrow.Author.Tests.{eqb-true, ltb-true}
 use Rattle.numbers.specs.Sizes.{objects}
 use Rattle.octets.proofs.Laws.{Bytes}
 use Rattle.wire.specs.declared.Entry.{Entry}
@@ -18,7 +18,7 @@ use Rattle.wire.specs.Encode.{Fits}
 use Rattle.image.specs.Layout.{serial, state, ownerOf}
 use Rattle.image.specs.Valid.{over, held}
 use Rattle.image.proofs.Each.{lt-or-le}
-use Rattle.judge.specs.Standing.{aboveOf, standing, active, entered}
+use Rattle.judge.specs.Standing.{standing, active, entered}
 use Rattle.judge.specs.Judge.{votesNo, noSerials, serialsOf, rivalsOf}
 use Rattle.replica.specs.Steps.{Answer, silent, says, copyTo, voteTo, doneTo, wanted, copyHere, fetchImage, fetchAnswer, askImage, askAnswer, judgedAnswer}
 use Rattle.replica.specs.Steps.{outcomeImage}
@@ -33,7 +33,7 @@ use Rattle.arrivals.specs.Receive.{forReplica}
 use Rattle.protocol.specs.Proof.Tables.{on}
 use Rattle.history.proofs.Rows.{OneOwner}
 use Rattle.history.proofs.Images.{owner-from}
-use Rattle.history.proofs.Acts.{fresh-above, active-cases, late-standing}
+use Rattle.history.proofs.Acts.{fresh-above, active-cases, late-standing, behind-stands}
 use Rattle.history.proofs.Answers.{done-fits, copy-fits, vote-fits, none-small, yes-fits, here-fits, bytes-entered}
 use Rattle.history.proofs.Served.{kind-cases}
 
@@ -103,27 +103,6 @@ bound-on l k o s (inl z) w r b = same-bound l k w r (z .serials w) (z .states w)
 bound-on l k o s (inr z) w r b = by-cases (ℕ-discrete w o)
     (λ e. subst (λ (p : ℕ). Bound k p r) (sym e) (moved-bound l k o s (z .0) (z .1) r (subst (λ (p : ℕ). Bound l p r) e b)))
     (λ e. same-bound l k w r (z .1 .owner .serials w e) (z .1 .owner .states w e) b)
-
--- ---- how a transaction stands, from what is here
-stands-by : (a b : Bool) (n s st : ℕ) → ltb n s ≡ a → eqb n s ≡ b → n ≡ s → cond a (aboveOf st) (cond b st 0) ≡ st
-stands-by true b n s st p q e = absurd (let h = ltb-true n s p in let z : ⊥ = omega (arith, h, e) in z)
-stands-by false true n s st p q e = refl
-stands-by false false n s st p q e = absurd (eqb-false n s q e)
-
-module _ (l : List ℕ) (m : Message) where
-  -- the last one has its owner's state
-  pub last-stands : serial l (m .owner) ≡ m .serial → standing l m ≡ state l (m .owner)
-  unfolding standing
-  last-stands e = stands-by (ltb (serial l (m .owner)) (m .serial)) (eqb (serial l (m .owner)) (m .serial)) (serial l (m .owner)) (m .serial)
-      (state l (m .owner)) refl refl e
-
-  pub behind-stands : Behind l (m .owner) (m .serial) → standing l m ≡ 0
-  unfolding standing
-  behind-stands (inl h) = simp (
-    le-ltb (serial l (m .owner)) (m .serial) (omega (arith, h)),
-    ne-eqb (serial l (m .owner)) (m .serial) (λ e. let z : ⊥ = omega (arith, h, e) in z),
-  )
-  behind-stands (inr z) = last-stands (z .0) ∙ z .1
 
 -- ---- a delivery that is taken
 module _ (l : List ℕ) (m : Message) (t : Taken l m) where

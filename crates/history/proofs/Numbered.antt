@@ -1,4 +1,4 @@
--- The number of every delivery in a run from a blank station: whatever waits is accepted where it goes. What waits is well formed, images are sound, and
+-- The number of every delivery in a run from an origin: whatever waits is accepted where it goes. What waits is well formed, images are sound, and
 -- the kind names the end; and nothing is out of turn, since everything is kept in turn (InTurn).
 use mathlib.Core.Path.{_≡_, refl, sym, _∙_, ap, ap₂, subst}
 use mathlib.Core.Logic.{_≢_, _⊎_, inl, inr}
@@ -38,16 +38,20 @@ use Rattle.steps.specs.Step.{step}
 use Rattle.protocol.specs.Table.{In}
 use Rattle.protocol.specs.Proof.Tables.{on, clash}
 use Rattle.history.specs.Ledger.{Ledger}
+use Rattle.history.specs.Origin.{Origin, Rested}
 use Rattle.history.specs.Claims.{AllTyped, Crowded, reached, DeliveryNumbers}
 use Rattle.history.proofs.Tests.{no-both, and-true, not-true}
+use Rattle.history.proofs.Sim.{waits-well}
 use Rattle.history.proofs.Books.{Past, World}
 use Rattle.history.proofs.Words.{header, word-decoded}
 use Rattle.history.proofs.Calls.{zero-first}
 use Rattle.history.proofs.Arrive.{in-place}
-use Rattle.history.proofs.Moves.{Bound, last-stands, behind-stands}
-use Rattle.history.proofs.InTurn.{heard-of, InTurn, blank-in-turn}
+use Rattle.history.proofs.Acts.{last-stands, behind-stands}
+use Rattle.history.proofs.Moves.{Bound}
+use Rattle.history.proofs.InTurn.{heard-of, InTurn}
 use Rattle.history.proofs.Going.{nodes-named}
 use Rattle.history.proofs.Turned.{in-turn-next}
+use Rattle.history.proofs.Origins.{rested-in-turn}
 use Rattle.history.proofs.Room.{room-next}
 use Rattle.history.proofs.Claimed.{always-good}
 
@@ -87,7 +91,7 @@ module _ (st : Station) (L : Ledger) (F : Past) (w : World st L F) (t : InTurn s
   m = decode b
 
   well : checkOf b ≡ 0
-  well = w .sim .waits b in-pool .well
+  well = waits-well (w .state) b (w .sim .waits b in-pool)
 
   -- ---- at a replica
   module _ (order : forReplica (kindOf b) ≡ true) where
@@ -193,7 +197,8 @@ module _ (st : Station) (L : Ledger) (F : Past) (w : World st L F) (t : InTurn s
   arrives kept =
       ap (λ (x : Bool). cond x (cond (eqb (checkOf b) 0) (arriving st k kept b) (refusedWith (checkOf b) st)) (refusedWith 5 st))
       (lt-ltb k (length (st .pool)) waits)
-      ∙ ap (λ (x : Bool). cond x (arriving st k kept b) (refusedWith (checkOf b) st)) (eq-eqb (checkOf b) 0 (w .sim .waits b waiting .well))
+      ∙ ap (λ (x : Bool). cond x (arriving st k kept b) (refusedWith (checkOf b) st))
+      (eq-eqb (checkOf b) 0 (waits-well (w .state) b (w .sim .waits b waiting)))
 
   arrives-at : (kept up order : Bool) → contains (st .own .on) (toOf b) ≡ up → forReplica (kindOf b) ≡ order
       → step st (delivery k kept) ≡ cond up (cond order (atReplica st k kept (toOf b) b) (atCoordinator st k kept (toOf b) b)) (taken 0 (takenOut st k kept))
@@ -259,22 +264,22 @@ no-number st k kept h =
     ap (λ (x : Bool). cond x (cond (eqb (checkOf (getD (st .pool) k [])) 0) (arriving st k kept (getD (st .pool) k []))
     (refusedWith (checkOf (getD (st .pool) k [])) st)) (refusedWith 5 st) .number) (le-ltb k (length (st .pool)) h)
 
--- ---- every list of steps
-module _ (up : ℕ) where
-  pub always-in-turn : (cs : List Call) → AllTyped cs → InTurn (reached up cs)
-  always-in-turn [] a = blank-in-turn up
+-- ---- every list of steps from an origin
+module _ (o : Origin) (r : Rested o) where
+  pub always-in-turn : (cs : List Call) → AllTyped cs → InTurn (reached o cs)
+  always-in-turn [] a = rested-in-turn o r
   always-in-turn (c ∷ cs) a =
-      let g = always-good up cs (a .1) in
-      in-turn-next (reached up cs) _ _ (g .world) (g .wide) (always-in-turn cs (a .1)) c
+      let g = always-good o r cs (a .1) in
+      in-turn-next (reached o cs) _ _ (g .world) (g .wide) (always-in-turn cs (a .1)) c
 
-  pub always-room : (cs : List Call) → length (reached up cs .pool) ≤ mostWaiting
-  always-room [] = omega arith
-  always-room (c ∷ cs) = room-next (reached up cs) (always-room cs) c
+  pub always-room : (cs : List Call) → length (reached o cs .pool) ≤ mostWaiting
+  always-room [] = r .room
+  always-room (c ∷ cs) = room-next (reached o cs) (always-room cs) c
 
   -- THE THEOREM: for every list of steps, whichever nodes are on
-  pub delivery-number : (cs : List Call) → AllTyped cs → DeliveryNumbers up cs
+  pub delivery-number : (cs : List Call) → AllTyped cs → DeliveryNumbers o cs
   delivery-number cs a = record {
-    none-waits = no-number (reached up cs);
+    none-waits = no-number (reached o cs);
     one-waits = λ k kept h.
-        waiting-number (reached up cs) _ _ (always-good up cs a .world) (always-in-turn cs a) (always-room cs) k h kept;
+        waiting-number (reached o cs) _ _ (always-good o r cs a .world) (always-in-turn cs a) (always-room cs) k h kept;
   }

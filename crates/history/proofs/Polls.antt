@@ -40,7 +40,7 @@ use Rattle.clauses_arrive.proofs.Messages.{Taken, taken-of, vote-owner}
 use Rattle.clauses.proofs.Keep.{request-keeps}
 use Rattle.clauses_arrive.proofs.Deliveries.{afterCopy, copiedObject, saidYes, named, saidDone}
 use Rattle.due.specs.Due.{messageDue}
-use Rattle.steps.specs.Station.{Station, system, blankStation, withRecord, without}
+use Rattle.steps.specs.Station.{Station, system, withRecord, without}
 use Rattle.steps.specs.Step.{Call, begin, openRead, openWrite, setValue, found, reselect, requestCommit, abort, send, delivery, drop, switch, Outcome}
 use Rattle.steps.specs.Step.{refusedWith, taken, putting, full, takenOut, sendNumber, hosted, answered, atReplica, atCoordinator, arriving, deliveryOf}
 use Rattle.steps.specs.Step.{dropOf, switchOf, sendOf, step}
@@ -49,11 +49,11 @@ use Rattle.protocol.specs.Table.{put, In}
 use Rattle.protocol.specs.Rules.{read, write}
 use Rattle.protocol.specs.State.{Tx, Tx-discrete, tx-path}
 use Rattle.protocol.specs.Proof.Tables.{on, clash, put-cases, put2-cases, mark-stays}
-use Rattle.history.specs.Ledger.{Ledger, nothingYet, txOf, current, withSerial, withMode, withParticipants, withPut, withDelivered, noted}
+use Rattle.history.specs.Ledger.{Ledger, txOf, current, withSerial, withMode, withParticipants, withPut, withDelivered, noted}
 use Rattle.history.specs.Ledger.{note}
-use Rattle.history.specs.Ballots.{Ballots, noBallots, yielding, withAgreed, withSpoilt, heard, delivered, polled, poll}
+use Rattle.history.specs.Ballots.{Ballots, yielding, withAgreed, withSpoilt, heard, delivered, polled, poll}
 use Rattle.history.proofs.Tests.{no-both, and-true, not-false}
-use Rattle.history.proofs.Sim.{tx, other-tx}
+use Rattle.history.proofs.Sim.{tx, other-tx, waits-tells}
 use Rattle.history.proofs.Carry.{put-all}
 use Rattle.history.proofs.Quiet.{no-bit}
 use Rattle.history.proofs.Words.{word-known, yield-names}
@@ -72,20 +72,6 @@ pub record Counts (st : Station) (L : Ledger) (B : Ballots) : Type 0 where
   -- what was told committed has every participant's yes
   pub all-agreed : (x : Tx) → In x (L .committed) → Full (L .participants) (B .agreed) x
   pub counted : (n : ℕ) → CountedBy L B n (st .records n)
-
-pub blank-counts : (up : ℕ) → Counts (blankStation up) nothingYet (noBallots up)
-unfolding idleAfter
-blank-counts up = record {
-  up = refl;
-  all-agreed = λ x i. absurd i;
-  counted = λ n. record {
-    later = λ s h. record { unasked = refl; nobody = λ m. refl; unspoilt = refl };
-    while-open = λ e. record { unasked = refl; nobody = λ m. refl; unspoilt = refl };
-    while-voting = λ e. absurd (let z : ⊥ = omega arith in z);
-    ended = λ e. inr (inl refl);
-    earlier = λ s h. inr (inl refl);
-  };
-}
 
 module _ (st : Station) (L : Ledger) (F : Past) (B : Ballots) (g : Good st L F) (k : Counts st L B) where
   -- what holds after a step with this outcome
@@ -484,9 +470,9 @@ module _ (st : Station) (L : Ledger) (F : Past) (B : Ballots) (g : Good st L F) 
           not-open : r .phase ≡ openPhase → serialOf b ≡ r .serial → ⊥
           not-open f e =
               let w = g .world in
-              w .sim .kept .inv .votes .v-asked from now'
-              (subst (λ (y : Tx). w .state .votes .yes from y ≡ true) (names-now e) (w .sim .waits b in-pool .a-yes is-vote word))
-              (w .sim .owners n .while-open f)
+              let p = w .sim .owners n .while-open f in
+              let t = waits-tells (w .state) b now' (names-now e) (λ q. clash (cc)) (λ q. clash (cc)) (w .sim .waits b in-pool) in
+              w .sim .kept .inv .votes .v-asked from now' (subst (λ (y : Tx). w .state .votes .yes from y ≡ true) (names-now e) (t .a-yes is-vote word)) p
 
           yes-aside : answers r votingPhase (r .participants) b ≡ false → Q (brought 0 r)
           yes-aside f = let y = tx n (serialOf b) in

@@ -7,17 +7,13 @@ use Rattle.mask.proofs.Tests.{T-true}
 use Rattle.quorum.proofs.Theorems.{root-in-write, read-meets-write}
 use Rattle.coordinator.specs.System.{System, tree}
 use Rattle.clauses.proofs.Parts.{true-T}
-use Rattle.clauses.proofs.Quorums.{Quorums, tree-quorums}
-use Rattle.protocol.specs.Rules.{Nodes, root, Common, Rules}
+use Rattle.clauses.proofs.Quorums.{tree-quorums}
+use Rattle.protocol.specs.Rules.{Nodes, root, Rules}
 use Rattle.protocol.specs.Log.{RootInAll}
 use Rattle.protocol.specs.Tree.{TreeQuorums, treeRules}
+use Rattle.history.specs.Sane.{Sane}
 
--- what the proofs need of a quorum system: its choices count, every write quorum has the root, and it meets every read quorum
-pub record Sane (s : System) : Type 0 where
-  pub choices : Quorums s
-  pub root-in : (m : ℕ) → s .isWrite m ≡ true → contains m root ≡ true
-  pub meet : (a b : ℕ) → s .isRead a ≡ true → s .isWrite b ≡ true → (n : ℕ) × Common (contains a) (contains b) n
-
+-- the tree is one
 pub tree-sane : Sane tree
 tree-sane = record {
   choices = tree-quorums;

@@ -16,6 +16,7 @@ use Rattle.protocol.specs.Replay.{after, replay}
 use Rattle.protocol.specs.Proof.Tables.{on, pick-cases}
 use Rattle.protocol.specs.Proof.Lists.{select-cases, select-ext, in-select}
 use Rattle.history.specs.Ledger.{in?}
+use Rattle.history.specs.Origin.{isWrite}
 
 -- ---- places, from 1 for the oldest; 0 for one that is not there
 abbrev pub rank : List Tx → Tx → ℕ
@@ -84,11 +85,6 @@ is-in x (y ∷ l) e = on (pick-cases (Tx-discrete x y) (suc (times Tx-discrete x
 -- ---- what is held for an object after the turns of a list, whatever each writer gives it
 abbrev pub held : (Tx → ℕ → Mode) → (Tx → ℕ → ℕ) → List Tx → ℕ → ℕ
 held m g l t = replay 0 (λ x o a. after (m x o) (g x o) a) l t
-
-abbrev pub isWrite : Mode → Bool
-isWrite unused = false
-isWrite read = false
-isWrite write = true
 
 -- a place that is held is below every place above
 held-below : (m : Tx → ℕ → Mode) (r : Tx → ℕ) (l : List Tx) (t b : ℕ) → 0 < b → ((z : Tx) → In z l → r z < b) → held m (λ x o. r x) l t < b

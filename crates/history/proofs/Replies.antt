@@ -36,11 +36,12 @@ use Rattle.protocol.specs.Proof.Tables.{on, clash, pick-cases}
 use Rattle.protocol.specs.Proof.Lists.{times-none, times-once}
 use Rattle.protocol.specs.Refine.Growth.{Late}
 use Rattle.history.specs.Ledger.{txOf, rootYes, firstOnly, logPut}
-use Rattle.history.proofs.Quorums.{Sane}
+use Rattle.history.specs.Sane.{Sane}
 use Rattle.history.proofs.Sim.{copyOfEntry, Match, Tells, Sim}
 use Rattle.history.proofs.Words.{txIn, formed-word, kind-of, from-of, tx-of, word-of, entry-of, check-of}
 use Rattle.history.proofs.Encoded.{bytes-encode}
-use Rattle.history.proofs.Acts.{Acted, unmoved, fetched, voted-no, voted-yes, voted-before, late-here, dropped-early, dropped-here, applied-here}
+use Rattle.history.proofs.Acts.{active-cases, Acted, unmoved, fetched, voted-no, voted-yes, voted-before, late-here, dropped-early, dropped-here}
+use Rattle.history.proofs.Acts.{applied-here}
 use Rattle.history.proofs.Answers.{done-fits, copy-fits, vote-fits, none-small, yes-fits, here-fits, bytes-entered}
 
 -- ---- what an answer tells
@@ -178,7 +179,11 @@ module _ {s : System} {sane : Sane s} (st : Station) (σ : State ℕ) (log : Lis
       }
 
   -- ---- ask
-  module _ (kind : m .kind ≡ 3) (asked : σ .history .phase x ≢ fresh) (match : Match (σ .history .contents x) (m .entries)) where
+  module _ (kind : m .kind ≡ 3) (tells : (standing l m ≡ 0 → ⊥) → (σ .history .phase x ≢ fresh) × Match (σ .history .contents x) (m .entries)) where
+    -- what is active is not late
+    on-time : active l m ≡ true → standing l m ≡ 0 → ⊥
+    on-time a e = on (active-cases l m a) (λ q. let z : ⊥ = omega (arith, q, e) in z) (λ q. let z : ⊥ = omega (arith, q, e) in z)
+
     first-time : (l' : List Tx) → l' ≡ pick (ℕ-discrete n 0) (x ∷ log) log → (n ≡ 0 → In x log → ⊥) → n ≡ 0 → l' ≡ firstOnly x log
     first-time l' e new z = on (pick-cases (ℕ-discrete n 0) (x ∷ log) log)
         (λ q. e ∙ q .1 ∙ sym (ap (λ (t : ℕ). cond (eqb t 0) (x ∷ log) log) (times-none Tx-discrete x log (new z)))) (λ q. absurd (q .0 z))
@@ -190,7 +195,7 @@ module _ {s : System} {sane : Sane s} (st : Station) (σ : State ℕ) (log : Lis
         → Acted st σ log sim n m k (askImage l m)
         (λ τ l'. Said τ log l' x (cond v (says (voteTo n m noSerials 0)) (says (voteTo n m (serialsOf (entered l m) (rivalsOf (entered l m) m)) 1))))
     judged a true v = then (voted-no st σ log sim n m k a v) (λ τ l' e. no-said τ l' e)
-    judged a false v = then (voted-yes st σ log sim n m k a v asked match)
+    judged a false v = then (voted-yes st σ log sim n m k a v (tells (on-time a) .0) (tells (on-time a) .1))
         (λ τ l' z. yes-said (serialsOf (entered l m) (rivalsOf (entered l m) m)) (yes-fits n m (k .fits) (entered l m) (bytes-entered l m small-bytes))
         (yes-formed n m (entered l m) named) τ l' (z .1) (first-time l' (z .0) (z .2)) (other-time l' (z .0)))
 
@@ -233,8 +238,9 @@ module _ {s : System} {sane : Sane s} (st : Station) (σ : State ℕ) (log : Lis
         a-done = λ q. late;
       }
 
-  module _ (kind : m .kind ≡ 5) (a-commit : wordOf m ≡ 1 → (σ .history .phase x ≡ committed) × Match (σ .history .contents x) (m .entries))
-      (an-abort : wordOf m ≡ 0 → σ .history .phase x ≡ aborted) where
+  module _ (kind : m .kind ≡ 5)
+      (a-commit : (standing l m ≡ 0 → ⊥) → wordOf m ≡ 1 → (σ .history .phase x ≡ committed) × Match (σ .history .contents x) (m .entries))
+      (an-abort : (standing l m ≡ 0 → ⊥) → wordOf m ≡ 0 → σ .history .phase x ≡ aborted) where
     in-turn : outcomeWrongTurn (wordOf m) (standing l m) ≡ false
     in-turn = turn-outcome l m kind (k .turn)
 
@@ -261,9 +267,9 @@ module _ {s : System} {sane : Sane s} (st : Station) (σ : State ℕ) (log : Lis
         (unmoved st σ log sim n m k _ (done-said σ log refl (late-here st σ log sim n m k e))))
         (λ r. on r
         (λ e. on (formed-word m (k .formed) (inr kind))
-        (λ w. finish (dropped-early st σ log sim n m k e (an-abort w)))
+        (λ w. finish (dropped-early st σ log sim n m k e (an-abort (λ q. let y : ⊥ = omega (arith, e, q) in y) w)))
         (λ w. absurd (let z : ⊥ = omega (arith, e, commit-held w (λ q. let y : ⊥ = omega (arith, e, q) in y)) in z)))
         (λ e. on (formed-word m (k .formed) (inr kind))
-        (λ w. finish (dropped-here st σ log sim n m k (e .0) (e .1) w (an-abort w)))
-        (λ w. let c = a-commit w in
+        (λ w. finish (dropped-here st σ log sim n m k (e .0) (e .1) w (an-abort (λ q. let y : ⊥ = omega (arith, q, e .0) in y) w)))
+        (λ w. let c = a-commit (λ q. let y : ⊥ = omega (arith, q, e .0) in y) w in
         finish (applied-here st σ log sim n m k (e .0) (e .1) kind (commit-held w (λ q. let y : ⊥ = omega (arith, q, e .0) in y)) w (c .0) (c .1)))))

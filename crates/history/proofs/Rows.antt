@@ -14,14 +14,15 @@ use Rattle.image.specs.Layout.{value, version, holder, serial, state}
 use Rattle.coordinator.specs.System.{System}
 use Rattle.steps.specs.Station.{Station, putAt, withImage}
 use Rattle.protocol.specs.Table.{put2, putRow}
-use Rattle.protocol.specs.State.{Tx, over, listed, held, State, Writes, writes?}
+use Rattle.protocol.specs.State.{Tx, State, Writes, writes?}
 use Rattle.protocol.specs.Transitions.{doList, CanList, doCopy, doYes, CanYes, doNo, CanNo, doApply, CanApply, doDrop, CanDrop}
 use Rattle.protocol.specs.Transitions.{Step, list, copy, voteYes, voteNo, apply, drop}
 use Rattle.protocol.specs.Log.{logged}
 use Rattle.protocol.specs.Proof.Tables.{on, put2-cases, putRow-cases}
 use Rattle.protocol.specs.Refine.Growth.{step-grows}
-use Rattle.protocol.specs.Refine.Holders.{holders-as-read, holds?, taken, freed}
-use Rattle.history.proofs.Quorums.{Sane, rules}
+use Rattle.protocol.specs.Refine.Holders.{holders-as-read, holds?, freed}
+use Rattle.history.specs.Sane.{Sane}
+use Rattle.history.proofs.Quorums.{rules}
 use Rattle.history.proofs.Sim.{stateOf, holderOf, holders, Owner, Sim}
 use Rattle.history.proofs.Carry.{onward, owner-on, by-one}
 

@@ -1,4 +1,4 @@
--- Replay's last values in bounded memory: after every list of steps from a blank station, the last value that the digest of its events has for an
+-- Replay's last values in bounded memory: after every list of steps from an origin, the last value that the digest of its events has for an
 -- object is the one of the definition. By one more step; what the log has, and who is committed, is read off a good history and state.
 use mathlib.Core.Path.{_≡_, refl, sym, _∙_, ap, subst}
 use mathlib.Core.Logic.{inl, inr}
@@ -19,26 +19,27 @@ use Rattle.replica.specs.Receive.{deliver}
 use Rattle.replica.proofs.Delivered.{either-way}
 use Rattle.coordinator.specs.declared.Coordinator.{Coordinator}
 use Rattle.coordinator.specs.declared.Step.{Step}
-use Rattle.coordinator.specs.State.{openPhase, votingPhase, stepOf, ready}
+use Rattle.coordinator.specs.State.{openPhase, votingPhase, idleAfter, stepOf, ready}
 use Rattle.coordinator.specs.Calls.{openRefusals, openOf, setRefusals, setOf}
 use Rattle.arrivals.specs.Receive.{forReplica, receiveOf}
 use Rattle.coordinator.proofs.Refusals.{clear}
 use Rattle.clauses_arrive.proofs.Messages.{vote-owner}
 use Rattle.clauses_arrive.proofs.Deliveries.{copiedObject, receive-cases}
-use Rattle.replay.specs.Digest.{Digest, largest}
+use Rattle.replay.specs.Digest.{Digest, blankDigest, largest}
 use Rattle.replay.specs.Layout.{size}
-use Rattle.replay.specs.Sheet.{valueOf}
+use Rattle.replay.specs.Sheet.{blankAfter, valueOf}
 use Rattle.replay.proofs.Laws.{Reads, owner-below, blank-law, begun-law, opened-law, valued-law, put-law, committed-law, value-reads}
-use Rattle.steps.specs.Station.{Station, system, blankStation}
+use Rattle.steps.specs.Station.{Station, system}
 use Rattle.steps.specs.Step.{Call, begin, openRead, openWrite, setValue, found, reselect, requestCommit, abort, send, delivery, drop, switch, step, Outcome}
 use Rattle.steps.specs.Step.{refusedWith, taken, whenOff, hosted, full, answered, atReplica, atCoordinator, arriving, deliveryOf}
 use Rattle.steps.specs.Run.{eventOf, trace}
-use Rattle.protocol.specs.Table.{In, times}
+use Rattle.protocol.specs.Table.{pick, In, times}
 use Rattle.protocol.specs.Rules.{unused, read, write}
 use Rattle.protocol.specs.State.{Tx, Tx-discrete, tx-path, committed}
 use Rattle.protocol.specs.Replay.{replay}
 use Rattle.protocol.specs.Proof.Tables.{on, clash}
-use Rattle.history.specs.Ledger.{Ledger, ledger, txOf, rootYes, firstOnly, logPut, poolPut, noted, note, current, turn, lastValue}
+use Rattle.history.specs.Ledger.{Ledger, ledgerFrom, txOf, rootYes, firstOnly, logPut, poolPut, noted, note, current, turn, lastValue}
+use Rattle.history.specs.Origin.{Origin, ledgerOf, Rested, blankOrigin}
 use Rattle.history.specs.Claims.{Typed, AllTyped, reached, told}
 use Rattle.history.specs.Running.{putIn, telling, keeping, keptFrom, digestKeeper, digest, sheetKeeper, sheet}
 use Rattle.history.proofs.Sim.{tx}
@@ -339,35 +340,48 @@ module _ (st : Station) (L : Ledger) (F : Past) (g : Good st L F) (l : List ℕ)
       by true = telling-reads c
       by false = r
 
--- ---- every list of steps
-module _ (up : ℕ) where
-  always-kept : (cs : List Call) → AllTyped cs → length cs ≤ largest → Kept (length cs) (told up cs) (digest (trace (blankStation up) cs))
-  unfolding ledger keptFrom
-  always-kept [] a h = blank-tracks (λ x t. unused) (λ x t. refl)
-  always-kept (c ∷ cs) a h =
-      next-kept (reached up cs) (told up cs) _ (always-good up cs (a .1)) (length cs) (digest (trace (blankStation up) cs)) (omega arith)
-      (always-kept cs (a .1) (omega arith)) c (a .0)
+-- ---- every list of steps from an origin
+-- a slice that knows what the origin carries, with at most k places given: it reads a digest that does
+pub record Starts (o : Origin) (k : ℕ) (l : List ℕ) : Type 0 where
+  pub from-digest : Digest
+  pub tracks : Kept k (ledgerOf o) from-digest
+  pub reads : Reads l from-digest
+
+-- a blank one knows what the blank station carries
+pub blank-starts : (on : ℕ) (l : List ℕ) → length l ≡ size → Starts (blankOrigin on) 0 (blankAfter l)
+unfolding pick idleAfter
+blank-starts on l e = record { from-digest = blankDigest; tracks = blank-tracks (λ x t. unused) (λ x t. refl); reads = blank-law l e }
+
+module _ (o : Origin) (r : Rested o) (k : ℕ) (l : List ℕ) (s : Starts o k l) where
+  abbrev kept : List Call → Digest
+  kept cs = digest (ledgerOf o) (s .from-digest) (trace (o .station) cs)
+
+  abbrev leaf : List Call → List ℕ
+  leaf cs = sheet (ledgerOf o) l (trace (o .station) cs)
+
+  always-kept : (cs : List Call) → AllTyped cs → length cs + k ≤ largest → Kept (length cs + k) (told o cs) (kept cs)
+  unfolding ledgerFrom keptFrom
+  always-kept [] a h = subst (λ (j : ℕ). Kept j (ledgerOf o) (s .from-digest)) (omega arith) (s .tracks)
+  always-kept (c ∷ cs) a h = subst (λ (j : ℕ). Kept j (told o (c ∷ cs)) (kept (c ∷ cs))) (omega arith)
+      (next-kept (reached o cs) (told o cs) _ (always-good o r cs (a .1)) (length cs + k) (kept cs) (omega arith)
+      (always-kept cs (a .1) (omega arith)) c (a .0))
 
   -- THE THEOREM: the digest's last values are replay's ..
-  pub digest-is-replay : (cs : List Call) → AllTyped cs → length cs < 2 ^ 64 - 1 → (t : ℕ)
-      → digest (trace (blankStation up) cs) .lastValue t ≡ lastValue (told up cs) t
+  pub digest-is-replay : (cs : List Call) → AllTyped cs → length cs + k < 2 ^ 64 - 1 → (t : ℕ) → kept cs .lastValue t ≡ lastValue (told o cs) t
   unfolding lastValue
   digest-is-replay cs a h t =
-      let L = told up cs in
-      let r = always-kept cs a (omega arith) in
-      r .last-value-as t ∙ ap (λ (l : List Tx). replay 0 (turn L) l t)
-      (sym (thin-among (Passed (L .serials) (L .committed)) (L .committed) (λ y z. z .1) (L .log) (r .given) (r .thin)))
+      let L = told o cs in
+      let q = always-kept cs a (omega arith) in
+      q .last-value-as t ∙ ap (λ (m : List Tx). replay 0 (turn L) m t)
+      (sym (thin-among (Passed (L .serials) (L .committed)) (L .committed) (λ y z. z .1) (L .log) (q .given) (q .thin)))
 
-  pub always-reads : (l : List ℕ) → length l ≡ size → (cs : List Call) → AllTyped cs
-      → Reads (sheet l (trace (blankStation up) cs)) (digest (trace (blankStation up) cs))
-  unfolding ledger keptFrom
-  always-reads l e [] a = blank-law l e
-  always-reads l e (c ∷ cs) a =
-      next-reads (reached up cs) (told up cs) _ (always-good up cs (a .1)) (sheet l (trace (blankStation up) cs)) (digest (trace (blankStation up) cs))
-      (always-reads l e cs (a .1)) c
+  pub always-reads : (cs : List Call) → AllTyped cs → Reads (leaf cs) (kept cs)
+  unfolding ledgerFrom keptFrom
+  always-reads [] a = s .reads
+  always-reads (c ∷ cs) a =
+      next-reads (reached o cs) (told o cs) _ (always-good o r cs (a .1)) (leaf cs) (kept cs) (always-reads cs (a .1)) c
 
   -- .. and so are those that crate replay's functions leave in any slice of their length and `value` reads from it
-  pub sheet-is-replay : (cs : List Call) → AllTyped cs → length cs < 2 ^ 64 - 1 → (l : List ℕ) → length l ≡ size → (t : ℕ) → t < objects
-      → valueOf (sheet l (trace (blankStation up) cs)) t ≡ lastValue (told up cs) t
-  sheet-is-replay cs a h l e t s =
-      value-reads (sheet l (trace (blankStation up) cs)) (digest (trace (blankStation up) cs)) (always-reads l e cs a) t s ∙ digest-is-replay cs a h t
+  pub sheet-is-replay : (cs : List Call) → AllTyped cs → length cs + k < 2 ^ 64 - 1 → (t : ℕ) → t < objects
+      → valueOf (leaf cs) t ≡ lastValue (told o cs) t
+  sheet-is-replay cs a h t u = value-reads (leaf cs) (kept cs) (always-reads cs a) t u ∙ digest-is-replay cs a h t

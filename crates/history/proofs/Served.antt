@@ -14,6 +14,7 @@ use Rattle.mask.specs.Mask.{contains, only, joined, minus}
 use Rattle.wire.specs.Message.{Message}
 use Rattle.wire.specs.Encode.{encode}
 use Rattle.wire.specs.Decode.{kindOf, toOf, decode, checkOf}
+use Rattle.judge.specs.Standing.{standing}
 use Rattle.replica.specs.Steps.{Answer, silent, says, fetchImage, fetchAnswer, askImage, askAnswer, outcomeImage, outcomeAnswer}
 use Rattle.replica.specs.Receive.{refusal, gives, step, Delivered, deliver, wrongTurn}
 use Rattle.replica.proofs.Delivered.{cleared, step-fine, entries-of}
@@ -26,12 +27,13 @@ use Rattle.steps.specs.Step.{delivery, drop, switch, refusedWith, full, takenOu
 use Rattle.protocol.specs.Table.{In}
 use Rattle.protocol.specs.State.{Tx, fresh, committed, aborted}
 use Rattle.protocol.specs.Proof.Tables.{on, clash}
+use Rattle.protocol.specs.Refine.Growth.{Late}
 use Rattle.history.specs.Ledger.{Ledger, withPut, withDelivered, noted, note}
 use Rattle.history.proofs.Sim.{Match, Tells}
 use Rattle.history.proofs.Books.{Past, More, World}
 use Rattle.history.proofs.Host.{fewer}
 use Rattle.history.proofs.Words.{txIn, tx-decoded, word-decoded, header}
-use Rattle.history.proofs.Acts.{Acted}
+use Rattle.history.proofs.Acts.{Acted, here-late}
 use Rattle.history.proofs.Replies.{Said, fetch-reply, ask-reply, outcome-reply}
 use Rattle.history.proofs.Arrive.{in-left, in-place, in-without, silent-world, answer-world}
 use Rattle.history.proofs.Calls.{Next, refused-next}
@@ -78,13 +80,16 @@ module _ (st : Station) (L : Ledger) (F : Past) (w : World st L F) (k : ℕ) (ke
       ∙ ap (λ (y : List ℕ). withDelivered (withPut L pool p) y 0 p) (sym is-b)
 
   -- ---- at a replica
-  module _ (n : ℕ) where
+  module _ (n : ℕ) (here : n ≡ toOf b) where
     abbrev l : List ℕ
     l = st .images n
 
     module _ (small : n < nodes) (t : Taken l m) where
-      tells : Tells (w .state .history) (w .state .votes) (w .state .sent) b
-      tells = w .sim .waits b in-pool
+      -- what is not late here tells the truth
+      tells : forReplica (kindOf b) ≡ true → (standing l m ≡ 0 → ⊥) → Tells (w .state .history) (w .state .votes) (w .state .sent) b
+      tells e q = on (w .sim .waits b in-pool) (λ z. z)
+          (λ z. absurd (q (here-late st (w .state) (w .log) (w .sim) n m t
+          (subst (λ (i : ℕ). Late (w .state .ends) i (txIn m)) (sym here) (subst (Late (w .state .ends) (toOf b)) (tx-decoded b) (z .late e))))))
 
       abbrev Reply : Delivered → Type 0
       Reply d = Acted st (w .state) (w .log) (w .sim) n m t (d .image) (λ τ l'. Said τ (w .log) l' (txIn m) (d .answer))
@@ -95,16 +100,18 @@ module _ (st : Station) (L : Ledger) (F : Past) (w : World st L F) (k : ℕ) (ke
       reply : Reply (step l n m)
       reply = kind-cases l n m t Reply
           (λ e. fetch-reply st (w .state) (w .log) (w .sim) n small m t (w .valid .images n .1))
-          (λ e. let z = tells .an-ask (kind-is 3 e) in
-          ask-reply st (w .state) (w .log) (w .sim) n small m t (w .valid .images n .1) e
-          (subst (λ (x : Tx). w .state .history .phase x ≢ fresh) (tx-decoded b) (z .0))
-          (subst (λ (x : Tx). Match (w .state .history .contents x) (m .entries)) (tx-decoded b) (z .1)))
+          (λ e. ask-reply st (w .state) (w .log) (w .sim) n small m t (w .valid .images n .1) e
+          (λ q. let z = tells (ap forReplica (kind-is 3 e)) q .an-ask (kind-is 3 e) in (
+            subst (λ (x : Tx). w .state .history .phase x ≢ fresh) (tx-decoded b) (z .0),
+            subst (λ (x : Tx). Match (w .state .history .contents x) (m .entries)) (tx-decoded b) (z .1),
+          )))
           (λ e. outcome-reply st (w .state) (w .log) (w .sim) n small m t (w .valid .images n .1) e
-          (λ u. let z = tells .a-commit (kind-is 5 e) (word-decoded b ∙ u) in (
+          (λ q u. let z = tells (ap forReplica (kind-is 5 e)) q .a-commit (kind-is 5 e) (word-decoded b ∙ u) in (
             subst (λ (x : Tx). w .state .history .phase x ≡ committed) (tx-decoded b) (z .0),
             subst (λ (x : Tx). Match (w .state .history .contents x) (m .entries)) (tx-decoded b) (z .1),
           ))
-          (λ u. subst (λ (x : Tx). w .state .history .phase x ≡ aborted) (tx-decoded b) (tells .an-abort (kind-is 5 e) (word-decoded b ∙ u))))
+          (λ q u. subst (λ (x : Tx). w .state .history .phase x ≡ aborted) (tx-decoded b)
+          (tells (ap forReplica (kind-is 5 e)) q .an-abort (kind-is 5 e) (word-decoded b ∙ u))))
 
       answered-next : (ans : Answer) → Acted st (w .state) (w .log) (w .sim) n m t (step l n m .image) (λ τ l'. Said τ (w .log) l' (txIn m) ans)
           → Next st L F w (delivery k kept) (answered st k kept n (step l n m .image) ans)
@@ -163,7 +170,7 @@ module _ (st : Station) (L : Ledger) (F : Past) (w : World st L F) (k : ℕ) (ke
     where
       by : (up r : Bool) → Next st L F w (delivery k kept) (cond up (cond r (atReplica st k kept (toOf b) b) (atCoordinator st k kept (toOf b) b))
           (record { number = 0; answer = 0; put = none; station = takenOut st k kept }))
-      by true true = replica-next (toOf b)
+      by true true = replica-next (toOf b) refl
       by true false = coordinator-next st L F w k kept (toOf b) b is-b waits
       by false r = off-taken
 

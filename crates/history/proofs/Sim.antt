@@ -1,7 +1,7 @@
 -- What is kept between a station and an abstract state: the images read as its copies and owners, and what records and waiting messages say is true
 -- there. Timestamps, rivals, distances, lists and yields do not occur: they decide only who is voted down.
-use mathlib.Core.Path.{_≡_, ap}
-use mathlib.Core.Logic.{_≢_, _⊎_}
+use mathlib.Core.Path.{_≡_, sym, _∙_, ap}
+use mathlib.Core.Logic.{_≢_, _⊎_, inl, inr}
 use mathlib.Core.Bool.{true, cond}
 use mathlib.Core.List.{List}
 use mathlib.Core.Option.{Option, none, some}
@@ -13,22 +13,26 @@ use Rattle.numbers.specs.Sizes.{nobody, objects}
 use Rattle.mask.specs.Mask.{contains}
 use Rattle.wire.specs.declared.Entry.{Entry}
 use Rattle.wire.specs.Message.{copy, ask, vote, outcome}
-use Rattle.wire.specs.Decode.{kindOf, fromOf, decode, checkOf}
+use Rattle.wire.specs.Decode.{kindOf, fromOf, toOf, decode, checkOf}
 use Rattle.wire.specs.Items.{entryOf, wordOf}
 use Rattle.image.specs.Layout.{value, version, holder, serial, state}
 use Rattle.coordinator.specs.declared.Object.{Object}
 use Rattle.coordinator.specs.declared.Coordinator.{Coordinator}
 use Rattle.coordinator.specs.System.{System}
 use Rattle.coordinator.specs.State.{openPhase, votingPhase, finishingPhase, noObject, objectAt, isOpen}
+use Rattle.arrivals.specs.Receive.{forReplica}
 use Rattle.steps.specs.Station.{Station}
 use Rattle.protocol.specs.Table.{In}
 use Rattle.protocol.specs.Rules.{Mode, unused, read, write}
 use Rattle.protocol.specs.State.{Tx, fresh, voting, committed, aborted, Contents, Copy, OwnerState, over, listed, held, refused}
-use Rattle.protocol.specs.State.{Votes, History, State}
+use Rattle.protocol.specs.State.{Ends, Votes, History, State}
+use Rattle.protocol.specs.Proof.Tables.{on}
+use Rattle.protocol.specs.Refine.Growth.{Late}
 use Rattle.protocol.specs.Refine.Holders.{HolderTable}
 use Rattle.protocol.specs.Refine.Simulate.{Kept, Reads}
 use Rattle.history.specs.Ledger.{txOf}
-use Rattle.history.proofs.Quorums.{Sane, rules}
+use Rattle.history.specs.Sane.{Sane}
+use Rattle.history.proofs.Quorums.{rules}
 
 -- ---- an image read as a row of the abstract tables
 abbrev pub stateOf : ℕ → OwnerState
@@ -109,9 +113,28 @@ pub record Tells (h : History ℕ) (v : Votes) (sent : List (Copy ℕ)) (b : Lis
   pub a-commit : kindOf b ≡ outcome → wordOf b ≡ 1 → (h .phase (txOf b) ≡ committed) × Match (h .contents (txOf b)) (decode b .entries)
   pub an-abort : kindOf b ≡ outcome → wordOf b ≡ 0 → h .phase (txOf b) ≡ aborted
 
+-- or it is of a transaction that was over before the first step: decided, and late at the replica that it is for
+pub record Gone (h : History ℕ) (e : Ends) (b : List ℕ) : Type 0 where
+  pub well : checkOf b ≡ 0
+  pub decided : (h .phase (txOf b) ≡ committed) ⊎ (h .phase (txOf b) ≡ aborted)
+  pub late : forReplica (kindOf b) ≡ true → Late e (toOf b) (txOf b)
+
+abbrev pub Waits : State ℕ → List ℕ → Type 0
+Waits σ b = Tells (σ .history) (σ .votes) (σ .sent) b ⊎ Gone (σ .history) (σ .ends) b
+
+pub waits-well : (σ : State ℕ) (b : List ℕ) → Waits σ b → checkOf b ≡ 0
+waits-well σ b (inl t) = t .well
+waits-well σ b (inr g) = g .well
+
+-- of a transaction that is not decided, it tells the truth
+pub waits-tells : (σ : State ℕ) (b : List ℕ) (x : Tx) → txOf b ≡ x → (σ .history .phase x ≢ committed) → (σ .history .phase x ≢ aborted) → Waits σ b
+    → Tells (σ .history) (σ .votes) (σ .sent) b
+waits-tells σ b x e p q (inl t) = t
+waits-tells σ b x e p q (inr g) = on (g .decided) (λ d. absurd (p (ap (σ .history .phase) (sym e) ∙ d))) (λ d. absurd (q (ap (σ .history .phase) (sym e) ∙ d)))
+
 -- ---- all of it, with the log
 pub record Sim {s : System} (sane : Sane s) (st : Station) (σ : State ℕ) (l : List Tx) : Type 0 where
   pub kept : Kept (rules sane) σ l (holders st)
   pub reads : Read st σ
   pub owners : (n : ℕ) → Owner (σ .history) (σ .votes) (σ .sent) n (st .records n)
-  pub waits : (b : List ℕ) → In b (st .pool) → Tells (σ .history) (σ .votes) (σ .sent) b
+  pub waits : (b : List ℕ) → In b (st .pool) → Waits σ b

@@ -37,7 +37,7 @@ use Rattle.clauses.proofs.Cases.{step-keeps}
 use Rattle.clauses.proofs.Cases.{Endings, abort-cases}
 use Rattle.clauses_arrive.proofs.Deliveries.{receive-cases}
 use Rattle.due.specs.Due.{entriesOf, fetchTo, askTo, outcomeTo, yieldTo, messageDue}
-use Rattle.steps.specs.Station.{Own, Station, system, blankStation, putAt, without}
+use Rattle.steps.specs.Station.{Own, Station, system, putAt, without}
 use Rattle.steps.specs.Step.{Call, begin, openRead, openWrite, setValue, found, reselect, requestCommit, abort, send, delivery, drop, switch, Outcome}
 use Rattle.steps.specs.Step.{refusedWith, taken, putting, full, sendNumber, hosted, answered, atReplica, atCoordinator, arriving, deliveryOf, dropOf}
 use Rattle.steps.specs.Step.{switchOf, sendOf}
@@ -54,9 +54,6 @@ pub record Stamped (st : Station) : Type 0 where
   -- a waiting message is of its owner's present transaction or an earlier one, and of the present one it has the timestamp
   pub serial-below : (b : List ℕ) → In b (st .pool) → serialOf b ≤ st .records (ownerOf b) .serial
   pub stamp-as : (b : List ℕ) → In b (st .pool) → serialOf b ≡ st .records (ownerOf b) .serial → stampOf b ≡ st .records (ownerOf b) .timestamp
-
-pub blank-stamped : (on : ℕ) → Stamped (blankStation on)
-blank-stamped on = record { serial-below = λ b i. absurd i; stamp-as = λ b i. absurd i }
 
 -- ---- a record goes on: the same transaction, or a later one
 abbrev GoesOn : Coordinator → Coordinator → Type 0

@@ -1,37 +1,17 @@
--- Demand 3. Whatever holds of a good history and state holds after one more step; a blank station is good; and what is good has the claims.
-use mathlib.Core.Path.{_≡_, refl, sym, ap}
-use mathlib.Core.List.{[]}
-use mathlib.Core.Option.{none}
+-- A good history and state, and that whatever is good is good after one more step.
 use Prim.Native.Nat.{ℕ}
-use native.Mathlib.Omega.{arith}
-use borrow.Author.Tests.{lt-ltb, le-ltb}
-use Rattle.numbers.specs.Sizes.{objects, mostOpen}
-use Rattle.image.specs.Layout.{shape, versionField, valueField, serialField, stateField}
-use Rattle.image.specs.Blank.{blankAs}
-use Rattle.image.proofs.Blanks.{bytes-blank, blank-zero, blank-holder, blank-sound}
-use Rattle.image.proofs.Each.{lt-or-le}
-use Rattle.coordinator.specs.System.{tree}
-use Rattle.coordinator.specs.State.{blankRecord, idleAfter}
-use Rattle.clauses.proofs.Keep.{blank-meets}
-use Rattle.steps.specs.Station.{Station, blankStation}
+use Rattle.steps.specs.Station.{Station}
 use Rattle.steps.specs.Step.{Call, begin, openRead, openWrite, setValue, found, reselect, requestCommit, abort, send, delivery, drop, switch, step}
 use Rattle.steps.specs.Run.{eventOf}
-use Rattle.protocol.specs.State.{Tx, State, blankState}
-use Rattle.protocol.specs.Proof.Tables.{on, clash}
-use Rattle.protocol.specs.Proof.Core.{claims}
-use Rattle.protocol.specs.Refine.Simulate.{blank-kept}
-use Rattle.protocol.specs.Refine.Holders.{holders-as-read}
-use Rattle.history.specs.Ledger.{Ledger, nothingYet, note}
+use Rattle.protocol.specs.State.{Tx}
+use Rattle.history.specs.Ledger.{Ledger, note}
 use Rattle.history.specs.Claims.{Typed}
-use Rattle.history.proofs.Quorums.{tree-sane, rules}
-use Rattle.history.proofs.Sim.{stateOf, holderOf, Owner, Sim}
-use Rattle.history.proofs.Quiet.{found-blank, no-bit}
-use Rattle.history.proofs.Books.{Present, Past, More, World}
+use Rattle.history.proofs.Books.{Past, More, World}
 use Rattle.history.proofs.Calls.{begin-next, read-next, write-next, set-next, found-next', reselect-next, request-next, abort-next}
 use Rattle.history.proofs.Served.{delivery-next, drop-next, switch-next}
 use Rattle.history.proofs.Sends.{send-next}
-use Rattle.history.proofs.Wide.{Wide, blank-wide, wide-next}
-use Rattle.history.proofs.Stamped.{Stamped, blank-stamped, stamped-next}
+use Rattle.history.proofs.Wide.{Wide, wide-next}
+use Rattle.history.proofs.Stamped.{Stamped, stamped-next}
 
 -- ---- a good history and state: st the station, L what the events told, F what was found so far
 pub record Good (st : Station) (L : Ledger) (F : Past) : Type 0 where
@@ -90,80 +70,4 @@ good-past st L F G to from g = let w = g .world in let b = w .books in record {
   };
   wide = g .wide;
   stamped = g .stamped;
-}
-
--- ---- the blank station
-abbrev β : State ℕ
-β = blankState (rules tree-sane)
-
-blank-row : (t : ℕ) → holderOf (blankAs shape) t ≡ none
-blank-row t = on (lt-or-le t objects) (λ h. rw (lt-ltb t objects h, blank-holder t h)) (λ h. rw (le-ltb t objects h))
-
-blank-owner : (n : ℕ) → Owner (β .history) (β .votes) (β .sent) n blankRecord
-unfolding idleAfter
-blank-owner n = record {
-  later = λ s e. refl;
-  while-open = λ e. refl;
-  while-voting = λ e. absurd (let z : ⊥ = omega arith in z);
-  when-committed = λ e f. absurd (let z : ⊥ = omega arith in z);
-  when-aborted = λ e f. absurd (let z : ⊥ = omega arith in z);
-  asked = λ e. absurd (e refl);
-  agreed = λ m e. absurd (no-bit m e);
-  found = found-blank [] mostOpen;
-}
-
-blank-sim : (up : ℕ) → Sim tree-sane (blankStation up) β []
-blank-sim up = let k = blank-kept (rules tree-sane) in record {
-  kept = record { inv = k .inv; log = k .log; holders = holders-as-read _ _ _ _ (λ n t. sym (blank-row t)) (k .holders) };
-  reads = record {
-    r-version = λ n t. sym (blank-zero (versionField shape) t tt tt tt);
-    r-value = λ n t. sym (blank-zero (valueField shape) t tt tt tt);
-    r-last = λ n t. sym (blank-zero (serialField shape) t tt tt tt);
-    r-state = λ n t. sym (ap stateOf (blank-zero (stateField shape) t tt tt tt));
-  };
-  owners = blank-owner;
-  waits = λ b i. absurd i;
-}
-
-blank-present : (n : ℕ) → Present nothingYet n blankRecord
-unfolding idleAfter
-blank-present n = record {
-  serial-as = refl;
-  no-mode = λ s t e. refl;
-  no-new = λ s t e. refl;
-  mode-now = λ e. absurd (e refl);
-  new-now = λ e. absurd (e refl);
-  party-now = λ e. absurd (e refl);
-}
-
-pub blank-good : (up : ℕ) (F : Past) → ((x : Tx) (t v : ℕ) → F x t v → ⊥) → Good (blankStation up) nothingYet F
-blank-good up F none-yet = record {
-  world = record {
-    sane = tree-sane;
-    state = β;
-    log = [];
-    sim = blank-sim up;
-    valid = record { images = λ n. (blank-sound, bytes-blank); records = λ n. blank-meets tree; messages = λ b i. absurd i };
-    books = record {
-      pool-as = refl;
-      puts-true = λ b i. absurd i;
-      log-as = refl;
-      decided = record {
-        told-so = λ x i. absurd i;
-        is-told = λ x e. absurd (clash (cc));
-        its-mode = λ x e. absurd (clash (cc));
-        its-new = λ x e. absurd (clash (cc));
-        its-party = λ x e. absurd (clash (cc));
-      };
-      present = blank-present;
-      dones = λ d i. absurd i;
-      found = record {
-        still = λ x t v f. absurd (none-yet x t v f);
-        carried = λ x t v f. absurd (none-yet x t v f);
-        had = λ x t a. absurd (on a (λ e. clash (cc)) (λ e. clash (cc)));
-      };
-    };
-  };
-  wide = blank-wide up;
-  stamped = blank-stamped up;
 }

@@ -20,9 +20,10 @@ use Rattle.protocol.specs.Replay.{after}
 use Rattle.protocol.specs.Proof.Tables.{on, put-cases, put-here, put2-cases}
 use Rattle.protocol.specs.Proof.Lists.{in-select, replay-ext, select-cases}
 use Rattle.history.specs.Ledger.{in?, txOf, rootYes, firstOnly}
+use Rattle.history.specs.Origin.{isWrite}
 use Rattle.history.proofs.Sim.{tx}
 use Rattle.history.proofs.Ranks.{rank, rank-top, rank-under, rank-none, rank-some, rank-down, Distinct, times-some, is-in}
-use Rattle.history.proofs.Ranks.{held, isWrite, among, one-more, Thin, thin-more, thin-in, in-thin}
+use Rattle.history.proofs.Ranks.{held, among, one-more, Thin, thin-more, thin-in, in-thin}
 
 -- its owner began another since, and it is not committed: it will not be
 abbrev pub Passed : (ℕ → ℕ) → List Tx → Tx → Type 0

@@ -25,7 +25,7 @@ use Rattle.protocol.specs.State.{Tx, Tx-discrete, tx-path, Phase, fresh, voting
 use Rattle.protocol.specs.Transitions.{doAsk, doCommit, doAbort, Step, ask, commit, abort}
 use Rattle.protocol.specs.Proof.Tables.{on, clash, put-cases, put-here}
 use Rattle.protocol.specs.Refine.Growth.{Late, step-grows}
-use Rattle.history.specs.Ledger.{Done, Ledger, current, withParticipants}
+use Rattle.history.specs.Ledger.{Ledger, current, withParticipants}
 use Rattle.history.specs.Claims.{Shows, Finds}
 use Rattle.clauses.proofs.Parts.{true-T}
 use Rattle.history.proofs.Quorums.{rules}
@@ -64,7 +64,7 @@ module _ (st : Station) (L : Ledger) (F : Past) (w : World st L F) (n : ℕ) whe
     st' = changed st n c' pool
 
     pub turned : (L' : Ledger) → ((b : List ℕ) → In b pool → In b (st .pool)) → L' .pool ≡ pool → L' .log ≡ l' → Decided L' (σ' .history)
-        → ((i : ℕ) → Present L' i (putAt (st .records) n c' i)) → ((d : Done) → In d (L' .dones) → Late (σ' .ends) (d .node) (d .tx))
+        → ((i : ℕ) → Present L' i (putAt (st .records) n c' i)) → ((y : Tx) (m : ℕ) → L' .dones y m ≡ true → Late (σ' .ends) m y)
         → ((b : List ℕ) → In b (L' .puts) → Tells (σ' .history) (σ' .votes) (σ' .sent) b)
         → ((y : Tx) (t v : ℕ) → F y t v → σ' .history .phase y ≡ fresh → Finds st' y t v)
         → ((y : Tx) (t v : ℕ) → F y t v → Asked (σ' .history) y → (σ' .history .contents y .found t ≡ v) × (σ' .history .contents y .mode t ≢ unused))
@@ -292,7 +292,7 @@ module _ (st : Station) (L : Ledger) (F : Past) (w : World st L F) (n : ℕ) whe
     abort-world sub a b d e ep = turned τ₂ (w .log) (endedAborted c) pool (sim-aborted st (w .state) (w .log) (w .sim) n undecided pool sub) m L' sub a
         (b ∙ w .books .log-as) (decided₂ d)
         (put-all (Present L') (st .records) n (endedAborted c) here₂ (λ i q. others-told L' told i))
-        (λ z i. w .books .dones z (subst (In z) e i))
+        (λ z k i. w .books .dones z k (ap (λ (f : Tx → ℕ → Bool). f z k) (sym e) ∙ i))
         (λ y i. puts-on (abort x (can-abort st (w .state) (w .log) (w .sim) n undecided)) y (subst (In y) ep i)) (fresh-else aborted no-end (endedAborted c))
         (λ y t v f q. w .books .found .carried y t v f (asked-else y q)) (λ y t q r. inl (w .books .found .had y t (asked-else y q) r))
 
@@ -364,7 +364,7 @@ module _ (st : Station) (L : Ledger) (F : Past) (w : World st L F) (n : ℕ) whe
         })
         told (w .books .present n))
         (λ i q. others-told L' told i))
-        (λ z i. w .books .dones z (subst (In z) e i))
+        (λ z k i. w .books .dones z k (ap (λ (f : Tx → ℕ → Bool). f z k) (sym e) ∙ i))
         (λ y i. puts-on (commit x (can-commit st (w .state) (w .log) (w .sim) n from rivals small is-voting some-party said all)) y (subst (In y) ep i))
         (fresh-else committed no-end' c₃)
         (λ y t v f q. w .books .found .carried y t v f (asked-as y q)) (λ y t q r. inl (w .books .found .had y t (asked-as y q) r))

@@ -25,9 +25,9 @@ use Rattle.due.specs.Kind.{dueKind}
 use Rattle.due.specs.Due.{messageDue}
 use Rattle.coordinator.proofs.Theorems.{found-leaves}
 use Rattle.clauses.proofs.Quorums.{Quorums}
-use Rattle.clauses.proofs.Fits.{Fits, blank-fits, begin-fits, open-fits, set-fits, reselect-fits, request-fits, abort-fits}
+use Rattle.clauses.proofs.Fits.{Fits, begin-fits, open-fits, set-fits, reselect-fits, request-fits, abort-fits}
 use Rattle.clauses_arrive.proofs.Fits.{receive-fits}
-use Rattle.steps.specs.Station.{Own, Station, system, blankStation, putAt}
+use Rattle.steps.specs.Station.{Own, Station, system, putAt}
 use Rattle.steps.specs.Step.{Call, begin, openRead, openWrite, setValue, found, reselect, requestCommit, abort, send, delivery, drop, switch}
 use Rattle.steps.specs.Step.{Outcome, refusedWith, taken, putting, sendNumber, hosted, answered, atReplica, atCoordinator, arriving, deliveryOf, dropOf}
 use Rattle.steps.specs.Step.{switchOf, sendOf}
@@ -39,9 +39,6 @@ use Rattle.history.proofs.Arrive.{in-place}
 pub record Wide (st : Station) : Type 0 where
   pub fits : (n : ℕ) → Fits (st .records n)
   pub beyond : (n : ℕ) → nodes ≤ n → st .images n ≡ blankAs shape
-
-pub blank-wide : (on : ℕ) → Wide (blankStation on)
-blank-wide on = record { fits = λ n. blank-fits (system (blankStation on)); beyond = λ n h. refl }
 
 module _ (st : Station) (w : Wide st) (v : Valid st) (q : Quorums (system st)) where
   -- one record changed, whatever becomes of pool and nodes

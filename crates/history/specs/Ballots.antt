@@ -1,6 +1,6 @@
 -- What the events of a list of steps tell of the votes, as the ledger from the steps and their answers alone: who is on, which votes came to their
 -- owner, and which transactions were spoilt since votes were asked for them. A refused step tells nothing.
-use mathlib.Core.Bool.{Bool, true, false, cond, not, _&&_, _||_}
+use mathlib.Core.Bool.{Bool, true, cond, not, _&&_, _||_}
 use mathlib.Core.List.{List, [], _∷_}
 use Prim.Native.Nat.{ℕ}
 use native.Mathlib.Decide.{ℕ-discrete}
@@ -14,7 +14,7 @@ use Rattle.steps.specs.Step.{Call, begin, openRead, openWrite, setValue, found,
 use Rattle.steps.specs.Run.{Event}
 use Rattle.protocol.specs.Table.{put, put2}
 use Rattle.protocol.specs.State.{Tx, Tx-discrete}
-use Rattle.history.specs.Ledger.{Ledger, txOf, current, ledger}
+use Rattle.history.specs.Ledger.{Ledger, txOf, current, ledgerFrom}
 
 pub record Ballots : Type 0 where
   -- the nodes that are on
@@ -24,10 +24,6 @@ pub record Ballots : Type 0 where
   -- whether, since votes were asked for it, an abort call was accepted, or a no of it from a participant or a yield that names it was delivered to
   -- its owner, while on
   pub spoilt : Tx → Bool
-
--- before the first step, with these nodes on
-abbrev pub noBallots : ℕ → Ballots
-noBallots up = record { on = up; agreed = λ x n. false; spoilt = λ x. false }
 
 -- ---- messages: a vote goes to its owner, a yield to the owner of the rival that it names
 abbrev pub isYes : List ℕ → Bool
@@ -84,7 +80,7 @@ polled L B (switch n up) = withOn B (cond up (joined (B .on) (only n)) (minus (B
 unfoldable pub poll : Ledger → Ballots → Event → Ballots
 poll L B e = cond (eqb (e .number) 0) (polled L B (e .call)) B
 
--- the events of a list, newest first; the mask has the nodes that were on at the start
-unfoldable pub ballots : ℕ → List Event → Ballots
-ballots up [] = noBallots up
-ballots up (e ∷ es) = poll (ledger es) (ballots up es) e
+-- the events of a list, newest first, on top of what was told before it
+unfoldable pub ballotsFrom : Ledger → Ballots → List Event → Ballots
+ballotsFrom L B [] = B
+ballotsFrom L B (e ∷ es) = poll (ledgerFrom L es) (ballotsFrom L B es) e

@@ -1,5 +1,5 @@
--- What is claimed of every list of station steps from a blank station, whichever nodes are on: demand 3, and the numbers of deliveries. A list is
--- newest first, so the lists that came before are its ends; what is claimed after every list is claimed after every one of those.
+-- What is claimed of every list of station steps from an origin, the blank station being one, whichever nodes are on: demand 3, and the numbers of
+-- deliveries. A list is newest first, so the lists that came before are its ends; what is claimed after every list is claimed after every one of those.
 use mathlib.Core.Path.{_≡_}
 use mathlib.Core.Logic.{_≢_, _⊎_}
 use mathlib.Core.Bool.{Bool, true, false, cond}
@@ -19,14 +19,15 @@ use Rattle.image.specs.Layout.{value, version}
 use Rattle.coordinator.specs.declared.Coordinator.{Coordinator}
 use Rattle.coordinator.specs.State.{idlePhase, committed, objectAt, isOpen, ready}
 use Rattle.coordinator.specs.System.{System}
-use Rattle.steps.specs.Station.{Station, system, blankStation}
+use Rattle.steps.specs.Station.{Station, system}
 use Rattle.steps.specs.Step.{Call, begin, openRead, openWrite, setValue, found, reselect, requestCommit, abort, send, delivery, drop, switch, step}
 use Rattle.steps.specs.Run.{after, Event, eventOf, trace}
 use Rattle.protocol.specs.Table.{In, Suffix, times}
 use Rattle.protocol.specs.Rules.{unused, read, write}
 use Rattle.protocol.specs.State.{Tx, Tx-discrete}
-use Rattle.history.specs.Ledger.{Ledger, ledger, txOf, current, fed, givenTo, lastValue}
-use Rattle.history.specs.Ballots.{Ballots, ballots}
+use Rattle.history.specs.Ledger.{Ledger, ledgerFrom, txOf, current, fed, givenTo, lastValue}
+use Rattle.history.specs.Ballots.{Ballots, ballotsFrom}
+use Rattle.history.specs.Origin.{Origin, ledgerOf, ballotsOf}
 
 -- A step's arguments are of their C types: thirteen distances of 16 bits, a timestamp of 32 bits, a value of 64 bits. All others may be any number.
 abbrev pub Distances : List ℕ → Type 0
@@ -71,7 +72,7 @@ pub record Carries (L : Ledger) (x : Tx) (es : List Entry) : Type 0 where
 
 -- every participant of each committed transaction has put a done on a delivery of its commit
 abbrev pub Settled : Ledger → Type 0
-Settled L = (x : Tx) → In x (L .committed) → (n : ℕ) → contains (L .participants x) n ≡ true → In (record { node = n; tx = x }) (L .dones)
+Settled L = (x : Tx) → In x (L .committed) → (n : ℕ) → contains (L .participants x) n ≡ true → L .dones x n ≡ true
 
 -- no node of the mask has a newer copy
 abbrev pub Newest : Station → ℕ → ℕ → ℕ → Type 0
@@ -99,15 +100,20 @@ pub record Crowded (st : Station) (k : ℕ) (kept : Bool) : Type 0 where
   pub waiting : length (st .pool) ≡ mostWaiting
   pub an-answer : step st (delivery k false) .put ≢ none
 
-module _ (on : ℕ) where
+-- the value is 0, or the new value that a transaction told committed gave the object
+abbrev pub Sourced : Ledger → ℕ → ℕ → Type 0
+Sourced L t v = (v ≡ 0) ⊎ ((y : Tx) × In y (L .committed) × (L .mode y t ≡ write) × (v ≡ L .new y t))
+
+module _ (o : Origin) where
+  -- after a list of steps from the origin: the station, and what the events told of transactions and votes
   abbrev pub reached : List Call → Station
-  reached cs = after (blankStation on) cs
+  reached cs = after (o .station) cs
 
   abbrev pub told : List Call → Ledger
-  told cs = ledger (trace (blankStation on) cs)
+  told cs = ledgerFrom (ledgerOf o) (trace (o .station) cs)
 
   abbrev pub votes : List Call → Ballots
-  votes cs = ballots on (trace (blankStation on) cs)
+  votes cs = ballotsFrom (ledgerOf o) (ballotsOf o) (trace (o .station) cs)
 
   -- the event of one more step; it makes a transaction ripe that was not
   abbrev pub event : List Call → Call → Event
@@ -127,16 +133,18 @@ module _ (on : ℕ) where
     pub entries-as : (x : Tx) (b : List ℕ) → In x (told cs .committed) → In b (told cs .puts) → txOf b ≡ x
         → (kindOf b ≡ ask) ⊎ ((kindOf b ≡ outcome) × (wordOf b ≡ 1)) → Carries (told cs) x (decode b .entries)
     pub commits-only : (b : List ℕ) → In b (told cs .puts) → kindOf b ≡ outcome → wordOf b ≡ 1 → In (txOf b) (told cs .committed)
-    -- (a) some earlier list has each of its objects ready, and after every one in which it does, the value found is what replay gives it
-    pub was-ready : (x : Tx) (t : ℕ) → In x (told cs .committed) → told cs .mode x t ≢ unused
+    -- (a) if it was not carried, some earlier list has each of its objects ready; after every one that does, the value found is what replay gives it
+    pub was-ready : (x : Tx) (t : ℕ) → In x (told cs .committed) → (In x (o .carried .txs) → ⊥) → told cs .mode x t ≢ unused
         → (ds : List Call) × Suffix ds cs × Finds (reached ds) x t (givenTo (told cs) x t)
     pub serial : (x : Tx) (t v : ℕ) (ds : List Call) → In x (told cs .committed) → Suffix ds cs → Finds (reached ds) x t v → v ≡ givenTo (told cs) x t
     -- and every accepted found call for it answered that value
     pub shown : (x : Tx) (n t : ℕ) (ds : List Call) → In x (told cs .committed) → Suffix (found n t ∷ ds) cs → current (told ds) n ≡ x
         → step (reached ds) (found n t) .number ≡ 0 → step (reached ds) (found n t) .answer ≡ givenTo (told cs) x t
-    -- (b) whatever a transaction found is 0 or the new value that a transaction committed by now gave the object
-    pub sourced : (x : Tx) (t v : ℕ) → Finds (reached cs) x t v
-        → (v ≡ 0) ⊎ ((y : Tx) × In y (told cs .committed) × (told cs .mode y t ≡ write) × (v ≡ told cs .new y t))
+    -- (b) whatever a transaction found, committed or not, after any earlier list is 0 or the new value that one committed by then gave the object
+    pub sourced : (x : Tx) (t v : ℕ) (ds : List Call) → Suffix ds cs → Finds (reached ds) x t v → Sourced (told ds) t v
+    -- and so is the answer of every accepted found call
+    pub shown-sourced : (n t : ℕ) (ds : List Call) → Suffix (found n t ∷ ds) cs → step (reached ds) (found n t) .number ≡ 0
+        → Sourced (told ds) t (step (reached ds) (found n t) .answer)
     -- (c) if it is settled, then in every read quorum, larger sets too, whichever nodes are on, every newest copy has replay's last value
     pub newest : Settled (told cs) → (q : ℕ) → system (reached cs) .isRead q ≡ true → (n t : ℕ) → n < nodes → contains q n ≡ true
         → t < objects → Newest (reached cs) q n t

@@ -1,6 +1,6 @@
 -- What the events of a list of steps tell, "from the steps, their answers and the messages they put in the pool, and nothing else".
 use mathlib.Core.Path.{_≡_}
-use mathlib.Core.Bool.{Bool, cond, not, _&&_}
+use mathlib.Core.Bool.{Bool, true, cond, _&&_}
 use mathlib.Core.List.{List, [], _∷_, _++_}
 use mathlib.Core.Logic.{inl, inr}
 use mathlib.Core.Option.{Option, none, some}
@@ -16,14 +16,9 @@ use Rattle.steps.specs.Station.{without}
 use Rattle.steps.specs.Step.{Call, begin, openRead, openWrite, setValue, found, reselect, requestCommit, abort, send, delivery, drop, switch}
 use Rattle.steps.specs.Run.{Event}
 use Rattle.protocol.specs.Table.{put, put2, times, select, In}
-use Rattle.protocol.specs.Rules.{Mode, unused, read, write}
+use Rattle.protocol.specs.Rules.{Mode, read, write}
 use Rattle.protocol.specs.State.{Tx, Tx-discrete}
 use Rattle.protocol.specs.Replay.{after, replay, given}
-
--- a done that a node put into the pool on a delivery of a transaction's commit
-pub record Done : Type 0 where
-  pub node : ℕ
-  pub tx : Tx
 
 pub record Ledger : Type 0 where
   -- the messages put, less accepted drops and deliveries not kept: a delivery's message is the k-th of these
@@ -41,22 +36,8 @@ pub record Ledger : Type 0 where
   pub new : Tx → ℕ → ℕ
   -- its participants, as the accepted request_commit answered them
   pub participants : Tx → ℕ
-  -- the dones put on deliveries of commits
-  pub dones : List Done
-
-abbrev pub nothingYet : Ledger
-nothingYet =
-    record {
-      pool = [];
-      puts = [];
-      serials = λ n. 0;
-      log = [];
-      committed = [];
-      mode = λ x t. unused;
-      new = λ x t. 0;
-      participants = λ x. 0;
-      dones = [];
-    }
+  -- whether the node put a done into the pool on a delivery of the transaction's commit
+  pub dones : Tx → ℕ → Bool
 
 -- ---- messages
 abbrev pub txOf : List ℕ → Tx
@@ -85,9 +66,9 @@ poolPut none l = l
 poolPut (some b) l = l ++ (b ∷ [])
 
 -- the dones when a delivery of the message b put an answer
-abbrev pub donesPut : List ℕ → Option (List ℕ) → List Done → List Done
-donesPut b none l = l
-donesPut b (some a) l = cond (isCommit b && isDone a) (record { node = fromOf a; tx = txOf b } ∷ l) l
+abbrev pub donesPut : List ℕ → Option (List ℕ) → (Tx → ℕ → Bool) → Tx → ℕ → Bool
+donesPut b none f = f
+donesPut b (some a) f = cond (isCommit b && isDone a) (put2 Tx-discrete ℕ-discrete f (txOf b) (fromOf a) true) f
 
 -- ---- one event more
 -- the owner's present transaction
@@ -200,9 +181,10 @@ noted L (switch n up) answer p = L
 unfoldable pub note : Ledger → Event → Ledger
 note L e = cond (eqb (e .number) 0) (noted L (e .call) (e .answer) (e .put)) L
 
-unfoldable pub ledger : List Event → Ledger
-ledger [] = nothingYet
-ledger (e ∷ es) = note (ledger es) e
+-- the events of a list, newest first, on top of what was told before it
+unfoldable pub ledgerFrom : Ledger → List Event → Ledger
+ledgerFrom L [] = L
+ledgerFrom L (e ∷ es) = note (ledgerFrom L es) e
 
 -- ---- replay (document 01: the one-by-one running)
 abbrev pub in? : (x : Tx) (l : List Tx) → Dec (In x l)

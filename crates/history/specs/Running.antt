@@ -8,11 +8,11 @@ use lib.Dec.{eqb}
 use lib.ListN.{getD}
 use Rattle.wire.specs.Decode.{ownerOf}
 use Rattle.coordinator.specs.State.{committed}
-use Rattle.replay.specs.Digest.{Digest, blankDigest}
-use Rattle.replay.specs.Sheet.{blankAfter, begunAfter, openedAfter, valuedAfter, putAfter, committedAfter}
+use Rattle.replay.specs.Digest.{Digest}
+use Rattle.replay.specs.Sheet.{begunAfter, openedAfter, valuedAfter, putAfter, committedAfter}
 use Rattle.steps.specs.Step.{Call, begin, openRead, openWrite, setValue, found, reselect, requestCommit, abort, send, delivery, drop, switch}
 use Rattle.steps.specs.Run.{Event}
-use Rattle.history.specs.Ledger.{Ledger, ledger}
+use Rattle.history.specs.Ledger.{Ledger, ledgerFrom}
 
 -- what is made of each thing that may be told: a begin; an object opened, to read (0) or to write (1); a new value; a message put; a commit
 pub record Keeper (A : Type 0) : Type 0 where
@@ -45,9 +45,10 @@ module _ {A : Type 0} (k : Keeper A) where
   unfoldable pub keeping : Ledger → A → Event → A
   keeping L a e = cond (eqb (e .number) 0) (telling L a (e .call) (e .answer) (e .put)) a
 
-  unfoldable pub keptFrom : A → List Event → A
-  keptFrom a [] = a
-  keptFrom a (e ∷ es) = keeping (ledger es) (keptFrom a es) e
+  -- the events of a list, newest first, on top of what was told and kept before it
+  unfoldable pub keptFrom : Ledger → A → List Event → A
+  keptFrom L a [] = a
+  keptFrom L a (e ∷ es) = keeping (ledgerFrom L es) (keptFrom L a es) e
 
 -- ---- as tables
 abbrev pub digestKeeper : Keeper Digest
@@ -60,12 +61,12 @@ digestKeeper =
       committed = Rattle.replay.specs.Digest.committed;
     }
 
-abbrev pub digest : List Event → Digest
-digest es = keptFrom digestKeeper blankDigest es
+abbrev pub digest : Ledger → Digest → List Event → Digest
+digest L d es = keptFrom digestKeeper L d es
 
--- ---- as the numbers that crate replay's functions leave in the slice l
+-- ---- as the numbers that crate replay's functions leave in a slice
 abbrev pub sheetKeeper : Keeper (List ℕ)
 sheetKeeper = record { begun = begunAfter; opened = openedAfter; valued = valuedAfter; put = putAfter; committed = committedAfter }
 
-abbrev pub sheet : List ℕ → List Event → List ℕ
-sheet l es = keptFrom sheetKeeper (blankAfter l) es
+abbrev pub sheet : Ledger → List ℕ → List Event → List ℕ
+sheet L l es = keptFrom sheetKeeper L l es

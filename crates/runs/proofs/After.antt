@@ -61,7 +61,7 @@ use Rattle.runs.specs.Left.{toldOf, hostLeft, leftOf}
 use Rattle.runs.proofs.Kept.{Kept, same-kept, own-is, none-damaged, host-first, buffers-first, image-kept, record-kept, pool-kept, own-kept}
 
 -- what is known of a station that steps reached: its records are records, and its images have their length
-pub record Sane (st : Station) : Type 0 where
+pub record Proper (st : Station) : Type 0 where
   pub fits : (n : ℕ) → Fits (st .records n)
   pub meets : (n : ℕ) → Meets (system st) (st .records n)
   pub sized : (n : ℕ) → length (st .images n) ≡ imageSize shape
@@ -95,14 +95,14 @@ module _ (I R P O : List ℕ) (w : Whole (all I R P O)) where
     abbrev o : Outcome
     o = hosted st n s
 
-    hosted-kept : Sane (o .station) → Kept (all I (recordsAfter 0 o n R) P O) (o .station)
+    hosted-kept : Proper (o .station) → Kept (all I (recordsAfter 0 o n R) P O) (o .station)
     unfolding recordsAfter hosted putAt
     hosted-kept z = go (contains (onOf O) n) (eqb (s .number) 0) refl refl
       where
         go : (a b : Bool) → contains (onOf O) n ≡ a → eqb (s .number) 0 ≡ b → Kept (all I (recordsAfter 0 o n R) P O) (o .station)
         go true true p q =
             let e : o ≡ taken (s .answer) (withRecord st n (s .coordinator)) = simp (p, q) in
-            let y = subst (λ (x : Outcome). Sane (x .station)) e z in
+            let y = subst (λ (x : Outcome). Proper (x .station)) e z in
             let c = s .coordinator in
             let i : putAt (recordIn R) n c n ≡ c = simp (same n) in
             let k = record-kept I R P O w n c (node-on (onOf O) n (own-is I R P O w .mask) p) (subst (Meets tree) i (y .meets n))
@@ -115,10 +115,10 @@ module _ (I R P O : List ℕ) (w : Whole (all I R P O)) where
   Goes c = Kept (leftOf B c) (step st c .station) × (toldOf B c ≡ answerWith (step st c .number) (step st c .answer))
 
   host-goes : (n : ℕ) (c : Call) (s : Step) → step st c ≡ hosted st n s → leftOf B c ≡ hostLeft B n c → toldOf B c ≡ hostTold B n c
-      → Sane (step st c .station) → Goes c
+      → Proper (step st c .station) → Goes c
   host-goes n c s e l t z =
       let f = host-first I R P O w n in
-      let k = hosted-kept n s (subst (λ (x : Outcome). Sane (x .station)) e z) in (
+      let k = hosted-kept n s (subst (λ (x : Outcome). Proper (x .station)) e z) in (
         subst (λ (b : Buffers). Kept b (step st c .station))
             (sym (l ∙ (λ j. all I (recordsAfter (f j) (e j) n R) P O)))
             (subst (λ (x : Outcome). Kept (all I (recordsAfter 0 (hosted st n s) n R) P O) (x .station)) (sym e) k),
@@ -330,7 +330,7 @@ module _ (I R P O : List ℕ) (w : Whole (all I R P O)) where
               go (says x) q = simp (eq-eqb (d .number) 0 y, q, crowded-is, all-said crowded (sym (ap (λ (a : Answer). crowded && spoken a) q) ∙ t))
 
           -- taken: the image, then the pool with the answer at its end
-          taken-kept : Sane (made .station) → d .number ≡ 0 → Fine (d .answer) → (crowded && spoken (d .answer)) ≡ false → delivered
+          taken-kept : Proper (made .station) → d .number ≡ 0 → Fine (d .answer) → (crowded && spoken (d .answer)) ≡ false → delivered
           unfolding delivered by answered crowded spoken said putAt
           taken-kept z y f t =
               from-left (answerWith 0 0) (withImageAt I n (d .image)) R _ (made .station)
@@ -377,7 +377,7 @@ module _ (I R P O : List ℕ) (w : Whole (all I R P O)) where
                   (sym v)
                   (i .0, i .1 ∙ ap (λ (y : Station). withImage y n (d .image)) (p .1)))
 
-          replica-kept : Sane (made .station) → delivered
+          replica-kept : Proper (made .station) → delivered
           unfolding Brought
           replica-kept z = go (brought (imageAt I n) n m)
             where
@@ -398,7 +398,7 @@ module _ (I R P O : List ℕ) (w : Whole (all I R P O)) where
           unfolding arriving
           is-there = arrives ∙ simp (u, v)
 
-          coordinator-kept : Sane (made .station) → delivered
+          coordinator-kept : Proper (made .station) → delivered
           unfolding delivered atCoordinator putAt
           coordinator-kept z = go (eqb (s .number) 0) refl
             where
@@ -410,7 +410,7 @@ module _ (I R P O : List ℕ) (w : Whole (all I R P O)) where
                   let x = heard-all I R P O n k kept s refl (eqb-true (s .number) 0 t) in
                   let c = s .coordinator in
                   let b : made ≡ taken (s .answer) (withRecord (takenOut st k kept) n c) = is-there ∙ simp t in
-                  let y = subst (λ (x : Outcome). Sane (x .station)) b z in
+                  let y = subst (λ (x : Outcome). Proper (x .station)) b z in
                   let i : putAt (recordIn R) n c n ≡ c = simp (same n) in
                   let r = record-kept I R (leaving P k kept) O (left-kept .0) n c small (subst (Meets tree) i (y .meets n)) (subst Fits i (y .fits n)) in
                   from-left _ I _ (leaving P k kept) (made .station)
@@ -422,7 +422,7 @@ module _ (I R P O : List ℕ) (w : Whole (all I R P O)) where
                   refused-kept _ (s .number) (at-sound I R P O k kept z0 h e u v n refl damaged _ _ _ (x .0) (x .1 .0) (x .1 .1)) (is-there ∙ simp t)
 
     -- ---- whatever waits, and wherever it goes
-    delivery-kept : Sane (made .station) → delivered
+    delivery-kept : Proper (made .station) → delivered
     delivery-kept z = go (eqb number 0) refl
       where
         number : ℕ
@@ -441,12 +441,12 @@ module _ (I R P O : List ℕ) (w : Whole (all I R P O)) where
     unfolding deliveryFirst
     first-none = simp (z0, none-damaged I R P O w (toOf (messageIn B k)), and-false (reaches B k))
 
-    delivery-goes : Sane (made .station) → Goes (delivery k kept)
+    delivery-goes : Proper (made .station) → Goes (delivery k kept)
     unfolding leftOf toldOf delivered
     delivery-goes z = (delivery-kept z, told-zero (deliveryFirst B k) made first-none)
 
   -- ---- every step
-  pub goes : (c : Call) → Sane (step st c .station) → Goes c
+  pub goes : (c : Call) → Proper (step st c .station) → Goes c
   unfolding leftOf toldOf step
   goes (begin n a) z = host-goes n (begin n a) (beginOf tree (recordIn R n) n a) refl refl refl z
   goes (openRead n t) z = host-goes n (openRead n t) (openOf (recordIn R n) n t 0) refl refl refl z

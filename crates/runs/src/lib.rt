@@ -1,10 +1,11 @@
-// A step of any kind at the station over its four lent buffers; and what is claimed of every list of steps, in its contract.
+// A step of any kind at the station over its four lent buffers; and what is claimed of every list of steps from an origin, in its contract.
 ghost use mathlib.Core.Path.{_≡_};
 ghost use mathlib.Core.List.{[]};
 ghost use Rattle.buffers.specs.Buffers.{all};
 ghost use Rattle.station_calls.specs.Calls.{blankNumber, blankAfter};
 ghost use Rattle.runs.specs.Order.{callOf};
 ghost use Rattle.runs.specs.Left.{toldOf, leftOf};
+ghost use Rattle.history.specs.Origin.{blankOrigin};
 ghost use Rattle.runs.specs.Held.{Holds, Claimed};
 use buffers::Answer;
 use orders::Kind;
@@ -15,7 +16,7 @@ pub fn start(images: &mut [u8], records: &mut [u8], pool: &mut [u8], own: &mut [
     ensures { λ r. ⌜ r ≡ blankNumber (all (now (images .entry)) (now (records .entry)) (now (pool .entry)) (now (own .entry))) on ⌝ }
     ensures { λ r. ⌜ all (now (images .exit)) (now (records .exit)) (now (pool .exit)) (now (own .exit))
         ≡ blankAfter (all (now (images .entry)) (now (records .entry)) (now (pool .entry)) (now (own .entry))) on ⌝ }
-    ensures { λ r. ⌜ (r ≡ 0 → Holds on [] (all (now (images .exit)) (now (records .exit)) (now (pool .exit)) (now (own .exit)))) ⌝ }
+    ensures { λ r. ⌜ (r ≡ 0 → Holds (blankOrigin on) [] (all (now (images .exit)) (now (records .exit)) (now (pool .exit)) (now (own .exit)))) ⌝ }
 {
     station_calls::blank(images, records, pool, own, on)
 }

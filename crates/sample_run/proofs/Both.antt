@@ -1,5 +1,5 @@
 -- What the steps of a list tell and what they leave, in one pass; the oldest waiting message is delivered without the checks.
-use mathlib.Core.Path.{_≡_, refl, sym, ap, subst, _∙_}
+use mathlib.Core.Path.{_≡_, refl, ap, _∙_}
 use mathlib.Core.Logic.{_⊎_, inl, inr}
 use mathlib.Core.Bool.{Bool, true, false, cond}
 use mathlib.Core.List.{List, [], _∷_}
@@ -7,12 +7,12 @@ use Prim.Native.Nat.{ℕ}
 use lib.Dec.{ltb}
 use lib.ListN.{length, getD}
 use borrow.Author.Tests.{ltb-true}
-use Rattle.numbers.specs.Sizes.{everyNode}
-use Rattle.steps.specs.Station.{Station, blankStation}
+use Rattle.steps.specs.Station.{Station}
 use Rattle.steps.specs.Step.{Call, send, delivery, Outcome, step}
 use Rattle.steps.specs.Run.{eventOf}
 use Rattle.protocol.specs.Proof.Tables.{clash}
-use Rattle.history.specs.Ledger.{Ledger, nothingYet, note, ledger}
+use Rattle.history.specs.Ledger.{Ledger, note, ledgerFrom}
+use Rattle.history.specs.Origin.{Origin, ledgerOf, Rested}
 use Rattle.history.specs.Claims.{Typed, AllTyped, Crowded, reached, told}
 use Rattle.history.proofs.Numbered.{delivery-number}
 use Rattle.sample_run.specs.Sample.{exchanged}
@@ -22,13 +22,9 @@ pub record Both : Type 0 where
   pub ledger : Ledger
   pub station : Station
 
--- of a list
-abbrev pub bothOf : List Call → Both
-bothOf cs = record { ledger = told everyNode cs; station = reached everyNode cs }
-
--- ---- one pass
-unfoldable pub blank : Both
-blank = record { ledger = nothingYet; station = blankStation everyNode }
+-- ---- one pass, from an origin
+unfoldable pub atFirst : Origin → Both
+atFirst o = record { ledger = ledgerOf o; station = o .station }
 
 unfoldable pub noted : Both → Call → Outcome → Both
 noted b c o = record { ledger = note (b .ledger) (eventOf c o); station = o .station }
@@ -47,43 +43,47 @@ unfoldable pub bothExchanged : List ℕ → Both → Both
 bothExchanged [] b = b
 bothExchanged (n ∷ ns) b = bothExchanged ns (delivered (delivered (stepped b (send 4 n 0))))
 
--- ---- is what the list tells and leaves
-pub record Agrees (cs : List Call) (b : Both) : Type 0 where
-  pub typed : AllTyped cs
-  pub same : bothOf cs ≡ b
+-- ---- is what a list tells and leaves
+module _ (o : Origin) (r : Rested o) where
+  abbrev pub bothOf : List Call → Both
+  bothOf cs = record { ledger = told o cs; station = reached o cs }
 
-pub blank-agrees : Agrees [] blank
-unfolding blank ledger
-blank-agrees = record { typed = tt; same = refl }
+  pub record Agrees (cs : List Call) (b : Both) : Type 0 where
+    pub typed : AllTyped cs
+    pub same : bothOf cs ≡ b
 
-pub stepped-agrees : (cs : List Call) (b : Both) (c : Call) → Typed c → Agrees cs b → Agrees (c ∷ cs) (stepped b c)
-unfolding stepped noted ledger
-stepped-agrees cs b c t a = record { typed = (t, a .typed); same = ap (λ (x : Both). stepped x c) (a .same) }
+  pub first-agrees : Agrees [] (atFirst o)
+  unfolding atFirst ledgerFrom
+  first-agrees = record { typed = tt; same = refl }
 
-is-oldest : (cs : List Call) → AllTyped cs → step (reached everyNode cs) (delivery 0 false) ≡ oldest (reached everyNode cs)
-unfolding oldest
-is-oldest cs a = by (ltb 0 (length (st .pool))) refl
-  where
-    st : Station
-    st = reached everyNode cs
+  pub stepped-agrees : (cs : List Call) (b : Both) (c : Call) → Typed c → Agrees cs b → Agrees (c ∷ cs) (stepped b c)
+  unfolding stepped noted ledgerFrom
+  stepped-agrees cs b c t a = record { typed = (t, a .typed); same = ap (λ (x : Both). stepped x c) (a .same) }
 
-    no-refusal : (step st (delivery 0 false) .number ≡ 0) ⊎ Crowded st 0 false → step st (delivery 0 false) .number ≡ 0
-    no-refusal (inl z) = z
-    no-refusal (inr z) = let k = z .is-kept in absurd (clash (cc))
+  is-oldest : (cs : List Call) → AllTyped cs → step (reached o cs) (delivery 0 false) ≡ oldest (reached o cs)
+  unfolding oldest
+  is-oldest cs a = by (ltb 0 (length (st .pool))) refl
+    where
+      st : Station
+      st = reached o cs
 
-    by : (t : Bool) → ltb 0 (length (st .pool)) ≡ t
-        → step st (delivery 0 false) ≡ cond t (accepted st 0 (getD (st .pool) 0 [])) (step st (delivery 0 false))
-    by true e = is-accepted st 0 (no-refusal (delivery-number everyNode cs a .one-waits 0 false (ltb-true 0 (length (st .pool)) e)))
-    by false e = refl
+      no-refusal : (step st (delivery 0 false) .number ≡ 0) ⊎ Crowded st 0 false → step st (delivery 0 false) .number ≡ 0
+      no-refusal (inl z) = z
+      no-refusal (inr z) = let k = z .is-kept in absurd (clash (cc))
 
-pub delivered-agrees : (cs : List Call) (b : Both) → Agrees cs b → Agrees (delivery 0 false ∷ cs) (delivered b)
-unfolding delivered noted ledger
-delivered-agrees cs b a = record {
-  typed = (tt, a .typed);
-  same = ap (noted (bothOf cs) (delivery 0 false)) (is-oldest cs (a .typed)) ∙ ap delivered (a .same);
-}
+      by : (t : Bool) → ltb 0 (length (st .pool)) ≡ t
+          → step st (delivery 0 false) ≡ cond t (accepted st 0 (getD (st .pool) 0 [])) (step st (delivery 0 false))
+      by true e = is-accepted st 0 (no-refusal (delivery-number o r cs a .one-waits 0 false (ltb-true 0 (length (st .pool)) e)))
+      by false e = refl
 
-pub exchanged-agrees : (ns : List ℕ) (cs : List Call) (b : Both) → Agrees cs b → Agrees (exchanged ns cs) (bothExchanged ns b)
-unfolding bothExchanged
-exchanged-agrees [] cs b a = a
-exchanged-agrees (n ∷ ns) cs b a = exchanged-agrees ns _ _ (delivered-agrees _ _ (delivered-agrees _ _ (stepped-agrees cs b (send 4 n 0) tt a)))
+  pub delivered-agrees : (cs : List Call) (b : Both) → Agrees cs b → Agrees (delivery 0 false ∷ cs) (delivered b)
+  unfolding delivered noted ledgerFrom
+  delivered-agrees cs b a = record {
+    typed = (tt, a .typed);
+    same = ap (noted (bothOf cs) (delivery 0 false)) (is-oldest cs (a .typed)) ∙ ap delivered (a .same);
+  }
+
+  pub exchanged-agrees : (ns : List ℕ) (cs : List Call) (b : Both) → Agrees cs b → Agrees (exchanged ns cs) (bothExchanged ns b)
+  unfolding bothExchanged
+  exchanged-agrees [] cs b a = a
+  exchanged-agrees (n ∷ ns) cs b a = exchanged-agrees ns _ _ (delivered-agrees _ _ (delivered-agrees _ _ (stepped-agrees cs b (send 4 n 0) tt a)))

@@ -1,26 +1,32 @@
 -- The sample run commits its transaction, and is settled and at rest: what was computed, said of each node.
 use mathlib.Core.Path.{_≡_, refl, sym, ap, subst, _∙_}
-use mathlib.Core.Bool.{Bool, true, cond}
+use mathlib.Core.Bool.{true, cond}
 use mathlib.Core.List.{[], _∷_}
 use Prim.Native.Nat.{ℕ, zero, suc, _^_, _<_}
+use native.Mathlib.Decide.{ℕ-discrete}
 use native.Mathlib.Omega.{arith}
 use lib.Dec.{lit<}
 use lib.ListN.{getD, replicate}
 use Rattle.numbers.specs.Sizes.{nodes, everyNode}
 use Rattle.mask.specs.Mask.{contains}
 use Rattle.image.specs.Layout.{value, version}
-use Rattle.steps.specs.Step.{begin, openWrite, setValue, found, requestCommit, send}
+use Rattle.steps.specs.Station.{Station}
+use Rattle.steps.specs.Step.{begin, openRead, openWrite, setValue, found, requestCommit, send}
 use Rattle.steps.proofs.Nodes.{node-on}
-use Rattle.protocol.specs.Table.{In}
-use Rattle.protocol.specs.State.{Tx}
+use Rattle.protocol.specs.Table.{pick, In, select}
+use Rattle.protocol.specs.State.{Tx, Tx-discrete}
 use Rattle.protocol.specs.Proof.Tables.{on}
-use Rattle.history.specs.Ledger.{Ledger}
-use Rattle.history.specs.Claims.{Settled, Demand3}
+use Rattle.history.specs.Ledger.{Ledger, in?}
+use Rattle.history.specs.Origin.{ledgerOf, Rested}
+use Rattle.history.specs.Claims.{Settled, reached, Demand3}
 use Rattle.history.proofs.Claimed.{demand-3}
-use Rattle.sample_run.specs.Sample.{beginning, ready, participants, mask, sample, tells, left, leftReady, transaction, Commits, Shown}
-use Rattle.sample_run.proofs.Listed.{listed-same, member, member-in}
-use Rattle.sample_run.proofs.Both.{Both, Agrees, blank-agrees, stepped-agrees, delivered-agrees, exchanged-agrees}
-use Rattle.sample_run.proofs.Computed.{whenReady, whenAsked, atLast, Seen, seen, sayingDone, doneBy, is-seen, all-say-done, is-shown}
+use Rattle.history.proofs.Origins.{blank-rested}
+use Rattle.history.proofs.Resting.{rests}
+use Rattle.sample_run.specs.Sample.{beginning, ready, participants, mask, sample, blank, tells, left, leftReady, transaction, Commits, carrying, reading}
+use Rattle.sample_run.specs.Sample.{Shown}
+use Rattle.sample_run.proofs.Listed.{listed-same}
+use Rattle.sample_run.proofs.Both.{Both, atFirst, Agrees, first-agrees, stepped-agrees, delivered-agrees, exchanged-agrees}
+use Rattle.sample_run.proofs.Computed.{whenReady, whenAsked, atLast, Seen, seen, is-seen, is-shown, whenRead, is-read}
 
 -- ---- the passes are those of the lists
 ones : (n i : ℕ) → getD (replicate n 1) i 0 < 2 ^ 16
@@ -28,17 +34,20 @@ ones zero i = lit< tt
 ones (suc n) zero = lit< tt
 ones (suc n) (suc i) = ones n i
 
-ready-agrees : Agrees ready whenReady
+abbrev β : Rested blank
+β = blank-rested everyNode
+
+ready-agrees : Agrees blank β ready whenReady
 unfolding whenReady
 ready-agrees =
-    delivered-agrees _ _ (delivered-agrees _ _ (stepped-agrees _ _ (send 4 0 7) tt (stepped-agrees _ _ (openWrite 4 7) tt
-    (stepped-agrees _ _ (begin 4 beginning) (lit< tt, (refl, ones nodes)) blank-agrees))))
+    delivered-agrees blank β _ _ (delivered-agrees blank β _ _ (stepped-agrees blank β _ _ (send 4 0 7) tt (stepped-agrees blank β _ _ (openWrite 4 7) tt
+    (stepped-agrees blank β _ _ (begin 4 beginning) (lit< tt, (refl, ones nodes)) (first-agrees blank β)))))
 
-last-agrees : Agrees sample atLast
+last-agrees : Agrees blank β sample atLast
 unfolding whenAsked atLast
 last-agrees =
-    exchanged-agrees participants _ _ (exchanged-agrees participants _ _ (stepped-agrees _ _ (requestCommit 4) tt
-    (stepped-agrees _ _ (setValue 4 7 500) (lit< tt) (stepped-agrees _ _ (found 4 7) tt ready-agrees))))
+    exchanged-agrees blank β participants _ _ (exchanged-agrees blank β participants _ _ (stepped-agrees blank β _ _ (requestCommit 4) tt
+    (stepped-agrees blank β _ _ (setValue 4 7 500) (lit< tt) (stepped-agrees blank β _ _ (found 4 7) tt ready-agrees))))
 
 -- ---- what was computed
 computed-commits : Commits (atLast .ledger) (atLast .station)
@@ -65,12 +74,11 @@ computed-commits = record {
     if-one v i = cond (contains mask i) v 0
 
     -- a participant of the one committed transaction
-    of-it : (x : Tx) → x ≡ transaction → (n : ℕ) → contains (L .participants x) n ≡ true → In (record { node = n; tx = x }) (L .dones)
+    of-it : (x : Tx) → x ≡ transaction → (n : ℕ) → contains (L .participants x) n ≡ true → L .dones x n ≡ true
     of-it x e n h =
         let p : contains mask n ≡ true = ap (λ (m : ℕ). contains m n) (sym (ap (L .participants) e ∙ ap (λ (s : Seen). s .party) is-seen)) ∙ h in
-        let m = sym (listed-same (contains mask) (λ i. member i sayingDone) nodes all-say-done n (node-on mask n (omega arith) p)) ∙ p in
-        subst (λ (y : Tx). In (record { node = n; tx = y }) (L .dones)) (sym e)
-        (subst (In (doneBy n)) (sym (ap (λ (s : Seen). s .dones) is-seen)) (member-in doneBy n sayingDone m))
+        ap (λ (y : Tx). L .dones y n) e
+        ∙ listed-same (L .dones transaction) (contains mask) nodes (ap (λ (s : Seen). s .dones) is-seen) n (node-on mask n (omega arith) p) ∙ p
 
     settled : Settled L
     settled x i = on (subst (In x) (ap (λ (s : Seen). s .committed) is-seen) i) (of-it x) (λ z. absurd z)
@@ -79,8 +87,30 @@ computed-commits = record {
 pub sample-commits : Commits tells left
 sample-commits = subst (λ (b : Both). Commits (b .ledger) (b .station)) (sym (last-agrees .same)) computed-commits
 
-pub sample-claims : Demand3 everyNode sample
-sample-claims = demand-3 everyNode sample (last-agrees .typed)
+pub sample-claims : Demand3 blank sample
+sample-claims = demand-3 blank β sample (last-agrees .typed)
 
-pub sample-shown : Shown leftReady
-sample-shown = subst (λ (b : Both). Shown (b .station)) (sym (ready-agrees .same)) is-shown
+-- and what it leaves is an origin, which carries the transaction
+pub sample-rests : Rested carrying
+sample-rests = rests blank β sample (last-agrees .typed) (sample-commits .at-rest)
+
+pub sample-carried : carrying .carried .txs ≡ transaction ∷ []
+unfolding pick Tx-discrete ℕ-discrete
+sample-carried = (λ i. select (λ x. in? x (sample-commits .committed i)) (sample-commits .logged i))
+
+pub sample-shown : Shown leftReady 4 0
+sample-shown = subst (λ (b : Both). Shown (b .station) 4 0) (sym (ready-agrees .same)) is-shown
+
+-- and the next one is shown what this one gave
+reading-agrees : Agrees carrying sample-rests reading (whenRead (atFirst carrying))
+unfolding whenRead
+reading-agrees =
+    delivered-agrees carrying sample-rests _ _ (delivered-agrees carrying sample-rests _ _ (stepped-agrees carrying sample-rests _ _ (send 5 0 7) tt
+    (stepped-agrees carrying sample-rests _ _ (openRead 5 7) tt
+    (stepped-agrees carrying sample-rests _ _ (begin 5 beginning) (lit< tt, (refl, ones nodes)) (first-agrees carrying sample-rests)))))
+
+pub reading-shown : Shown (reached carrying reading) 5 500
+unfolding atFirst
+reading-shown = subst (λ (b : Both). Shown (b .station) 5 500) (sym (reading-agrees .same))
+    (subst (λ (st : Station). Shown (whenRead (record { ledger = ledgerOf carrying; station = st }) .station) 5 500)
+    (sym (ap (λ (b : Both). b .station) (last-agrees .same))) (is-read (ledgerOf carrying)))

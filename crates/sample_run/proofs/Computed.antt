@@ -1,24 +1,24 @@
 -- The sample run, computed.
 use mathlib.Core.Path.{_≡_, refl}
-use mathlib.Core.Bool.{cond}
-use mathlib.Core.List.{List, [], _∷_, map}
+use mathlib.Core.Bool.{Bool, cond}
+use mathlib.Core.List.{List, [], _∷_}
 use Prim.Native.Nat.{ℕ}
 use native.Mathlib.Decide.{ℕ-discrete}
 use Rattle.numbers.specs.Sizes.{nodes}
 use Rattle.mask.specs.Mask.{contains}
 use Rattle.image.specs.Layout.{value, version}
-use Rattle.steps.specs.Step.{Call, begin, openWrite, setValue, found, requestCommit, send}
+use Rattle.steps.specs.Step.{begin, openRead, openWrite, setValue, found, requestCommit, send}
 use Rattle.protocol.specs.State.{Tx}
-use Rattle.history.specs.Ledger.{Done, givenTo, lastValue}
-use Rattle.sample_run.specs.Sample.{beginning, participants, mask, transaction, Shown}
-use Rattle.sample_run.proofs.Listed.{listed, member}
+use Rattle.history.specs.Ledger.{Ledger, givenTo, lastValue}
+use Rattle.sample_run.specs.Sample.{beginning, participants, mask, blank, transaction, Shown}
+use Rattle.sample_run.proofs.Listed.{listed}
 use Rattle.sample_run.proofs.Quick.{accepted}
-use Rattle.sample_run.proofs.Both.{Both, blank, noted, stepped, oldest, delivered, bothExchanged}
+use Rattle.sample_run.proofs.Both.{Both, atFirst, noted, stepped, oldest, delivered, bothExchanged}
 use Rattle.sample_run.proofs.Opened.{computed}
 
 -- the passes of its parts
 unfoldable pub whenReady : Both
-whenReady = delivered (delivered (stepped (stepped (stepped blank (begin 4 beginning)) (openWrite 4 7)) (send 4 0 7)))
+whenReady = delivered (delivered (stepped (stepped (stepped (atFirst blank) (begin 4 beginning)) (openWrite 4 7)) (send 4 0 7)))
 
 unfoldable pub whenAsked : Both
 whenAsked = stepped (stepped (stepped whenReady (found 4 7)) (setValue 4 7 500)) (requestCommit 4)
@@ -31,7 +31,7 @@ pub record Seen : Type 0 where
   pub committed : List Tx
   pub log : List Tx
   pub party : ℕ
-  pub dones : List Done
+  pub dones : List Bool
   pub given : ℕ
   pub last : ℕ
   pub values : List ℕ
@@ -43,7 +43,7 @@ seen b = record {
   committed = b .ledger .committed;
   log = b .ledger .log;
   party = b .ledger .participants transaction;
-  dones = b .ledger .dones;
+  dones = listed (b .ledger .dones transaction) nodes;
   given = givenTo (b .ledger) transaction 7;
   last = lastValue (b .ledger) 7;
   values = listed (λ n. value (b .station .images n) 7) nodes;
@@ -51,31 +51,29 @@ seen b = record {
   phases = listed (λ n. b .station .records n .phase) nodes;
 }
 
--- the dones, newest first
-abbrev pub sayingDone : List ℕ
-sayingDone = 8 ∷ 7 ∷ 5 ∷ 4 ∷ 2 ∷ 1 ∷ 0 ∷ []
-
-abbrev pub doneBy : ℕ → Done
-doneBy n = record { node = n; tx = transaction }
-
 pub is-seen : seen atLast
     ≡ record {
       committed = transaction ∷ [];
       log = transaction ∷ [];
       party = mask;
-      dones = map doneBy sayingDone;
+      dones = listed (contains mask) nodes;
       given = 0;
       last = 500;
       values = listed (λ n. cond (contains mask n) 500 0) nodes;
       versions = listed (λ n. cond (contains mask n) 1 0) nodes;
       phases = listed (λ n. 0) nodes;
     }
-unfolding computed ℕ-discrete accepted blank noted stepped oldest delivered bothExchanged whenReady whenAsked atLast seen
+unfolding computed ℕ-discrete accepted atFirst noted stepped oldest delivered bothExchanged whenReady whenAsked atLast seen
 is-seen = refl
 
-pub all-say-done : listed (contains mask) nodes ≡ listed (λ n. member n sayingDone) nodes
-all-say-done = refl
-
-pub is-shown : Shown (whenReady .station)
-unfolding computed ℕ-discrete accepted blank noted stepped oldest delivered whenReady
+pub is-shown : Shown (whenReady .station) 4 0
+unfolding computed ℕ-discrete accepted atFirst noted stepped oldest delivered whenReady
 is-shown = record { number = refl; answer = refl }
+
+-- ---- from an origin with that station
+unfoldable pub whenRead : Both → Both
+whenRead b = delivered (delivered (stepped (stepped (stepped b (begin 5 beginning)) (openRead 5 7)) (send 5 0 7)))
+
+pub is-read : (L : Ledger) → Shown (whenRead (record { ledger = L; station = atLast .station }) .station) 5 500
+unfolding computed ℕ-discrete accepted atFirst noted stepped oldest delivered bothExchanged whenReady whenAsked atLast whenRead
+is-read L = record { number = refl; answer = refl }

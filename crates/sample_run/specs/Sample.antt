@@ -1,4 +1,5 @@
--- A run from a blank station to its transaction's last done: node 4 writes 500 to object 7, and every message is delivered as soon as it is put.
+-- A run from a blank station to its transaction's last done: node 4 writes 500 to object 7, and every message is delivered as soon as it is put. Then,
+-- from what that leaves, another node reads it.
 use mathlib.Core.Path.{_≡_}
 use mathlib.Core.Bool.{true, false}
 use mathlib.Core.List.{List, [], _∷_}
@@ -9,9 +10,10 @@ use Rattle.mask.specs.Mask.{contains}
 use Rattle.image.specs.Layout.{value, version}
 use Rattle.coordinator.specs.declared.BeginWith.{BeginWith}
 use Rattle.steps.specs.Station.{Station, Quiescent}
-use Rattle.steps.specs.Step.{Call, begin, openWrite, setValue, found, requestCommit, send, delivery, step}
+use Rattle.steps.specs.Step.{Call, begin, openRead, openWrite, setValue, found, requestCommit, send, delivery, step}
 use Rattle.protocol.specs.State.{Tx}
 use Rattle.history.specs.Ledger.{Ledger, givenTo, lastValue}
+use Rattle.history.specs.Origin.{Origin, blankOrigin, originOf}
 use Rattle.history.specs.Claims.{Settled, reached, told}
 
 -- every node is on and live, at distance 1; so the nearest read quorum is node 0
@@ -42,14 +44,17 @@ abbrev pub sample : List Call
 sample = exchanged participants (exchanged participants asking)
 
 -- ---- what it tells and leaves
+abbrev pub blank : Origin
+blank = blankOrigin everyNode
+
 abbrev pub tells : Ledger
-tells = told everyNode sample
+tells = told blank sample
 
 abbrev pub left : Station
-left = reached everyNode sample
+left = reached blank sample
 
 abbrev pub leftReady : Station
-leftReady = reached everyNode ready
+leftReady = reached blank ready
 
 abbrev pub transaction : Tx
 transaction = record { owner = 4; serial = 1 }
@@ -66,7 +71,14 @@ pub record Commits (L : Ledger) (st : Station) : Type 0 where
   pub copies : (n : ℕ) → contains mask n ≡ true → (value (st .images n) 7 ≡ 500) × (version (st .images n) 7 ≡ 1)
   pub at-rest : Quiescent st
 
--- looking at the value found shows 0
-pub record Shown (st : Station) : Type 0 where
-  pub number : step st (found 4 7) .number ≡ 0
-  pub answer : step st (found 4 7) .answer ≡ 0
+-- what it leaves is an origin; from there node 5 reads the object
+abbrev pub carrying : Origin
+carrying = originOf left tells
+
+abbrev pub reading : List Call
+reading = delivery 0 false ∷ delivery 0 false ∷ send 5 0 7 ∷ openRead 5 7 ∷ begin 5 beginning ∷ []
+
+-- looking at the value that a node found shows it
+pub record Shown (st : Station) (n v : ℕ) : Type 0 where
+  pub number : step st (found n 7) .number ≡ 0
+  pub answer : step st (found n 7) .answer ≡ v

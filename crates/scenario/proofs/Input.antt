@@ -11,12 +11,12 @@ use Rattle.numbers.specs.Sizes.{everyNode}
 use Rattle.pool.proofs.Numbers.{fine}
 use Rattle.replay.specs.Layout.{size as sheetSize}
 use Rattle.replay.specs.Sheet.{blankAfter as sheetBlank}
-use Rattle.steps.specs.Station.{blankStation}
 use Rattle.steps.specs.Run.{trace}
 use Rattle.buffers.specs.Buffers.{Buffers, all, Whole}
 use Rattle.station_calls.specs.Calls.{blankNumber, blankAfter}
 use Rattle.history.specs.Running.{sheet, keptFrom}
-use Rattle.history.proofs.Running.{always-reads}
+use Rattle.history.specs.Origin.{blankOrigin}
+use Rattle.history.proofs.Running.{blank-starts, always-reads}
 use Rattle.orders.specs.declared.Order.{Order}
 use Rattle.runs.specs.Order.{callOf}
 use Rattle.runs.specs.Left.{leftOf}
@@ -55,7 +55,8 @@ blank-goes I R P O mask w h =
 
 -- the sheet has its length all along
 sheet-long : (d : Desk) (s : Story) → Faithful d s → length (d .sheet) ≡ sheetSize
-sheet-long d s f = ap length (f .told) ∙ always-reads (s .up) (f .blank) (f .size) (s .steps) (f .holds .typed) .long
+sheet-long d s f = ap length (f .told)
+    ∙ always-reads (blankOrigin (s .up)) (f .holds .rested) 0 _ (blank-starts (s .up) (f .blank) (f .size)) (s .steps) (f .holds .typed) .long
 
 begins : (r : Reader) (d : Desk) (s : Story) (mask : ℕ) → Fit (r .said) → Inv d s → mask ≤ everyNode
     → Inv (desk r (blankAfter (d .buffers) mask) (sheetBlank (d .sheet))) (record { up = mask; steps = [] })
@@ -85,10 +86,11 @@ goes-on r d s f i =
     record {
       fit = f;
       faithful = record {
-        holds = claimed (b .images) (b .records) (b .pool) (b .own) (callOf o) t (s .up) (s .steps) h .holds;
+        holds = claimed (b .images) (b .records) (b .pool) (b .own) (callOf o) t (blankOrigin (s .up)) (s .steps) h .holds;
         blank = i .faithful .blank;
         size = i .faithful .size;
-        told = ap (stepSheet b o) (i .faithful .told) ∙ sheet-is (s .up) (s .steps) o (b .images) (b .records) (b .pool) (b .own) t h (i .faithful .blank);
+        told = ap (stepSheet b o) (i .faithful .told) ∙ sheet-is (blankOrigin (s .up)) (h .rested) (s .steps) o (b .images) (b .records) (b .pool) (b .own) t h
+            (sheetBlank (i .faithful .blank));
       };
     }
 

@@ -27,7 +27,8 @@ use Rattle.steps.specs.Step.{Call, begin, openRead, openWrite, setValue, found,
 use Rattle.steps.specs.Step.{refusedWith, taken, whenOff, hosted, step, deliveryOf, dropOf, switchOf}
 use Rattle.steps.specs.Run.{trace}
 use Rattle.buffers.specs.Buffers.{Buffers, all, stationOf}
-use Rattle.history.specs.Ledger.{Ledger, poolPut, note, noted, ledger}
+use Rattle.history.specs.Ledger.{Ledger, poolPut, note, noted, ledgerFrom}
+use Rattle.history.specs.Origin.{Origin, ledgerOf, Rested}
 use Rattle.history.specs.Claims.{Typed, AllTyped, reached, told}
 use Rattle.history.specs.Running.{putIn, sheetKeeper, telling, keeping, keptFrom, sheet}
 use Rattle.history.proofs.Claimed.{always-good}
@@ -125,21 +126,21 @@ left-one : (kept : Bool) (k : ℕ) (l : List (List ℕ)) → k < length l → le
 left-one true k l h = omega arith
 left-one false k l h = length-without k l h
 
-module _ (up : ℕ) (cs : List Call) (o : Order) where
+module _ (from : Origin) (rested : Rested from) (cs : List Call) (o : Order) where
   abbrev st : Station
-  st = reached up cs
+  st = reached from cs
 
   abbrev L : Ledger
-  L = told up cs
+  L = told from cs
 
   pool-told : AllTyped cs → L .pool ≡ st .pool
-  pool-told a = always-good up cs a .world .books .pool-as
+  pool-told a = always-good from rested cs a .world .books .pool-as
 
   -- the pool after an accepted step, by the ledger
   pool-after : (c : Call) → AllTyped (c ∷ cs) → step st c .number ≡ 0 → step st c .station .pool ≡ noted L c (step st c .answer) (step st c .put) .pool
-  unfolding ledger note
+  unfolding ledgerFrom note
   pool-after c a z =
-      let g : told up (c ∷ cs) .pool ≡ step st c .station .pool = always-good up (c ∷ cs) a .world .books .pool-as in
+      let g : told from (c ∷ cs) .pool ≡ step st c .station .pool = always-good from rested (c ∷ cs) a .world .books .pool-as in
       sym g ∙ simp (eq-eqb (step st c .number) 0 z)
 
   -- by the kind: the pool P before the step and the pool Q that it left
@@ -223,15 +224,15 @@ module _ (up : ℕ) (cs : List Call) (o : Order) where
           ∙ ap (λ (l : List (List ℕ)). ownerOf (getD l (o .place) [])) (w ∙ sym (pool-told a))
 
   -- ---- THE MEANING of a step, where the buffers hold what the steps of a list left
-  module _ (I R P O : List ℕ) (t : Typed (callOf o)) (h : Holds up cs (all I R P O)) where
+  module _ (I R P O : List ℕ) (t : Typed (callOf o)) (h : Holds from cs (all I R P O)) where
     abbrev B : Buffers
     B = all I R P O
 
     abbrev now : Answer
     now = toldOf B (callOf o)
 
-    next : Next up cs (callOf o) now (leftOf B (callOf o))
-    next = claimed I R P O (callOf o) t up cs h
+    next : Next from cs (callOf o) now (leftOf B (callOf o))
+    next = claimed I R P O (callOf o) t from cs h
 
     before-as : waiting P ≡ st .pool
     before-as = ap (λ (s : Station). s .pool) (h .station)
@@ -247,12 +248,13 @@ module _ (up : ℕ) (cs : List Call) (o : Order) where
         (by-kind P (leftOf B (callOf o) .pool) before-as (next .holds .whole .pool-fine) (o .kind) (next .holds .typed) (sym (next .number) ∙ z) after-as)
 
     -- the sheet after the step is the one of the longer list
-    pub sheet-is : (l : List ℕ) → stepSheet B o (sheet l (trace (blankStation up) cs)) ≡ sheet l (trace (blankStation up) (callOf o ∷ cs))
+    pub sheet-is : (l : List ℕ) → stepSheet B o (sheet (ledgerOf from) l (trace (from .station) cs))
+        ≡ sheet (ledgerOf from) l (trace (from .station) (callOf o ∷ cs))
     unfolding stepSheet sheetBy keptFrom keeping
     sheet-is l = go (eqb (now .number) 0) refl
       where
         S : List ℕ
-        S = sheet l (trace (blankStation up) cs)
+        S = sheet (ledgerOf from) l (trace (from .station) cs)
 
         w : ℕ
         w = ownerSeen (seen P (o .place))

@@ -7,11 +7,11 @@ use lib.Dec.{eqb, ltb}
 use lib.ListN.{length}
 use Rattle.numbers.specs.Sizes.{everyNode}
 use Rattle.steps.specs.Step.{Call}
-use Rattle.steps.specs.Station.{blankStation}
 use Rattle.steps.specs.Run.{trace}
 use Rattle.buffers.specs.Buffers.{Buffers}
 use Rattle.replay.specs.Layout.{size as sheetSize}
 use Rattle.replay.specs.Sheet.{blankAfter as sheetBlank}
+use Rattle.history.specs.Origin.{ledgerOf, blankOrigin}
 use Rattle.history.specs.Running.{sheet}
 use Rattle.runs.specs.Order.{callOf}
 use Rattle.runs.specs.Held.{Holds}
@@ -57,15 +57,15 @@ storyAfter r s (byte ∷ bytes) = storyAfter (readerAfter r byte) (cond (eqb byt
 -- ---- what is claimed of every input: the buffers hold what the steps of the running scenario left (so demand 3 holds of them: crate runs), and the
 -- sheet is the one that they tell replay
 pub record Faithful (d : Desk) (s : Story) : Type 0 where
-  pub holds : Holds (s .up) (s .steps) (d .buffers)
+  pub holds : Holds (blankOrigin (s .up)) (s .steps) (d .buffers)
   pub blank : List ℕ
   pub size : length blank ≡ sheetSize
-  pub told : d .sheet ≡ sheet blank (trace (blankStation (s .up)) (s .steps))
+  pub told : d .sheet ≡ sheet (ledgerOf (blankOrigin (s .up))) (sheetBlank blank) (trace (blankOrigin (s .up) .station) (s .steps))
 
 -- the start: nothing read, and a blank station whose nodes are all on
 pub record Start (d : Desk) : Type 0 where
   pub reader : d .reader ≡ fresh
-  pub buffers : Holds everyNode [] (d .buffers)
+  pub buffers : Holds (blankOrigin everyNode) [] (d .buffers)
   pub blank : List ℕ
   pub size : length blank ≡ sheetSize
   pub sheet-blank : d .sheet ≡ sheetBlank blank

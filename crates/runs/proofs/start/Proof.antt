@@ -4,6 +4,7 @@ use mathlib.Core.List.{[]}
 use denote.Ref.{now}
 use Rattle.buffers.specs.Buffers.{Buffers, all}
 use Rattle.station_calls.specs.Calls.{blankAfter}
+use Rattle.history.specs.Origin.{blankOrigin}
 use Rattle.runs.specs.Held.{Holds}
 use Rattle.runs.proofs.Demand.{begun}
 use borrow.Author.Needs.{needs}
@@ -33,7 +34,7 @@ returns c =
     let b = all (now (x .images)) (now (x .records)) (now (x .pool)) (now (x .own)) in
     let e = c6 .before .before .blank .ensures in
     let l : all _ _ _ _ ≡ blankAfter b (x .on) = λ j. all (e .1 .0 j) (e .1 .1 .0 j) (e .1 .1 .1 .0 j) (e .1 .1 .1 .1 j) in
-    (e .0, (l, (λ z. subst (Holds (x .on) []) (sym l) (begun b (x .on) (sym (e .0) ∙ z)))))
+    (e .0, (l, (λ z. subst (Holds (blankOrigin (x .on)) []) (sym l) (begun b (x .on) (sym (e .0) ∙ z)))))
 
 pub start-spec : {M : Type 1} → statement M
 start-spec =
