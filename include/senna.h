@@ -182,7 +182,7 @@ typedef struct senna_entry {
     int64_t value;
 } senna_entry;
 
-/* The entries of a message: the first count of these, SENNA_ENTRIES at most. The rest does not matter. */
+/* The entries of a message: the first count of these, SENNA_ENTRIES at most; more is SENNA_GARBLED. The rest does not matter. */
 typedef struct senna_entries {
     senna_entry entry[SENNA_ENTRIES];
     uint8_t count;

@@ -11,15 +11,13 @@ use lib.ListN.{length, replicate}
 use lib.Seq.{ext-getD}
 use borrow.Author.Tests.{eqb-true, eqb-false}
 use Rattle.numbers.specs.Sizes.{mostOpen, highest}
-use Rattle.mask.specs.Mask.{contains, joined, within}
+use Rattle.mask.specs.Mask.{joined, within}
 use Rattle.mask.proofs.Tests.{and-both, and-left, and-right, or-cases, T-true}
-use Rattle.quorum.specs.Tree.{root}
 use Rattle.quorum.specs.Nearest.{maskOf}
-use Rattle.quorum.proofs.Theorems.{root-in-write}
 use Rattle.coordinator.specs.declared.Object.{Object}
 use Rattle.coordinator.specs.declared.Coordinator.{Coordinator}
 use Rattle.coordinator.specs.declared.BeginWith.{BeginWith}
-use Rattle.coordinator.specs.System.{System, tree}
+use Rattle.coordinator.specs.System.{System}
 use Rattle.coordinator.specs.State.{idlePhase, aborted, noObject, idleAfter, ready, settled, allSettled, anyUsedUp, awaited}
 use Rattle.coordinator.specs.Calls.{beginRefusals, begun, beginOf, openRefusals, opened, openOf, setRefusals, withNew, setOf, reselectRefusals}
 use Rattle.coordinator.specs.Calls.{reselected, reselectOf, requestCommitRefusals, requested, requestCommitOf, abortOf}
@@ -37,10 +35,6 @@ pub record Participants (s : System) (c : Coordinator) : Type 0 where
 
 pub participants-contain : (s : System) (c : Coordinator) → Meets s c → (c .participants ≡ 0 → ⊥) → Participants s c
 participants-contain s c m n = let f = m .party .full n in record { write-quorum = f .write-quorum; has-contacted = f .everyone }
-
--- node 0 is in each write quorum of the tree
-pub has-root : (c : Coordinator) → Participants tree c → T (contains (c .participants) root)
-has-root c p = root-in-write (c .participants) (p .write-quorum)
 
 -- ---- a transaction is over only when every awaited node has said done, or nobody was contacted
 -- nobody awaited: nobody contacted, and no vote asked for

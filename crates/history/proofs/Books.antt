@@ -65,7 +65,7 @@ pub record Found (F : Past) (st : Station) (h : History ℕ) : Type 0 where
 -- ---- all of it
 pub record Books (L : Ledger) (F : Past) (st : Station) (σ : State ℕ) (l : List Tx) : Type 0 where
   pub pool-as : L .pool ≡ st .pool
-  -- whatever was put, and may be gone, tells the truth still
+  -- whatever was put, and may wait no more, tells the truth still
   pub puts-true : (b : List ℕ) → In b (L .puts) → Tells (σ .history) (σ .votes) (σ .sent) b
   pub log-as : L .log ≡ l
   pub decided : Decided L (σ .history)

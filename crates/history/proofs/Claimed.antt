@@ -38,7 +38,7 @@ use Rattle.protocol.specs.Proof.Log.{base-claims}
 use Rattle.protocol.specs.Refine.Messages.{done-applied}
 use Rattle.history.specs.Ledger.{Ledger, ledgerFrom, txOf, in?, fed, current, turn, givenTo, lastValue}
 use Rattle.history.specs.Ballots.{ballotsFrom}
-use Rattle.history.specs.Origin.{Origin, ledgerOf, Rested}
+use Rattle.history.specs.Origin.{Origin, ledgerOf, Rested, blankOrigin}
 use Rattle.history.specs.Claims.{AllTyped, Shows, Finds, Carries, Settled, Newest, Ripe, SaysCommitted, reached, told, votes, event, Ripens}
 use Rattle.history.specs.Claims.{Sourced, Demand3}
 use Rattle.history.proofs.Quorums.{quorums, rules, top, of-mask}
@@ -48,7 +48,7 @@ use Rattle.history.proofs.Tests.{not-false}
 use Rattle.steps.proofs.Nodes.{off-number}
 use Rattle.history.proofs.Theorem.{Good, good-next, good-past}
 use Rattle.history.proofs.Polls.{Counts, counts-next}
-use Rattle.history.proofs.Origins.{Had, rested-good, rested-counts}
+use Rattle.history.proofs.Origins.{Had, rested-good, rested-counts, blank-rested}
 use Rattle.history.proofs.Meaning.{note-told, ripe-told, says-ripens, ripens-says}
 
 module _ (st : Station) (L : Ledger) (F : Past) (g : Good st L F) where
@@ -315,3 +315,7 @@ module _ (o : Origin) (r : Rested o) where
         is-sourced _ _ _ (always-good ds b) (current (told o ds) n) t _ (shown-finds n t ds b q);
     newest = is-newest _ _ _ g;
   }
+
+-- from a blank station, whichever nodes are on
+pub from-blank : (on : ℕ) (cs : List Call) → AllTyped cs → Demand3 (blankOrigin on) cs
+from-blank on = demand-3 (blankOrigin on) (blank-rested on)

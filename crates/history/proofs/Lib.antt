@@ -19,7 +19,8 @@
 -- The steps, one by one, and the theorem:
 --   Calls, Answered, Served, Sends   each step of the station
 --   Wide, Stamped     what else every step keeps: records fit their widths; serials and stamps of the waiting messages are their owner's
---   Theorem           one more step keeps a history good; a blank station is good
+--   Theorem           one more step keeps a history good
+--   Origins           an origin is good, and what is told of its votes and its pool is in order; the blank station is an origin
 -- What 'committed' means, on top of a good history:
 --   Counted           what is told of an owner's votes against its record, and what each change leaves of that
 --   Polls, Meaning    every step keeps it; hence a step tells a transaction committed exactly when it makes it ripe
@@ -29,7 +30,8 @@
 --   InTurn            why nothing that waits is out of turn: what is kept, over one record, one image or another pool
 --   Going, Turned     coordinators keep it; every step does
 --   Room, Numbered    the pool has at most 128 messages; the number of every delivery
---   Resting           at rest every newest copy has replay's last value
+--   Spare             the record of what is no node stays idle
+--   Resting           at rest every newest copy has replay's last value, and what is at rest is an origin again
 -- Replay's last values in bounded memory:
 --   Ranks             places in a list; what one more commit makes of the values held
 --   Tracked, Running  what a digest keeps of a ledger; every list of steps, as a digest and as a sheet

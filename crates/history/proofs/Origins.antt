@@ -36,7 +36,7 @@ use Rattle.protocol.specs.Proof.Lists.{in-suffix, in-front, suffix-tail, suffix
 use Rattle.protocol.specs.Refine.Growth.{Late}
 use Rattle.protocol.specs.Refine.Origin.{valuesOf, Brought, origin, values-ext, origin-ok, origin-log}
 use Rattle.history.specs.Ledger.{Ledger, txOf, in?}
-use Rattle.history.specs.Origin.{Carried, Origin, ofCarried, ledgerOf, ballotsOf, isWrite, writes, writersOf, Rested, blankOrigin}
+use Rattle.history.specs.Origin.{Carried, Origin, ofCarried, ledgerOf, ballotsOf, isWriting, writes, writersOf, Rested, blankOrigin}
 use Rattle.history.proofs.Quorums.{tree-sane, rules, top, of-mask}
 use Rattle.history.proofs.Sim.{tx, stateOf, holderOf, holders, Owner, Gone, Sim}
 use Rattle.history.proofs.Quiet.{found-blank, no-bit}
@@ -120,7 +120,7 @@ module _ (o : Origin) where
   wrote-as x t i = ap (λ (p : Phase). committedWrite p (before .contents x .mode t)) (its-phase x i)
       ∙ ap (λ (c : Contents ℕ). committedWrite committed (c .mode t)) (its-contents x i) ∙ by (k .mode x t)
     where
-      by : (m : Mode) → committedWrite committed m ≡ isWrite m
+      by : (m : Mode) → committedWrite committed m ≡ isWriting m
       by unused = refl
       by read = refl
       by write = refl
@@ -157,7 +157,7 @@ module _ (o : Origin) where
 
       stored-is : (n : ℕ) → contains (k .participants x) n ≡ true → k .mode x t ≡ write → suc (before .contents x .version t) ≤ version (st .images n) t
       stored-is n p w =
-          let c : writersOf k (x ∷ m) t ≡ suc (writersOf k m t) = ap (λ (a : Mode). cond (isWrite a) (suc (writersOf k m t)) (writersOf k m t)) w in
+          let c : writersOf k (x ∷ m) t ≡ suc (writersOf k m t) = ap (λ (a : Mode). cond (isWriting a) (suc (writersOf k m t)) (writersOf k m t)) w in
           let v = version-is in
           let u = counts-as m t rest in
           let h = r .stored x m n t s p w in
@@ -171,7 +171,7 @@ module _ (o : Origin) where
       b-once = r .once;
       b-good = λ x p. let i = committed-in x p in
           subst (λ (c : Contents ℕ). rules (r .sane) .Good (c .participants)) (sym (its-contents x i))
-          (of-mask (system st .isWrite) (k .participants x) (r .party x i));
+          (of-mask (system st .isWrite) (k .participants x) (r .write-quorum x i));
       b-over = λ x p. on (pick-cases (in? x l) committed (undone (leb (x .serial) (st .records (x .owner) .serial)))) (λ z. inl (z .1))
           (λ z. inr (z .1 ∙ ended x (leb (x .serial) (st .records (x .owner) .serial)) (λ e. p (z .1 ∙ e))));
       b-unused = λ x t p. ap (λ (c : Contents ℕ). c .mode t) (not-carried x (carriedContents x) (nothing 0) (λ i. p (its-phase x i)));
@@ -308,9 +308,9 @@ module _ (o : Origin) where
       log = l;
       sim = sim;
       valid = record {
-        images = λ n. (check-sound (st .images n) (r .valid n), r .octets n);
+        images = λ n. (check-sound (st .images n) (r .valid n), r .bytes n);
         records = meets;
-        messages = λ b i. r .waits b i .octets;
+        messages = λ b i. r .waits b i .bytes;
       };
       books = record {
         pool-as = refl;
@@ -350,7 +350,7 @@ module _ (o : Origin) where
     rested-counts = record {
       up = refl;
       all-agreed = λ x i. record {
-        is-asked = λ e. r .sane .choices .write-some (k .participants x) (true-T _ (r .party x i)) (sym (is-carried x (k .participants x) 0 i) ∙ e);
+        is-asked = λ e. r .sane .choices .write-some (k .participants x) (true-T _ (r .write-quorum x i)) (sym (is-carried x (k .participants x) 0 i) ∙ e);
         everyone = λ m e. is-carried x (contains (k .participants x) m) false i
             ∙ ap (λ (p : ℕ). contains p m) (sym (is-carried x (k .participants x) 0 i)) ∙ e;
       };
@@ -391,13 +391,13 @@ blank-rested up = record {
   clauses = λ n. facts-meet (system (blankOrigin up .station)) _ (blank-meets (system (blankOrigin up .station)));
   widths = λ n. blank-fits (system (blankOrigin up .station));
   valid = λ n. sound-check _ blank-sound;
-  octets = λ n. bytes-blank;
+  bytes = λ n. bytes-blank;
   beyond = λ n h. refl;
   all-over = λ n w. blank-zero (stateField shape) w tt tt tt;
   below = λ n w. subst (λ (s : ℕ). s ≤ 0) (sym (blank-zero (serialField shape) w tt tt tt)) (omega arith);
   once = λ x m s. absurd (cons≢nil s);
   begun = λ x i. absurd i;
-  party = λ x i. absurd i;
+  write-quorum = λ x i. absurd i;
   late = λ x n i. absurd i;
   stored = λ x m n t s. absurd (cons≢nil s);
   written = λ n t. subst (λ (s : ℕ). s ≤ 0) (sym (blank-zero (versionField shape) t tt tt tt)) (omega arith);

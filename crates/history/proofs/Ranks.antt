@@ -16,7 +16,7 @@ use Rattle.protocol.specs.Replay.{after, replay}
 use Rattle.protocol.specs.Proof.Tables.{on, pick-cases}
 use Rattle.protocol.specs.Proof.Lists.{select-cases, select-ext, in-select}
 use Rattle.history.specs.Ledger.{in?}
-use Rattle.history.specs.Origin.{isWrite}
+use Rattle.history.specs.Origin.{isWriting}
 
 -- ---- places, from 1 for the oldest; 0 for one that is not there
 abbrev pub rank : List Tx → Tx → ℕ
@@ -103,7 +103,7 @@ among c l = select (λ x. in? x c) l
 module _ (m : Tx → ℕ → Mode) (r : Tx → ℕ) (c : List Tx) (x : Tx) (fresh : In x c → ⊥) (t : ℕ) where
   -- the transaction writes, and it stands above the last writer of the list
   abbrev takes : List Tx → Bool
-  takes l = isWrite (m x t) && ltb (held m (λ y o. r y) (among c l) t) (r x)
+  takes l = isWriting (m x t) && ltb (held m (λ y o. r y) (among c l) t) (r x)
 
   not-under : (l : List Tx) → (In x l → ⊥) → among (x ∷ c) l ≡ among c l
   not-under l e = select-ext (λ y. in? y (x ∷ c)) (λ y. in? y c) l
@@ -115,17 +115,17 @@ module _ (m : Tx → ℕ → Mode) (r : Tx → ℕ) (c : List Tx) (x : Tx) (fres
   one-more g (y ∷ l) i d h = at-front (Tx-discrete x y) (λ j. one-more g l j (d .1) h)
     where
       -- the front's turn
-      turned : (k : Mode) (a b : ℕ) → ltb b (r x) ≡ true → after k (g x t) a ≡ cond (isWrite k && ltb b (r x)) (g x t) a
+      turned : (k : Mode) (a b : ℕ) → ltb b (r x) ≡ true → after k (g x t) a ≡ cond (isWriting k && ltb b (r x)) (g x t) a
       turned unused a b e = refl
       turned read a b e = refl
       turned write a b e = simp e
 
       -- another at the front: it hides what is below, or does nothing
-      hidden : (k : Mode) (a' a b : ℕ) → r x < r y → a' ≡ cond (isWrite (m x t) && ltb b (r x)) (g x t) a
-          → after k (g y t) a' ≡ cond (isWrite (m x t) && ltb (after k (r y) b) (r x)) (g x t) (after k (g y t) a)
+      hidden : (k : Mode) (a' a b : ℕ) → r x < r y → a' ≡ cond (isWriting (m x t) && ltb b (r x)) (g x t) a
+          → after k (g y t) a' ≡ cond (isWriting (m x t) && ltb (after k (r y) b) (r x)) (g x t) (after k (g y t) a)
       hidden unused a' a b p e = e
       hidden read a' a b p e = e
-      hidden write a' a b p e = simp (le-ltb (r y) (r x) (omega arith)) (sym (never (isWrite (m x t))))
+      hidden write a' a b p e = simp (le-ltb (r y) (r x) (omega arith)) (sym (never (isWriting (m x t))))
         where
           never : (w : Bool) → cond (w && false) (g x t) (g y t) ≡ g y t
           never true = refl
@@ -144,7 +144,7 @@ module _ (m : Tx → ℕ → Mode) (r : Tx → ℕ) (c : List Tx) (x : Tx) (fres
           ap (λ k. held m g k t) new
           ∙ subst (λ (z : Tx). after (m z t) (g z t) (held m g (among c l) t) ≡ cond (takes l) (g x t) (held m g (among c l) t)) e
           (turned (m x t) (held m g (among c l) t) (held m (λ y o. r y) (among c l) t) (lt-ltb _ _ low))
-          ∙ ap (λ k. cond (isWrite (m x t) && ltb (held m (λ y o. r y) k t) (r x)) (g x t) (held m g k t)) (sym old)
+          ∙ ap (λ k. cond (isWriting (m x t) && ltb (held m (λ y o. r y) k t) (r x)) (g x t) (held m g k t)) (sym old)
       at-front (no e) below =
           let j : In x l = on i (λ q. absurd (e q)) (λ q. q) in
           let next = below j in
@@ -153,11 +153,11 @@ module _ (m : Tx → ℕ → Mode) (r : Tx → ℕ) (c : List Tx) (x : Tx) (fres
           (λ u. absurd (u .0 (inr (z .0)))) in
           ap (λ k. held m g k t) new
           ∙ hidden (m y t) (held m g (among (x ∷ c) l) t) (held m g (among c l) t) (held m (λ y o. r y) (among c l) t) (d .0 x j) next
-          ∙ ap (λ k. cond (isWrite (m x t) && ltb (held m (λ y o. r y) k t) (r x)) (g x t) (held m g k t)) (sym (z .1)))
+          ∙ ap (λ k. cond (isWriting (m x t) && ltb (held m (λ y o. r y) k t) (r x)) (g x t) (held m g k t)) (sym (z .1)))
           (λ z. let new : among (x ∷ c) (y ∷ l) ≡ among (x ∷ c) l = on (select-cases (λ z. in? z (x ∷ c)) y l)
           (λ u. absurd (on (u .0) (λ q. e (sym q)) (z .0))) (λ u. u .1) in
           ap (λ k. held m g k t) new ∙ next
-          ∙ ap (λ k. cond (isWrite (m x t) && ltb (held m (λ y o. r y) k t) (r x)) (g x t) (held m g k t)) (sym (z .1)))
+          ∙ ap (λ k. cond (isWriting (m x t) && ltb (held m (λ y o. r y) k t) (r x)) (g x t) (held m g k t)) (sym (z .1)))
 
 -- ---- a list with some left out
 abbrev pub Thin : (Tx → Type 0) → List Tx → List Tx → Type 0

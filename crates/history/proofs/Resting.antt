@@ -41,7 +41,7 @@ use Rattle.protocol.specs.Refine.Origin.{heldIn, Brought, values-ext}
 use Rattle.protocol.specs.Refine.Rest.{earlier, same-contents, same-wrote, rest-brought}
 use Rattle.history.specs.Ledger.{Ledger, in?, fed as fedBy, turn, givenTo, lastValue, isDone}
 use Rattle.history.specs.Ballots.{isYes}
-use Rattle.history.specs.Origin.{Origin, Carried, ledgerOf, isWrite, writes, writersOf, heldAfter, Spent, Rested, originOf}
+use Rattle.history.specs.Origin.{Origin, Carried, ledgerOf, isWriting, writes, writersOf, heldAfter, Spent, Rested, originOf}
 use Rattle.history.specs.Claims.{AllTyped, Settled, Newest, reached, told}
 use Rattle.history.proofs.Quorums.{rules, top}
 use Rattle.history.proofs.Tests.{and-true, or-true}
@@ -112,7 +112,7 @@ module _ (st : Station) (L : Ledger) (F : Past) (g : Good st L F) (t : InTurn st
   spent : (b : List ℕ) → In b (st .pool) → Spent st b
   spent b i = let z = t .waits b i in record {
     well = waits-well σ b (w .sim .waits b i);
-    octets = w .valid .messages b i;
+    bytes = w .valid .messages b i;
     begun = g .stamped .serial-below b i;
     stamped = g .stamped .stamp-as b i;
     arrives = λ e. on (z .to-replica e) (behind-most _ _ _) (λ a. absurd (a .begun (idle (ownerOf b))));
@@ -141,10 +141,10 @@ module _ (st : Station) (L : Ledger) (F : Past) (g : Good st L F) (t : InTurn st
     its-mode u = w .books .decided .its-mode x p u
 
     writes-as : (u : ℕ) → writes k x u ≡ wrote h' x u
-    writes-as u = ap isWrite (its-mode u) ∙ by (σ .history .contents x .mode u)
+    writes-as u = ap isWriting (its-mode u) ∙ by (σ .history .contents x .mode u)
         ∙ ap (λ q. committedWrite q (σ .history .contents x .mode u)) (sym p) ∙ sym (same x u)
       where
-        by : (m : Mode) → isWrite m ≡ committedWrite committed m
+        by : (m : Mode) → isWriting m ≡ committedWrite committed m
         by unused = refl
         by read = refl
         by write = refl
@@ -164,8 +164,8 @@ module _ (st : Station) (L : Ledger) (F : Past) (g : Good st L F) (t : InTurn st
     began = on (lt-or-le (st .records (x .owner) .serial) (x .serial))
         (λ h. absurd (let e = w .sim .owners (x .owner) .later (x .serial) h in let q = p in clash (cc))) (λ h. h)
 
-    party : system st .isWrite (k .participants x) ≡ true
-    party = let q = committed-good R σ (w .sim .kept .inv) x p in
+    write-quorum : system st .isWrite (k .participants x) ≡ true
+    write-quorum = let q = committed-good R σ (w .sim .kept .inv) x p in
         T-true _ (w .sane .choices .write-larger (q .mask) (k .participants x)
         (contains-within (q .mask) (k .participants x) (λ j e. true-T _ (w .books .decided .its-party x p j ∙ q .all j (T-true _ e)))) (true-T _ (q .counts)))
 
@@ -192,7 +192,7 @@ module _ (st : Station) (L : Ledger) (F : Past) (g : Good st L F) (t : InTurn st
       let v = brought .b-version x m u (subst (Suffix (x ∷ m)) same-list s) (λ q. touches i q) in
       let d = ap (λ (y : Contents ℕ). y .version u) (contents-as x i) in
       let f = counts-as m u (suffix-tail x m (k .txs) s) in
-      let y : writersOf k (x ∷ m) u ≡ suc (writersOf k m u) = ap (λ (b : Mode). cond (isWrite b) (suc (writersOf k m u)) (writersOf k m u)) e in
+      let y : writersOf k (x ∷ m) u ≡ suc (writersOf k m u) = ap (λ (b : Mode). cond (isWriting b) (suc (writersOf k m u)) (writersOf k m u)) e in
       omega (arith, a, v, d, f, y)
     where
       touches : In x (k .txs) → h' .contents x .mode u ≡ unused → ⊥
@@ -219,13 +219,13 @@ module _ (st : Station) (L : Ledger) (F : Past) (g : Good st L F) (t : InTurn st
     clauses = λ n. facts-meet (system st) (st .records n) (w .valid .records n);
     widths = g .wide .fits;
     valid = λ n. sound-check (st .images n) (w .valid .images n .0);
-    octets = λ n. w .valid .images n .1;
+    bytes = λ n. w .valid .images n .1;
     beyond = g .wide .beyond;
     all-over = all-over st L F w t rest;
     below = t .below;
     once = λ x. subst (AtMostOnce x) (sym same-list) (brought .b-once x);
     begun = began;
-    party = party;
+    write-quorum = write-quorum;
     late = λ x n i. is-late x i n;
     stored = stored;
     written = written;

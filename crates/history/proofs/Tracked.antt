@@ -20,7 +20,7 @@ use Rattle.protocol.specs.Replay.{after}
 use Rattle.protocol.specs.Proof.Tables.{on, put-cases, put-here, put2-cases}
 use Rattle.protocol.specs.Proof.Lists.{in-select, replay-ext, select-cases}
 use Rattle.history.specs.Ledger.{in?, txOf, rootYes, firstOnly}
-use Rattle.history.specs.Origin.{isWrite}
+use Rattle.history.specs.Origin.{isWriting}
 use Rattle.history.proofs.Sim.{tx}
 use Rattle.history.proofs.Ranks.{rank, rank-top, rank-under, rank-none, rank-some, rank-down, Distinct, times-some, is-in}
 use Rattle.history.proofs.Ranks.{held, among, one-more, Thin, thin-more, thin-in, in-thin}
@@ -38,7 +38,7 @@ pub record Tracks (k : ℕ) (log : List Tx) (serials : ℕ → ℕ) (c : List Tx
   pub places-as : d .places ≡ length given
   pub serial-as : (n : ℕ) → d .serial n ≡ serials n
   pub place-as : (n : ℕ) → d .place n ≡ rank given (tx n (serials n))
-  pub writes-as : (n t : ℕ) → eqb (d .writes n t) 1 ≡ isWrite (mode (tx n (serials n)) t)
+  pub writes-as : (n t : ℕ) → eqb (d .writes n t) 1 ≡ isWriting (mode (tx n (serials n)) t)
   pub new-as : (n t : ℕ) → d .new n t ≡ new (tx n (serials n)) t
   pub last-place-as : (t : ℕ) → d .lastPlace t ≡ held mode (λ x o. rank given x) (among c given) t
   pub last-value-as : (t : ℕ) → d .lastValue t ≡ held mode new (among c given) t
@@ -93,7 +93,7 @@ blank-tracks mode e = record {
   places-as = refl;
   serial-as = λ n. refl;
   place-as = λ n. refl;
-  writes-as = λ n t. sym (ap isWrite (e (tx n 0) t));
+  writes-as = λ n t. sym (ap isWriting (e (tx n 0) t));
   new-as = λ n t. refl;
   last-place-as = λ t. refl;
   last-value-as = λ t. refl;
@@ -156,10 +156,10 @@ module _ (k : ℕ) (log : List Tx) (serials : ℕ → ℕ) (c : List Tx) (mode :
           ∙ ap (λ (s : ℕ). rank g (tx n s)) (sym here)))
           (λ e. at-else (d .place) n 0 i e ∙ r .place-as i ∙ ap (λ (s : ℕ). rank g (tx i s)) (sym (elsewhere i e)));
       writes-as = λ i t. same? i n
-          (λ e. subst (λ (i : ℕ). eqb (zeroRow (d .writes) n i t) 1 ≡ isWrite (mode (tx i (serials' i)) t)) (sym e)
-          (ap (λ (w : ℕ). eqb w 1) (row-here (d .writes) n t) ∙ ap isWrite (sym (no-mode t)) ∙ ap (λ (s : ℕ). isWrite (mode (tx n s) t)) (sym here)))
+          (λ e. subst (λ (i : ℕ). eqb (zeroRow (d .writes) n i t) 1 ≡ isWriting (mode (tx i (serials' i)) t)) (sym e)
+          (ap (λ (w : ℕ). eqb w 1) (row-here (d .writes) n t) ∙ ap isWriting (sym (no-mode t)) ∙ ap (λ (s : ℕ). isWriting (mode (tx n s) t)) (sym here)))
           (λ e. ap (λ (w : ℕ). eqb w 1) (row-else (d .writes) n i t e) ∙ r .writes-as i t
-          ∙ ap (λ (s : ℕ). isWrite (mode (tx i s) t)) (sym (elsewhere i e)));
+          ∙ ap (λ (s : ℕ). isWriting (mode (tx i s) t)) (sym (elsewhere i e)));
       new-as = λ i t. same? i n
           (λ e. subst (λ (i : ℕ). zeroRow (d .new) n i t ≡ new (tx i (serials' i)) t) (sym e)
           (row-here (d .new) n t ∙ sym (no-new t) ∙ ap (λ (s : ℕ). new (tx n s) t) (sym here)))
@@ -174,7 +174,7 @@ module _ (k : ℕ) (log : List Tx) (serials : ℕ → ℕ) (c : List Tx) (mode :
     other : (x : Tx) → In x (among c g) → x ≢ now n
     other x i e = undecided (subst (λ (z : Tx). In z c) e (in-select (λ y. in? y c) g x i .1))
 
-    module _ (m : Mode) (w : ℕ) (as-told : eqb w 1 ≡ isWrite m) where
+    module _ (m : Mode) (w : ℕ) (as-told : eqb w 1 ≡ isWriting m) where
       abbrev mode' : Tx → ℕ → Mode
       mode' = put2 Tx-discrete ℕ-discrete mode (now n) t m
 
@@ -199,9 +199,9 @@ module _ (k : ℕ) (log : List Tx) (serials : ℕ → ℕ) (c : List Tx) (mode :
         place-as = r .place-as;
         writes-as = λ i j. same? i n
             (λ e. same? j t
-            (λ q. subst (λ (i : ℕ). eqb (at2 (d .writes) n t w i j) 1 ≡ isWrite (mode' (now i) j)) (sym e)
-            (subst (λ (j : ℕ). eqb (at2 (d .writes) n t w n j) 1 ≡ isWrite (mode' (now n) j)) (sym q)
-            (ap (λ (w : ℕ). eqb w 1) (at2-here (d .writes) n t w) ∙ as-told ∙ ap isWrite (sym mode-here))))
+            (λ q. subst (λ (i : ℕ). eqb (at2 (d .writes) n t w i j) 1 ≡ isWriting (mode' (now i) j)) (sym e)
+            (subst (λ (j : ℕ). eqb (at2 (d .writes) n t w n j) 1 ≡ isWriting (mode' (now n) j)) (sym q)
+            (ap (λ (w : ℕ). eqb w 1) (at2-here (d .writes) n t w) ∙ as-told ∙ ap isWriting (sym mode-here))))
             (λ q. still i j (λ a b. q b)))
             (λ e. still i j (λ a b. e a));
         new-as = r .new-as;
@@ -209,9 +209,9 @@ module _ (k : ℕ) (log : List Tx) (serials : ℕ → ℕ) (c : List Tx) (mode :
         last-value-as = λ j. r .last-value-as j ∙ held-still new j;
       }
         where
-          still : (i j : ℕ) → (i ≡ n → j ≡ t → ⊥) → eqb (at2 (d .writes) n t w i j) 1 ≡ isWrite (mode' (now i) j)
+          still : (i j : ℕ) → (i ≡ n → j ≡ t → ⊥) → eqb (at2 (d .writes) n t w i j) 1 ≡ isWriting (mode' (now i) j)
           still i j e = ap (λ (w : ℕ). eqb w 1) (at2-else (d .writes) n t w i j e) ∙ r .writes-as i j
-              ∙ ap isWrite (sym (mode-else (now i) j (λ q. e (ap (λ (x : Tx). x .owner) q))))
+              ∙ ap isWriting (sym (mode-else (now i) j (λ q. e (ap (λ (x : Tx). x .owner) q))))
 
     module _ (v : ℕ) where
       abbrev new' : Tx → ℕ → ℕ
@@ -254,14 +254,14 @@ module _ (k : ℕ) (log : List Tx) (serials : ℕ → ℕ) (c : List Tx) (mode :
     has-place = in-thin (Passed serials c) (now n) (λ z. let h = z .0 in let b : ⊥ = omega (arith, h) in b) log g (r .thin) logged
 
     taken-as : (t : ℕ) → takes (d .writes n t) (d .place n) (d .lastPlace t)
-        ≡ (isWrite (mode (now n) t) && ltb (held mode (λ x o. rank g x) (among c g) t) (rank g (now n)))
+        ≡ (isWriting (mode (now n) t) && ltb (held mode (λ x o. rank g x) (among c g) t) (rank g (now n)))
     unfolding takes
     taken-as t = ap₂ (λ (a b : Bool). a && b) (r .writes-as n t) (ap₂ ltb (r .last-place-as t) (r .place-as n))
 
     more : (f : Tx → ℕ → ℕ) (t a b : ℕ) → a ≡ f (now n) t → b ≡ held mode f (among c g) t
         → cond (takes (d .writes n t) (d .place n) (d .lastPlace t)) a b ≡ held mode f (among (now n ∷ c) g) t
     more f t a b p q = ap (λ (w : Bool). cond w a b) (taken-as t)
-        ∙ ap₂ (λ (a b : ℕ). cond (isWrite (mode (now n) t) && ltb (held mode (λ x o. rank g x) (among c g) t) (rank g (now n))) a b) p q
+        ∙ ap₂ (λ (a b : ℕ). cond (isWriting (mode (now n) t) && ltb (held mode (λ x o. rank g x) (among c g) t) (rank g (now n))) a b) p q
         ∙ sym (one-more mode (rank g) c (now n) undecided t f g has-place (rank-down g (r .distinct)) (rank-some (now n) g has-place))
 
     pub committed-tracks : Tracks k log serials (now n ∷ c) mode new (committed d n)

@@ -19,7 +19,7 @@ use Rattle.history.specs.Ledger.{Ledger, txOf, current, ledgerFrom}
 pub record Ballots : Type 0 where
   -- the nodes that are on
   pub on : ℕ
-  -- whether a yes of the transaction from the node was delivered to its owner, while on
+  -- whether a yes of the transaction from the node was delivered to its owner, while on; of those carried, whether it is a participant
   pub agreed : Tx → ℕ → Bool
   -- whether, since votes were asked for it, an abort call was accepted, or a no of it from a participant or a yield that names it was delivered to
   -- its owner, while on

@@ -1,5 +1,6 @@
--- What is claimed of every list of station steps from an origin, the blank station being one, whichever nodes are on: demand 3, and the numbers of
--- deliveries. A list is newest first, so the lists that came before are its ends; what is claimed after every list is claimed after every one of those.
+-- What is claimed of every list of station steps from an origin that is `Rested`, the blank station being one, whichever nodes are on: demand 3, and the
+-- numbers of deliveries. A list is newest first, so the lists that came before are its ends; what is claimed after every list is claimed after every
+-- one of those.
 use mathlib.Core.Path.{_≡_}
 use mathlib.Core.Logic.{_≢_, _⊎_}
 use mathlib.Core.Bool.{Bool, true, false, cond}
@@ -145,7 +146,8 @@ module _ (o : Origin) where
     -- and so is the answer of every accepted found call
     pub shown-sourced : (n t : ℕ) (ds : List Call) → Suffix (found n t ∷ ds) cs → step (reached ds) (found n t) .number ≡ 0
         → Sourced (told ds) t (step (reached ds) (found n t) .answer)
-    -- (c) if it is settled, then in every read quorum, larger sets too, whichever nodes are on, every newest copy has replay's last value
+    -- (c) if it is settled, then in every read quorum of the station (from blank the tree's, larger sets too; no step changes them: `lasting-system`,
+    -- proofs/Lasting), whichever nodes are on, every newest copy has replay's last value
     pub newest : Settled (told cs) → (q : ℕ) → system (reached cs) .isRead q ≡ true → (n t : ℕ) → n < nodes → contains q n ≡ true
         → t < objects → Newest (reached cs) q n t
         → value (reached cs .images n) t ≡ lastValue (told cs) t

@@ -1,4 +1,5 @@
--- What the events of a list of steps tell, "from the steps, their answers and the messages they put in the pool, and nothing else".
+-- What the events of a list of steps tell, "from the steps, their answers and the messages they put in the pool, and nothing else"; on top of what an
+-- origin carries (`ledgerOf`, Origin), which is nothing for a blank one.
 use mathlib.Core.Path.{_≡_}
 use mathlib.Core.Bool.{Bool, true, cond, _&&_}
 use mathlib.Core.List.{List, [], _∷_, _++_}
@@ -21,22 +22,22 @@ use Rattle.protocol.specs.State.{Tx, Tx-discrete}
 use Rattle.protocol.specs.Replay.{after, replay, given}
 
 pub record Ledger : Type 0 where
-  -- the messages put, less accepted drops and deliveries not kept: a delivery's message is the k-th of these
+  -- the messages that waited at first and those put since, less accepted drops and deliveries not kept: a delivery's message is the k-th of these
   pub pool : List (List ℕ)
-  -- every message that was ever put
+  -- every message put since the first step
   pub puts : List (List ℕ)
-  -- each owner's serial: its accepted begins counted
+  -- each owner's serial: at first its record's, then its accepted begins counted
   pub serials : ℕ → ℕ
   -- the transactions in the order in which the root's first yes to each was put into the pool, newest first
   pub log : List Tx
-  -- those for which a delivery answered 'committed'
+  -- those carried, and those for which a delivery answered 'committed'
   pub committed : List Tx
   -- a transaction's objects with their modes and last new values, from accepted host calls
   pub mode : Tx → ℕ → Mode
   pub new : Tx → ℕ → ℕ
   -- its participants, as the accepted request_commit answered them
   pub participants : Tx → ℕ
-  -- whether the node put a done into the pool on a delivery of the transaction's commit
+  -- whether the node put a done into the pool on a delivery of the transaction's commit; of those carried, whether it is a participant
   pub dones : Tx → ℕ → Bool
 
 -- ---- messages

@@ -3,10 +3,11 @@
 use mathlib.Core.Path.{_≡_}
 use mathlib.Core.Bool.{Bool, true, false, _||_}
 use mathlib.Core.List.{List, [], _∷_}
-use Prim.Native.Nat.{ℕ, _≤_, _<_}
-use lib.ListN.{length, getD}
+use Prim.Native.Nat.{ℕ, _≤_}
+use lib.ListN.{length}
 use Rattle.numbers.specs.Sizes.{nodes, mostWaiting}
 use Rattle.mask.specs.Mask.{contains}
+use Rattle.octets.proofs.Laws.{Bytes}
 use Rattle.wire.specs.Decode.{kindOf, fromOf, toOf, ownerOf, serialOf, stampOf, checkOf}
 use Rattle.image.specs.Layout.{shape, value, version, serial, state}
 use Rattle.image.specs.Valid.{over, check}
@@ -33,13 +34,14 @@ pub record Carried : Type 0 where
   pub new : Tx → ℕ → ℕ
   pub participants : Tx → ℕ
 
+-- a station with what it brings along; lists of steps begin at those that are `Rested`
 pub record Origin : Type 0 where
   pub station : Station
   pub carried : Carried
 
--- of a transaction: what is carried, or else what is there where nothing is
+-- a where the transaction is carried, b where it is not
 abbrev pub ofCarried : {A : Type 0} → Carried → Tx → A → A → A
-ofCarried k x a none = pick (in? x (k .txs)) a none
+ofCarried k x a b = pick (in? x (k .txs)) a b
 
 -- ---- what had been told by then
 -- all of them committed, and every participant has said done
@@ -65,13 +67,13 @@ ballotsOf o = let k = o .carried in record {
 }
 
 -- ---- the copies
-abbrev pub isWrite : Mode → Bool
-isWrite unused = false
-isWrite read = false
-isWrite write = true
+abbrev pub isWriting : Mode → Bool
+isWriting unused = false
+isWriting read = false
+isWriting write = true
 
 abbrev pub writes : Carried → Tx → ℕ → Bool
-writes k x t = isWrite (k .mode x t)
+writes k x t = isWriting (k .mode x t)
 
 -- how many of a list write the object; the value of the object after v of its writers
 abbrev pub writersOf : Carried → List Tx → ℕ → ℕ
@@ -81,15 +83,11 @@ abbrev pub heldAfter : Carried → ℕ → ℕ → ℕ
 heldAfter k t v = valuesOf (writes k) (k .new) 0 (k .txs) t v
 
 -- ---- at rest
--- Bytes of a message, each below 256.
-abbrev pub Octets : List ℕ → Type 0
-Octets b = (i : ℕ) → getD b i 0 < 256
-
 -- A message may wait still. It is of its owner's last transaction or an earlier one, and of the last one has the timestamp; that transaction is late
 -- at the replica that it is for, and where it is a yes or a done, at the node that said it.
 pub record Spent (st : Station) (b : List ℕ) : Type 0 where
   pub well : checkOf b ≡ 0
-  pub octets : Octets b
+  pub bytes : Bytes b
   pub begun : serialOf b ≤ st .records (ownerOf b) .serial
   pub stamped : serialOf b ≡ st .records (ownerOf b) .serial → stampOf b ≡ st .records (ownerOf b) .timestamp
   pub arrives : forReplica (kindOf b) ≡ true → serialOf b ≤ serial (st .images (toOf b)) (ownerOf b)
@@ -98,12 +96,12 @@ pub record Spent (st : Station) (b : List ℕ) : Type 0 where
 -- An origin: the station is at rest, and its copies are those that the transactions carried have left.
 pub record Rested (o : Origin) : Type 0 where
   pub sane : Sane (system (o .station))
-  -- every record is idle, meets its clauses and fits its widths; every image is valid, and what is no node is blank
+  -- every record is idle, meets its clauses and fits its widths; every image is valid, and that of what is no node blank
   pub idle : (n : ℕ) → o .station .records n .phase ≡ idlePhase
   pub clauses : (n : ℕ) → meets (system (o .station)) (o .station .records n) ≡ true
   pub widths : (n : ℕ) → Fits (o .station .records n)
   pub valid : (n : ℕ) → check (o .station .images n) ≡ 0
-  pub octets : (n : ℕ) → Octets (o .station .images n)
+  pub bytes : (n : ℕ) → Bytes (o .station .images n)
   pub beyond : (n : ℕ) → nodes ≤ n → o .station .images n ≡ blankAs shape
   -- at every node every owner's last transaction is over, and begun
   pub all-over : (n w : ℕ) → state (o .station .images n) w ≡ over
@@ -111,7 +109,7 @@ pub record Rested (o : Origin) : Type 0 where
   -- each transaction carried stands there once, was begun, and its participants are a write quorum
   pub once : (x : Tx) → AtMostOnce x (o .carried .txs)
   pub begun : (x : Tx) → In x (o .carried .txs) → x .serial ≤ o .station .records (x .owner) .serial
-  pub party : (x : Tx) → In x (o .carried .txs) → system (o .station) .isWrite (o .carried .participants x) ≡ true
+  pub write-quorum : (x : Tx) → In x (o .carried .txs) → system (o .station) .isWrite (o .carried .participants x) ≡ true
   -- at each participant it is no later than the last, and the copies of what it writes are no older than it left them
   pub late : (x : Tx) (n : ℕ) → In x (o .carried .txs) → contains (o .carried .participants x) n ≡ true
       → x .serial ≤ serial (o .station .images n) (x .owner)

@@ -1,20 +1,18 @@
 -- What is printed for a step is what happened: where the buffers hold what a list of steps left, the message shown as put is the one that the step put,
 -- and replay's sheet after the step is the one of the longer list.
-use mathlib.Core.Path.{_≡_, refl, sym, ap, ap₂, subst, _∙_}
-use mathlib.Core.Logic.{_≢_}
+use mathlib.Core.Path.{_≡_, refl, sym, ap, subst, _∙_}
 use mathlib.Core.Bool.{Bool, true, false, cond}
 use mathlib.Core.List.{List, [], _∷_, _++_}
 use mathlib.Core.Option.{Option, none, some}
-use Prim.Native.Nat.{ℕ, suc, _+_, _-_, _<_, _≤_}
+use Prim.Native.Nat.{ℕ, _+_, _-_, _<_, _≤_}
 use native.Mathlib.Omega.{arith}
 use lib.Dec.{eqb, ltb}
 use lib.ListN.{length, getD, length-append}
 use lib.Seq.{getD-append-add}
 use borrow.Author.Tests.{eq-eqb, ne-eqb, eqb-true, eqb-false, lt-ltb, le-ltb, ltb-true}
-use Rattle.wire.specs.Decode.{ownerOf, checkOf}
+use Rattle.wire.specs.Decode.{ownerOf}
 use Rattle.coordinator.specs.declared.Step.{Step}
 use Rattle.coordinator.specs.State.{committed}
-use Rattle.coordinator.specs.System.{tree}
 use Rattle.coordinator.specs.Calls.{noNode}
 use Rattle.mask.specs.Mask.{contains, only, joined, minus}
 use Rattle.pool.specs.Pool.{count, check, messageAt, waiting}
@@ -22,11 +20,11 @@ use Rattle.pool.proofs.Numbers.{fine}
 use Rattle.pool.proofs.Laws.{length-waiting, getD-waiting}
 use Rattle.replay.specs.Sheet.{begunAfter, openedAfter, valuedAfter, committedAfter}
 use Rattle.buffers.specs.declared.Answer.{Answer}
-use Rattle.steps.specs.Station.{Station, blankStation, withRecord, withPool, withOn, without}
-use Rattle.steps.specs.Step.{Call, begin, openRead, openWrite, setValue, found, reselect, requestCommit, abort, send, delivery, drop, switch, Outcome}
+use Rattle.steps.specs.Station.{Station, withRecord, withPool, withOn, without}
+use Rattle.steps.specs.Step.{Call, send, delivery, drop, Outcome}
 use Rattle.steps.specs.Step.{refusedWith, taken, whenOff, hosted, step, deliveryOf, dropOf, switchOf}
 use Rattle.steps.specs.Run.{trace}
-use Rattle.buffers.specs.Buffers.{Buffers, all, stationOf}
+use Rattle.buffers.specs.Buffers.{Buffers, all}
 use Rattle.history.specs.Ledger.{Ledger, poolPut, note, noted, ledgerFrom}
 use Rattle.history.specs.Origin.{Origin, ledgerOf, Rested}
 use Rattle.history.specs.Claims.{Typed, AllTyped, reached, told}

@@ -19,7 +19,7 @@ pub record Own : Type 0 where
   pub system : System
 
 -- By node its image (the bytes) and its record; the pool, the waiting messages (the bytes) in sending order; what is the station's own.
--- A number above 12 is no node: what stands there is blank and stays so.
+-- A number above 12 is no node: its image is blank and its record idle, and they stay so.
 pub record Station : Type 0 where
   pub images : ℕ → List ℕ
   pub records : ℕ → Coordinator

@@ -70,7 +70,7 @@ hosted st n s =
     cond (contains (st .own .on) n) (cond (eqb (s .number) 0) (taken (s .answer) (withRecord st n (s .coordinator))) (refusedWith (s .number) st))
     (refusedWith (whenOff (s .number)) st)
 
--- ---- a send: 4, 5, 6, then 12 for a full pool even where nothing is due. (3: a record that no run from blank has, whose message is not well formed)
+-- ---- a send: 4, 5, 6, then 12 for a full pool even where nothing is due. (3: a record that no run has, whose message is not well formed)
 abbrev pub full : Station → Bool
 full st = not (ltb (length (st .pool)) mostWaiting)
 

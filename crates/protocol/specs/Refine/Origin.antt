@@ -35,7 +35,7 @@ abbrev pub chainOf : {A : Type 0} → Rules A → History A → Chain A
 chainOf R h = record { length = λ o. count (wrote h) (h .decisions) o; entry = heldIn R h (h .decisions) }
 
 pub record Brought {A : Type 0} (R : Rules A) (s : Store A) (e : Ends) (h : History A) : Type 0 where
-  -- the list: who is in it is committed, once, with participants that count; nobody else is under way, and has contents
+  -- the list: who is in it is committed, once, with participants that count; nobody else is under way or has contents
   pub b-committed : (x : Tx) → In x (h .decisions) → h .phase x ≡ committed
   pub b-decided : (x : Tx) → h .phase x ≡ committed → In x (h .decisions)
   pub b-once : (x : Tx) → AtMostOnce x (h .decisions)
