@@ -5,7 +5,7 @@ use mathlib.Core.List.{List, [], _∷_, _++_, append-nil}
 use Prim.Native.Nat.{ℕ, zero, suc, _+_, _-_, _*_, _≤_, _<_}
 use native.Mathlib.Omega.{arith}
 use lib.Dec.{eqb, ltb}
-use lib.ListN.{length, getD, take, drop, replicate, length-drop, drop-of-length-le}
+use lib.ListN.{length, getD, take, drop, replicate, length-drop, drop-of-length-le, List·getD-eq-default}
 use lib.Seq.{paste, take-length, take-all}
 use borrow.Author.Tests.{eqb-true, eq-eqb, ltb-true, ltb-false}
 use Rattle.octets.specs.Octets.{get}
@@ -29,12 +29,6 @@ padded-at (suc n) [] zero h = refl
 padded-at (suc n) [] (suc i) h = padded-at n [] i (omega arith)
 padded-at (suc n) (x ∷ l) zero h = refl
 padded-at (suc n) (x ∷ l) (suc i) h = padded-at n l i (omega arith)
-
--- behind both ends there is nothing
-past-end : (l : List ℕ) (i : ℕ) → length l ≤ i → getD l i 0 ≡ 0
-past-end [] i h = refl
-past-end (x ∷ l) zero h = absurd (let z : ⊥ = omega arith in z)
-past-end (x ∷ l) (suc i) h = past-end l i (omega arith)
 
 -- ---- lists that read the same at every place are the same table
 module _ (a b : List ℕ) (same : (i : ℕ) → getD a i 0 ≡ getD b i 0) where
@@ -102,13 +96,10 @@ at-place l h i = by (ltb i 186) refl
     by : (b : Bool) → ltb i 186 ≡ b → getD (padded 186 l) i 0 ≡ getD l i 0
     by true e = padded-at 186 l i (ltb-true i 186 e)
     by false e = let k = ltb-false i 186 e in let m = length-padded 186 l in
-        past-end (padded 186 l) i (omega (arith, m, k)) ∙ sym (past-end l i (omega (arith, h, k)))
+        List·getD-eq-default (padded 186 l) 0 {n = i} (omega (arith, m, k)) ∙ sym (List·getD-eq-default l 0 {n = i} (omega (arith, h, k)))
 
 neither : (a b : Bool) → (a || b) ≡ false → (a ≡ false) × (b ≡ false)
-neither true b e = absurd (false-true (sym e))
-  where
-    false-true : false ≡ true → ⊥
-    false-true f = subst (λ (x : Bool). cond x ⊥ (Unit {0})) f tt
+neither true b e = absurd (subst (λ (x : Bool). cond x (Unit {0}) ⊥) e tt)
 neither false b e = (refl, e)
 
 -- an accepted table is not faulty, and fits

@@ -35,6 +35,7 @@ pub fn count(bytes: &[u8]) -> usize
 }
 
 // The place of an opened object; 8 where it is not open. Ruled out: a place past the count; the last place for an object that is not open.
+// The condition is a plain fact of a record that was checked; only the crates that work on one use it, and each proves it.
 pub fn place(bytes: &[u8], object: u8) -> usize
     requires { ⌜ (length (now bytes) ≡ recordSize) × (recordOf (now bytes) .count ≤ mostOpen) ⌝ }
     ensures { λ r. ⌜ (r ≡ placeOf (recordOf (now (bytes .entry))) object) × (r ≤ mostOpen) ⌝ }
@@ -72,6 +73,7 @@ pub fn object_at(bytes: &[u8], p: usize) -> Object
 }
 
 // An opened object; a blank one for an object that is not open. Ruled out: the object opened before it; the first one for an object that is not open.
+// The condition is a plain fact of a record that was checked; only the crates that work on one use it, and each proves it.
 pub fn object_named(bytes: &[u8], object: u8) -> Object
     requires { ⌜ (length (now bytes) ≡ recordSize) × (recordOf (now bytes) .count ≤ mostOpen) ⌝ }
     ensures { λ r. ⌜ r ≡ objectAt (recordOf (now (bytes .entry))) object ⌝ }
@@ -80,6 +82,7 @@ pub fn object_named(bytes: &[u8], object: u8) -> Object
 }
 
 // Whether votes may be asked for each of the first n objects. Ruled out: yes for a written one without its new value; the last one left out.
+// The condition is a plain fact of a record that was checked; only the crates that work on one use it, and each proves it.
 pub fn all_settled(bytes: &[u8], n: usize) -> bool
     requires { ⌜ length (now bytes) ≡ recordSize ⌝ }
     requires { ⌜ n ≤ mostOpen ⌝ }
@@ -98,6 +101,7 @@ pub fn all_settled(bytes: &[u8], n: usize) -> bool
 }
 
 // Whether one of the first n objects has a written version without a next one. Ruled out: yes for one that is only read; the first alone looked at.
+// The condition is a plain fact of a record that was checked; only the crates that work on one use it, and each proves it.
 pub fn any_used_up(bytes: &[u8], n: usize) -> bool
     requires { ⌜ length (now bytes) ≡ recordSize ⌝ }
     requires { ⌜ n ≤ mostOpen ⌝ }

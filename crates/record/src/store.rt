@@ -59,6 +59,7 @@ fn low(n: usize) -> u8
 }
 
 // An object at a place. Ruled out: a byte of the object behind it altered; value and new value the other way round.
+// The condition holds of every place in a record; only the crates that work on one use it, and each proves it.
 pub fn put_object(bytes: &mut [u8], at: usize, x: Object)
     requires { ⌜ at < 8192 ⌝ }
     ensures { λ r. ⌜ now (bytes .exit) ≡ sets (now (bytes .entry)) at (objectBytes x) ⌝ }
@@ -184,6 +185,7 @@ pub fn turn(bytes: &mut [u8], outcome: u8, at: u8)
 }
 
 // The transaction is over: only serial, timestamp and outcome stay. Ruled out: the objects kept; the serial back at 0.
+// The condition is a plain fact of a record that was checked; only the crates that work on one use it, and each proves it.
 pub fn become_idle(bytes: &mut [u8], outcome: u8)
     requires { ⌜ length (now bytes) ≡ recordSize ⌝ }
     ensures { λ r. ⌜ now (bytes .exit) ≡ bytesOf (idleAfter ((recordOf (now (bytes .entry))) .serial) ((recordOf (now (bytes .entry))) .timestamp) outcome) ⌝ }
@@ -197,6 +199,7 @@ pub fn become_idle(bytes: &mut [u8], outcome: u8)
 
 // The transaction ends aborted: finishing until every awaited node says done; with nobody awaited, idle at once.
 // Ruled out: idle while a node is awaited; a commit.
+// The condition is a plain fact of a record that was checked; only the crates that work on one use it, and each proves it.
 pub fn end_aborted(bytes: &mut [u8])
     requires { ⌜ check (now bytes) ≡ 0 ⌝ }
     ensures { λ r. ⌜ now (bytes .exit) ≡ bytesOf (endedAborted (recordOf (now (bytes .entry)))) ⌝ }
