@@ -3,9 +3,9 @@
  * is one object that all nodes keep copies of. Here the thirteen nodes and the cable between them are simulated in this one program, so that it
  * can cut a node's power and switch nodes off. What a real node's program does is in the first half, down to take_turn; read that first.
  *
- * The whole of it: a node keeps two things of the library on its disk, its image (its copies of the tallies) and its record (its own booking).
- * take_turn looks at the record and does what comes next. So a power cut needs no code of its own: the bytes are read from the disk, checked,
- * and take_turn goes on from where they are.
+ * The whole of it: a node keeps three things of the library on its disk, its image (its copies of the tallies), its record (its own booking) and its
+ * settings (its packing hours). take_turn looks at the record and does what comes next. So a power cut needs no code of its own: the bytes are read
+ * from the disk, checked, and take_turn goes on from where they are.
  *
  * README.md beside this file has the line that compiles it.
  */
@@ -17,14 +17,15 @@
 #include <stdlib.h>
 #include <string.h>
 
-enum { SUPPLIER = 7, CABLE = 64, ROUNDS = 20 };
+enum { SUPPLIER = 7, CABLE = 64, ROUNDS = 20, MINUTES_OF_A_DAY = 24 * 60 };
 
 /* What a node keeps on its disk. */
 typedef struct kept {
-    uint8_t image[SENNA_IMAGE];   /* the library's: copies of all tallies, and who is booking on them */
-    uint8_t record[SENNA_RECORD]; /* the library's: this node's own booking */
-    int64_t batch;                /* ours: grams on the scale that are not booked yet; 0 for none */
-    int64_t booked;               /* ours: grams that this node has booked */
+    uint8_t image[SENNA_IMAGE];       /* the library's: copies of all tallies, and who is booking on them */
+    uint8_t record[SENNA_RECORD];     /* the library's: this node's own booking */
+    uint8_t settings[SENNA_SETTINGS]; /* the library's: this node's packing hours */
+    int64_t batch;                    /* ours: grams on the scale that are not booked yet; 0 for none */
+    int64_t booked;                   /* ours: grams that this node has booked */
 } kept;
 
 /* A node: its number, what it works on, and its disk. A power cut loses all but the disk. */
@@ -41,12 +42,14 @@ typedef struct letter {
     size_t length;
 } letter;
 
-/* The simulated station: the nodes, a cable that carries messages in order, and a clock that never goes back. */
+/* The simulated station: the nodes, a cable that carries messages in order, timestamps that never go back, and the time on the wall. */
 typedef struct station {
     node nodes[SENNA_NODES];
     letter cable[CABLE];
     size_t waiting;
-    uint32_t clock;
+    uint32_t timestamp;
+    uint32_t day;    /* days since 1 January 1970; the library takes any count of days */
+    uint16_t minute; /* of the week, Monday 00:00 is 0 */
 } station;
 
 /* ---- A node's program ---- */
@@ -89,14 +92,45 @@ static uint16_t live_nodes(const station *s)
     return (uint16_t)live;
 }
 
-/* Begins a booking of the batch on the scale, with a later timestamp than ever before, and opens the supplier's tally to write it. */
+/* Appends a number of so many bytes to a list, low byte first; the list's size after it. */
+static size_t append(uint8_t *list, size_t size, unsigned bytes, uint32_t number)
+{
+    for (; bytes > 0; bytes--, number >>= 8) {
+        list[size++] = (uint8_t)number;
+    }
+    return size;
+}
+
+/*
+ * Loads packing hours: Monday to Friday from one minute of the day to another, but not on one date. Done once, when the hours are set, and kept with
+ * the rest of the settings; from then on the library turns every begin outside of them away.
+ */
+static void load_packing_hours(node *n, unsigned opens, unsigned closes, uint32_t closed_date)
+{
+    uint8_t list[SENNA_HOURS_MAX];
+    size_t size = append(list, 0, 1, 5); /* five windows, each with its first minute and its end */
+    for (uint32_t weekday = 0; weekday < 5; weekday++) {
+        size = append(list, size, 2, weekday * MINUTES_OF_A_DAY + opens);
+        size = append(list, size, 2, weekday * MINUTES_OF_A_DAY + closes);
+    }
+    size = append(list, size, 1, 1); /* one closed date */
+    size = append(list, size, 4, closed_date);
+    must(senna_load_hours(n->memory.settings, SENNA_SETTINGS, list, size), "packing hours");
+    keep(n);
+}
+
+/*
+ * Begins a booking of the batch on the scale, with a later timestamp than ever before, and opens the supplier's tally to write it. Where it cannot begin,
+ * as outside of packing hours, the batch stays on the scale and the next turn tries again.
+ */
 static void begin_booking(station *s, node *n)
 {
     uint8_t distances[SENNA_DISTANCES] = {0}; /* thirteen 16-bit numbers, low byte first */
     for (size_t i = 0; i < SENNA_NODES; i++) {
         distances[2 * i] = 1;
     }
-    senna_called begun = senna_coordinator_begin(n->memory.record, SENNA_RECORD, n->number, live_nodes(s), distances, sizeof distances, ++s->clock);
+    senna_called begun = senna_coordinator_begin(n->memory.record, SENNA_RECORD, n->memory.settings, SENNA_SETTINGS, n->number, live_nodes(s),
+                                                 distances, sizeof distances, ++s->timestamp, s->day, s->minute);
     if (begun.number != SENNA_OK) {
         printf("node %u: cannot begin: %s\n", n->number, senna_word(begun.number));
         return;
@@ -204,6 +238,7 @@ static void start(node *n)
     n->memory = n->disk;
     must(senna_check_image(n->memory.image, SENNA_IMAGE), "the kept image");
     must(senna_check_record(n->memory.record, SENNA_RECORD), "the kept record");
+    must(senna_check_settings(n->memory.settings, SENNA_SETTINGS), "the kept settings");
     n->on = true;
     const uint8_t *record = n->memory.record;
     uint8_t phase = senna_coordinator_phase(record, SENNA_RECORD);
@@ -293,6 +328,15 @@ static void cut_power(node *n)
     printf("node %u: power cut\n", n->number);
 }
 
+/* The time on the wall: a day, and a time of a weekday, Monday being 0. */
+static void set_clock(station *s, uint32_t day, unsigned weekday, unsigned hours, unsigned minutes)
+{
+    static const char *const names[] = {"Monday", "Tuesday", "Wednesday", "Thursday", "Friday", "Saturday", "Sunday"};
+    s->day = day;
+    s->minute = (uint16_t)(weekday * MINUTES_OF_A_DAY + hours * 60 + minutes);
+    printf("it is %s, day %" PRIu32 ", %02u:%02u\n", names[weekday], day, hours, minutes);
+}
+
 static void blank_station(station *s)
 {
     memset(s, 0, sizeof *s);
@@ -302,6 +346,7 @@ static void blank_station(station *s)
         n->on = true;
         must(senna_blank_image(n->memory.image, SENNA_IMAGE), "blank image");
         must(senna_blank_record(n->memory.record, SENNA_RECORD), "blank record");
+        must(senna_blank_settings(n->memory.settings, SENNA_SETTINGS), "blank settings");
         keep(n);
     }
 }
@@ -344,6 +389,29 @@ int main(void)
     weigh(five, 4000);
     carry_on(&s, 3);
     start(&s.nodes[0]);
+    carry_on(&s, ROUNDS);
+
+    printf("\n-- packing hours at node 8: Monday to Friday, 06:00 to 14:00, but not on day 20812\n");
+    load_packing_hours(eight, 6 * 60, 14 * 60, 20812);
+    set_clock(&s, 20811, 3, 5, 59);
+    weigh(eight, 1500);
+    carry_on(&s, 2); /* too early, and still too early */
+    set_clock(&s, 20811, 3, 6, 0);
+    carry_on(&s, ROUNDS);
+    set_clock(&s, 20811, 3, 13, 59);
+    weigh(eight, 250);
+    carry_on(&s, 1); /* begins in the last open minute */
+    set_clock(&s, 20811, 3, 14, 0);
+    carry_on(&s, ROUNDS); /* and goes on after closing time */
+    set_clock(&s, 20812, 4, 8, 0);
+    weigh(eight, 40);
+    carry_on(&s, 1);
+    cut_power(eight); /* the hours are on the disk with the rest */
+    start(eight);
+    carry_on(&s, 1);
+    weigh(five, 90); /* node 5 has hours of its own: none are loaded, so all are open */
+    carry_on(&s, 3);
+    set_clock(&s, 20815, 0, 6, 0);
     carry_on(&s, ROUNDS);
 
     printf("\nbooked at node 5: %" PRId64 " g, at node 8: %" PRId64 " g\n", five->memory.booked, eight->memory.booked);

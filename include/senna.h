@@ -1,6 +1,7 @@
 /*
  * senna.h: replicated objects on a tree of thirteen nodes: the quorums, the messages between nodes, a node's stored image, the
- * replica that answers messages from it, the record of the node's own transaction, and a whole station of thirteen nodes.
+ * replica that answers messages from it, the record of the node's own transaction, the settings that say when one may begin, and a whole
+ * station of thirteen nodes.
  *
  * `rt staticlib host` writes the library, target/staticlib/libhost.a, for x86-64 Linux. Of the C library it needs memcpy, memmove
  * and memset alone. This line builds a program with it:
@@ -23,7 +24,7 @@
  * as long as no other thread uses a buffer that is being written. A pointer is never null, also where its length is 0, and may have any
  * alignment. A buffer that a call may write overlaps no other buffer of the call.
  *
- * A call that can refuse answers a number, SENNA_OK or one of the twelve below. On a refusal every lent byte is as it was, and what is
+ * A call that can refuse answers a number, SENNA_OK or one of the thirteen below. On a refusal every lent byte is as it was, and what is
  * answered beside the number is 0.
  */
 #ifndef SENNA_H
@@ -51,12 +52,18 @@ extern "C" {
 #define SENNA_RECORDS 3913    /* bytes of a station's records: thirteen of SENNA_RECORD, node 0 first */
 #define SENNA_POOL 16513      /* bytes of a station's pool */
 #define SENNA_OWN 2           /* bytes of the mask of a station's nodes that are on */
+#define SENNA_SETTINGS 228    /* bytes of a node's settings */
+#define SENNA_STATION_SETTINGS 2964 /* bytes of a station's settings: thirteen of SENNA_SETTINGS, node 0 first */
+#define SENNA_MINUTES 10080   /* minutes of a week, numbered from 0 */
+#define SENNA_WINDOWS 14      /* windows of a table of packing hours, at most */
+#define SENNA_DATES 32        /* closed dates of a table of packing hours, at most */
+#define SENNA_HOURS_MAX 186   /* bytes of the longest table of packing hours */
 
 /* Numbers. A call answers 0, or why it refuses; where several fit, the lowest unless its comment says otherwise. */
 #define SENNA_OK 0
 #define SENNA_LENGTH 1         /* a buffer or a message has another length than it must */
-#define SENNA_DAMAGED 2        /* stored bytes break a rule of their format */
-#define SENNA_GARBLED 3        /* a message breaks a rule of its format */
+#define SENNA_DAMAGED 2        /* stored bytes, or a table that is loaded, break a rule of their format */
+#define SENNA_GARBLED 3        /* a message breaks a rule of its format, or a minute is above 10,079 */
 #define SENNA_STRANGER 4       /* a node above 12, a mask above 8191, or a message for another node */
 #define SENNA_OUT_OF_TURN 5    /* wrong phase or state, or a timestamp not above the last */
 #define SENNA_NO_SUCH_OBJECT 6 /* above 63, opened twice, not opened, or a value set on a read */
@@ -66,9 +73,10 @@ extern "C" {
 #define SENNA_BUSY 10          /* begin while a transaction is under way */
 #define SENNA_NOT_READY 11     /* a value or the votes wanted too soon */
 #define SENNA_POOL_FULL 12     /* 128 messages wait already */
+#define SENNA_CLOSED 13        /* begin outside the node's packing hours */
 
 /*
- * A number's word, for a log or a screen: "ok", "length" .. "pool full", and "unknown" for what is no number of this table. The words are
+ * A number's word, for a log or a screen: "ok", "length" .. "closed", and "unknown" for what is no number of this table. The words are
  * constants: they are never freed or changed. Reads only its argument; no heap; re-entrant.
  */
 static inline const char *senna_word(uint8_t number)
@@ -87,6 +95,7 @@ static inline const char *senna_word(uint8_t number)
     case SENNA_BUSY: return "busy";
     case SENNA_NOT_READY: return "not ready";
     case SENNA_POOL_FULL: return "pool full";
+    case SENNA_CLOSED: return "closed";
     default: return "unknown";
     }
 }
@@ -409,18 +418,80 @@ uint8_t senna_check_record(const uint8_t *record, size_t length);
 uint8_t senna_blank_record(uint8_t *record, size_t length);
 
 /*
- * Begins a transaction with the next serial; answers the chosen read quorum.
+ * Settings. Beside its record a node has settings of SENNA_SETTINGS bytes: its packing hours. A host makes them blank once, keeps the bytes beside
+ * the record, and lends them to every begin. Blank settings are all zeros: no table of hours is loaded, and all hours are open.
  *
- * live       the nodes that may be chosen, at most SENNA_ALL
- * distances  SENNA_DISTANCES bytes, as for senna_nearest_read; only read
- * size       the bytes at distances; another number than SENNA_DISTANCES is SENNA_LENGTH
- * timestamp  above the last one, also after an abort
+ * A transaction begins only in packing hours. There is no begin that is not lent the settings, so every transaction goes through them. No other
+ * call asks for the hours: a transaction that is under way may go on after closing time, to its last done.
  *
- * Numbers: SENNA_STRANGER (also live above SENNA_ALL), SENNA_BUSY (the phase is not SENNA_IDLE; before the next), SENNA_OUT_OF_TURN
- * (timestamp not above the last), SENNA_NO_QUORUM, SENNA_USED_UP (the last serial is 4294967295).
+ * A begin is told the day and the minute, which are the host's; the library has no clock, and does not ask whether the two belong together:
+ *   minute  of the week, counted from Monday midnight: 0 is Monday 00:00, 1,440 Tuesday 00:00, 10,079 Sunday 23:59; a higher one is SENNA_GARBLED
+ *   day     a number of the host's own, such as the days since a date that it has chosen; it is compared with the closed dates and with nothing else
+ *
+ * A table of packing hours is a list of weekly windows and a list of closed dates. It is lent as bytes; numbers are little-endian:
+ *   at           bytes  what
+ *   0            1      n: how many windows, 0 to SENNA_WINDOWS
+ *   1 + 4i       2      window i, counted from 0: its first minute, 0 to 10,079
+ *   3 + 4i       2      its end, above the first minute, at most 10,080
+ *   1 + 4n       1      d: how many closed dates, 0 to SENNA_DATES
+ *   2 + 4n + 4j  4      date j, counted from 0: a day
+ * and no byte more: the table has 2 + 4n + 4d bytes, at most SENNA_HOURS_MAX. A window's first minute is open and its end minute is closed; what
+ * goes past Sunday midnight is two windows. Windows may overlap and dates may come twice, in any order. The hours are closed on each closed date,
+ * and at each minute that no window has: without a window always. Monday 06:00 to 14:00, closed on day 20,815, is the bytes
+ *   1, 0x68, 0x01, 0x48, 0x03, 1, 0x4f, 0x51, 0, 0
+ *
+ * In the settings byte 0 is 1 where a table is loaded, else 0; from byte 1 on stands the table as it was lent, then zeros up to byte 186. The 41
+ * bytes behind that are zeros in blank settings and are for what is to come; no call looks at them, and a load leaves them. Settings are damaged where
+ * byte 0 is above 1 or the lists from byte 1 on are no table, also where byte 0 is 0. What stands behind the lists does not matter.
  */
-senna_called senna_coordinator_begin(uint8_t *record, size_t length, uint8_t me, uint16_t live, const uint8_t *distances, size_t size,
-                                     uint32_t timestamp);
+
+/*
+ * Whether bytes are settings, as kept bytes must be before a host goes on from them.
+ * Numbers, the lowest that fits: SENNA_LENGTH (length is not SENNA_SETTINGS), SENNA_DAMAGED (a rule is broken).
+ * Only reads the bytes at settings; no heap; re-entrant.
+ */
+uint8_t senna_check_settings(const uint8_t *settings, size_t length);
+
+/*
+ * Writes the settings of a node for which nothing was loaded: all zeros. Whatever stood there before is lost. Number: SENNA_LENGTH (length is not
+ * SENNA_SETTINGS), and then nothing is written. Only writes to settings; no heap; re-entrant.
+ */
+uint8_t senna_blank_settings(uint8_t *settings, size_t length);
+
+/*
+ * Loads a table of packing hours in place of the one before, in whatever phase the node's record is. A refusal keeps the one before. To have all
+ * hours open again, load one window from 0 to 10,080 and no date.
+ *
+ * settings  the node's settings, which are changed in place
+ * length    the bytes at settings
+ * list      the table; only read
+ * size      the bytes at list
+ *
+ * Numbers, the lowest that fits: SENNA_LENGTH (length is not SENNA_SETTINGS, or size is another than the table's two counts say, also 0),
+ * SENNA_DAMAGED (the settings; or the table has more than SENNA_WINDOWS windows, more than SENNA_DATES dates, a first minute above 10,079, an end above
+ * 10,080, or an end that is not above its first minute).
+ * Otherwise senna_check_settings answers 0 for the settings after. Only writes to settings, which must not overlap the list; no heap; re-entrant.
+ */
+uint8_t senna_load_hours(uint8_t *settings, size_t length, const uint8_t *list, size_t size);
+
+/*
+ * Begins a transaction with the next serial, in packing hours; answers the chosen read quorum.
+ *
+ * settings         the node's settings; only read
+ * settings_length  the bytes at settings; another number than SENNA_SETTINGS is SENNA_LENGTH
+ * live             the nodes that may be chosen, at most SENNA_ALL
+ * distances        SENNA_DISTANCES bytes, as for senna_nearest_read; only read
+ * size             the bytes at distances; another number than SENNA_DISTANCES is SENNA_LENGTH
+ * timestamp        above the last one, also after an abort
+ * day, minute      now, as the settings' comment says
+ *
+ * Numbers, in this order: SENNA_LENGTH, SENNA_DAMAGED (the record or the settings), SENNA_GARBLED (minute above 10,079, also where no table is
+ * loaded), SENNA_STRANGER (me above 12, or live above SENNA_ALL), SENNA_BUSY (the phase is not SENNA_IDLE), SENNA_OUT_OF_TURN (timestamp not above the
+ * last), SENNA_NO_QUORUM, SENNA_USED_UP (the last serial is 4294967295), SENNA_CLOSED (a table is loaded, and the day is a closed date or no window
+ * has the minute). After SENNA_CLOSED the host tries again at its next open minute, with the same timestamp if it likes: nothing was used up.
+ */
+senna_called senna_coordinator_begin(uint8_t *record, size_t length, const uint8_t *settings, size_t settings_length, uint8_t me, uint16_t live,
+                                     const uint8_t *distances, size_t size, uint32_t timestamp, uint32_t day, uint16_t minute);
 
 /*
  * Takes a fresh live mask and distances while open; answers the newly chosen read quorum, which is contacted if an object is open.
@@ -520,38 +591,42 @@ uint8_t senna_coordinator_mode(const uint8_t *record, size_t length, uint8_t i);
 uint8_t senna_coordinator_is_ready(const uint8_t *record, size_t length, uint8_t i);
 
 /*
- * The station: thirteen replicas and thirteen coordinators, the messages that wait, and which nodes are on. It is kept in four lent buffers:
- *   images   SENNA_IMAGES bytes: each node's image
- *   records  SENNA_RECORDS bytes: each node's record
- *   pool     SENNA_POOL bytes: how many messages wait 1, then SENNA_WAITING places of a length 1 and SENNA_MESSAGE_MAX bytes; the messages
- *            that wait are in the first places, in sending order. What stands behind a message in its place, and in the places past the
- *            count, does not matter
- *   own      SENNA_OWN bytes: the mask of the nodes that are on, low byte first, at most SENNA_ALL
+ * The station: thirteen replicas and thirteen coordinators, the messages that wait, which nodes are on, and their settings. It is kept in five lent
+ * buffers:
+ *   images    SENNA_IMAGES bytes: each node's image
+ *   records   SENNA_RECORDS bytes: each node's record
+ *   pool      SENNA_POOL bytes: how many messages wait 1, then SENNA_WAITING places of a length 1 and SENNA_MESSAGE_MAX bytes; the messages
+ *             that wait are in the first places, in sending order. What stands behind a message in its place, and in the places past the
+ *             count, does not matter
+ *   own       SENNA_OWN bytes: the mask of the nodes that are on, low byte first, at most SENNA_ALL
+ *   settings  SENNA_STATION_SETTINGS bytes: each node's settings; lent to those steps alone that need them
  *
  * A station begins as senna_station_blank makes it, and each step below changes it in place. The buffers of one call must not overlap. A
- * step reads and writes only the buffers that it is lent, and of images and records only its node's part.
+ * step reads and writes only the buffers that it is lent, and of images, records and settings only its node's part.
  *
  * Numbers of every step: SENNA_LENGTH (a lent buffer has another length than it must) and SENNA_DAMAGED (a pool with a count above
- * SENNA_WAITING, a mask above SENNA_ALL, or a record of the node that breaks a rule) come first, then SENNA_STRANGER for a node above 12,
- * then what its comment says, in the order that it says. On a refusal answer is 0 and every lent byte is as it was. Otherwise every byte that
+ * SENNA_WAITING, a mask above SENNA_ALL, or a record or settings of the node that break a rule) come first, then SENNA_STRANGER for a node
+ * above 12, then what its comment says, in the order that it says. On a refusal answer is 0 and every lent byte is as it was. Otherwise every byte that
  * the comment does not name is as it was. No heap; re-entrant.
  */
 
 /*
- * Makes a blank station: blank images and records, a pool of zeros, and the nodes of a mask on. Whatever stood there before is lost.
- * Numbers, the lowest that fits: SENNA_LENGTH (of any of the four), SENNA_STRANGER (on is above SENNA_ALL).
+ * Makes a blank station: blank images, records and settings, a pool of zeros, and the nodes of a mask on. Whatever stood there before is lost.
+ * Numbers, the lowest that fits: SENNA_LENGTH (of any of the five), SENNA_STRANGER (on is above SENNA_ALL).
  */
 uint8_t senna_station_blank(uint8_t *images, size_t images_length, uint8_t *records, size_t records_length, uint8_t *pool,
-                            size_t pool_length, uint8_t *own, size_t own_length, uint16_t on);
+                            size_t pool_length, uint8_t *own, size_t own_length, uint8_t *settings, size_t settings_length, uint16_t on);
 
 /*
  * The host's calls at a node: each is the call of the same name on that node's record (senna_coordinator_begin and so on), with its answer
- * and its numbers. Only the node's record changes.
+ * and its numbers. Only the node's record changes. senna_station_begin goes by the node's settings.
  *
- * SENNA_OUT_OF_TURN also where the node is off, before every later number; SENNA_STRANGER, and at begin SENNA_BUSY, still precede it.
+ * SENNA_OUT_OF_TURN also where the node is off, before every later number; SENNA_STRANGER, and at begin SENNA_GARBLED and SENNA_BUSY, still precede
+ * it.
  */
-senna_called senna_station_begin(uint8_t *records, size_t records_length, const uint8_t *own, size_t own_length, uint8_t node,
-                                 uint16_t live, const uint8_t *distances, size_t size, uint32_t timestamp);
+senna_called senna_station_begin(uint8_t *records, size_t records_length, const uint8_t *own, size_t own_length, const uint8_t *settings,
+                                 size_t settings_length, uint8_t node, uint16_t live, const uint8_t *distances, size_t size,
+                                 uint32_t timestamp, uint32_t day, uint16_t minute);
 senna_called senna_station_reselect(uint8_t *records, size_t records_length, const uint8_t *own, size_t own_length, uint8_t node,
                                     uint16_t live, const uint8_t *distances, size_t size);
 senna_called senna_station_open_read(uint8_t *records, size_t records_length, const uint8_t *own, size_t own_length, uint8_t node,
@@ -564,6 +639,14 @@ senna_value senna_station_found(uint8_t *records, size_t records_length, const u
                                 uint8_t object);
 senna_called senna_station_request_commit(uint8_t *records, size_t records_length, const uint8_t *own, size_t own_length, uint8_t node);
 senna_called senna_station_abort(uint8_t *records, size_t records_length, const uint8_t *own, size_t own_length, uint8_t node);
+
+/*
+ * Loads a table of packing hours for a node, in place of the one before, as senna_load_hours does. Only the node's settings change. Answers 0.
+ *
+ * Numbers: SENNA_LENGTH and SENNA_DAMAGED also of the table; SENNA_STRANGER (node above 12), SENNA_OUT_OF_TURN (the node is off).
+ */
+senna_called senna_station_load_hours(const uint8_t *own, size_t own_length, uint8_t *settings, size_t settings_length, uint8_t node,
+                                      const uint8_t *list, size_t size);
 
 /*
  * Sends what is due from a node to a node, and while SENNA_OPEN for an object: what senna_coordinator_due would write goes to the pool's end.

@@ -3,10 +3,10 @@
 mod crafted;
 
 use crate::fast::Fast;
-use crate::library::{Entries, Entry, Library, Serials, Transaction, ALL, IMAGE, RECORD, SLOT};
+use crate::library::{BeginWith, Entries, Entry, Library, Serials, Transaction, ALL, IMAGE, RECORD, SETTINGS, SLOT};
 use crate::product::Product;
 use crate::random::Random;
-use crate::station::{Station, Step};
+use crate::station::{longest_table, Station, Step, TABLES};
 use crate::walk;
 use std::fmt;
 
@@ -20,7 +20,7 @@ pub struct Counts {
     pub calls: usize,
     pub committed: usize,
     /// How often each number was answered.
-    pub numbers: [usize; 13],
+    pub numbers: [usize; 14],
 }
 
 impl fmt::Display for Counts {
@@ -30,7 +30,7 @@ impl fmt::Display for Counts {
             to,
             "{steps} steps ({accepted} accepted, {committed} commits, {damaged} on damaged bytes, {lengths} with another length), "
         )?;
-        write!(to, "{calls} calls by themselves; the steps' numbers 0 to 12: {numbers:?}")
+        write!(to, "{calls} calls by themselves; the steps' numbers 0 to 13: {numbers:?}")
     }
 }
 
@@ -70,14 +70,16 @@ fn damage(random: &mut Random, station: &mut Station, step: &Step) {
         }
         Step::Begin { node: n, .. } | Step::OpenRead { node: n, .. } | Step::OpenWrite { node: n, .. } => node = usize::from(n).min(12),
         Step::Send { node: n, .. } | Step::SetValue { node: n, .. } | Step::RequestCommit { node: n } => node = usize::from(n).min(12),
+        Step::LoadHours { node: n, .. } => node = usize::from(n).min(12),
         _ => {}
     }
-    match random.below(16) {
+    match random.below(18) {
         0 => station.own[random.below(2)] = random.byte(),
         1 => station.pool[0] = random.byte(),
         2..=5 => station.pool[1 + SLOT * slot + random.below(40)] = byte,
         6..=9 => station.images[IMAGE * node + random.below(IMAGE)] = byte,
         10 => station.images[IMAGE * node + 1090 + random.below(117)] = byte,
+        16 | 17 => station.settings[SETTINGS * node + random.below(20)] = byte,
         11 => {
             let place = RECORD * node + [0, 47, 72, 97][random.below(4)];
             station.records[place..place + 4].fill(255);
@@ -92,10 +94,10 @@ fn troubled(random: &mut Random, product: &mut Station, rust: &mut Station, coun
     let chosen = walk::next(random, rust, 8);
     if random.once_in(4) {
         let longer = random.once_in(2);
-        let which = random.below(4);
+        let which = random.below(5);
         for station in [&mut *product, &mut *rust] {
-            let buffer = [&mut station.images, &mut station.records, &mut station.pool, &mut station.own].into_iter().nth(which);
-            let buffer = buffer.expect("one of four");
+            let Station { images, records, pool, own, settings } = station;
+            let buffer = [images, records, pool, own, settings].into_iter().nth(which).expect("one of five");
             buffer.resize(if longer { buffer.len() + 1 } else { buffer.len() - 1 }, 0);
         }
         counts.lengths += 1;
@@ -146,7 +148,9 @@ fn record_calls(random: &mut Random, station: &Station, counts: &mut Counts) -> 
     let size = random.mostly(26, 25);
     let distances = random.bytes(size);
     let (timestamp, value) = (random.next() as u32 >> random.below(32), random.next() as i64);
-    both!(record, counts, begin(me, live, &distances, timestamp));
+    let settings = bent(random, station.settings(node));
+    let (day, minute) = (random.below(3) as u32, *random.pick(&[0, 599, 600, 650, 699, 700, 10_079, 10_080, 65_535]));
+    both!(record, counts, begin(&settings, me, BeginWith { live, distances: &distances, timestamp, day, minute }));
     both!(record, counts, reselect(me, live, &distances));
     for object in [object, object & 7] {
         both!(record, counts, open_read(me, object));
@@ -163,6 +167,22 @@ fn record_calls(random: &mut Random, station: &Station, counts: &mut Counts) -> 
     let (mut one, mut other) = (out.clone(), out);
     same("due", Product::due(&record, me, to, object & 7, &mut one), Fast::due(&record, me, to, object & 7, &mut other))?;
     same("due: bytes", one, other)
+}
+
+/// The calls on settings by themselves.
+fn settings_calls(random: &mut Random, station: &Station, counts: &mut Counts) -> Verdict {
+    let mut settings = station.settings(random.below(13)).to_vec();
+    if random.once_in(2) {
+        let place = random.below(SETTINGS);
+        settings[place] = random.byte() >> random.below(8);
+    }
+    let settings = bent(random, &settings);
+    let longest = longest_table();
+    let list: &[u8] = if random.once_in(4) { &longest } else { *random.pick(&TABLES) };
+    let list = bent(random, list);
+    both!(settings, counts, load_hours(&list));
+    both!(settings, counts, blank_settings());
+    same("check_settings", Product::check_settings(&settings), Fast::check_settings(&settings))
 }
 
 /// A waiting message at a replica and at a coordinator by themselves, and its check.
@@ -258,6 +278,7 @@ fn run(random: &mut Random, steps: usize, counts: &mut Counts) -> Verdict {
         }
         if random.once_in(16) {
             record_calls(random, &rust, counts)?;
+            settings_calls(random, &rust, counts)?;
             writers(random, counts)?;
         }
     }

@@ -4,6 +4,7 @@
 mod bytes;
 mod coordinator;
 mod due;
+mod hours;
 mod image;
 mod message;
 mod pool;
@@ -13,7 +14,7 @@ mod replica;
 mod station;
 mod writers;
 
-use crate::library::{Chosen, Entries, Entry, Lent, Library, Serials, Told, Transaction, Written};
+use crate::library::{BeginWith, Chosen, Entries, Entry, Lent, Library, Serials, Told, Transaction, Written};
 
 /// The numbers of a refusal.
 pub mod number {
@@ -29,6 +30,7 @@ pub mod number {
     pub const BUSY: u8 = 10;
     pub const NOT_READY: u8 = 11;
     pub const POOL_FULL: u8 = 12;
+    pub const CLOSED: u8 = 13;
 }
 
 /// Kinds of messages.
@@ -103,8 +105,10 @@ passed_on! {
 
     fn check_record(record: &[u8]) -> u8 = record::check(record);
     fn blank_record(record: &mut [u8]) -> u8 = record::blank(record);
-    fn begin(record: &mut [u8], me: u8, live: u16, distances: &[u8], timestamp: u32) -> Told =
-        told(coordinator::on_bytes_with(record, distances, |record, distances| coordinator::begin(record, me, true, live, distances, timestamp)));
+    fn check_settings(settings: &[u8]) -> u8 = hours::check(settings);
+    fn blank_settings(settings: &mut [u8]) -> u8 = hours::blank(settings);
+    fn load_hours(settings: &mut [u8], list: &[u8]) -> u8 = hours::load(settings, list);
+    fn begin(record: &mut [u8], settings: &[u8], me: u8, with: BeginWith) -> Told = told(coordinator::begin_call(record, settings, me, with));
     fn reselect(record: &mut [u8], me: u8, live: u16, distances: &[u8]) -> Told =
         told(coordinator::on_bytes_with(record, distances, |record, distances| coordinator::reselect(record, me, true, live, distances)));
     fn open_read(record: &mut [u8], me: u8, object: u8) -> Told =
@@ -122,8 +126,10 @@ passed_on! {
     fn due(record: &[u8], me: u8, node: u8, object: u8, out: &mut [u8]) -> Written = written(due::call(record, me, node, object, out));
 
     fn station_blank(lent: Lent, on: u16) -> u8 = station::blank(lent, on);
-    fn station_begin(records: &mut [u8], own: &[u8], node: u8, live: u16, distances: &[u8], timestamp: u32) -> Told =
-        told(station::begin(records, own, node, live, distances, timestamp));
+    fn station_begin(records: &mut [u8], own: &[u8], settings: &[u8], node: u8, with: BeginWith) -> Told =
+        told(station::begin(records, own, settings, node, with));
+    fn station_load_hours(own: &[u8], settings: &mut [u8], node: u8, list: &[u8]) -> Told =
+        told(station::load_hours(own, settings, node, list));
     fn station_reselect(records: &mut [u8], own: &[u8], node: u8, live: u16, distances: &[u8]) -> Told =
         told(station::reselect(records, own, node, live, distances));
     fn station_open_read(records: &mut [u8], own: &[u8], node: u8, object: u8) -> Told =

@@ -11,6 +11,8 @@ pub const IMAGES: usize = NODES * IMAGE;
 pub const RECORDS: usize = NODES * RECORD;
 pub const POOL: usize = 1 + WAITING * SLOT;
 pub const OWN: usize = 2;
+pub const SETTINGS: usize = 228;
+pub const STATION_SETTINGS: usize = NODES * SETTINGS;
 pub const DISTANCES: usize = 26;
 pub const ALL: u16 = 8191;
 
@@ -72,12 +74,23 @@ pub struct Transaction {
     pub stamp: u32,
 }
 
-/// The four buffers of a station, as a step is lent them.
+/// What a begin is told.
+#[derive(Clone, Copy, Debug)]
+pub struct BeginWith<'a> {
+    pub live: u16,
+    pub distances: &'a [u8],
+    pub timestamp: u32,
+    pub day: u32,
+    pub minute: u16,
+}
+
+/// The five buffers of a station, as a step is lent them.
 pub struct Lent<'a> {
     pub images: &'a mut [u8],
     pub records: &'a mut [u8],
     pub pool: &'a mut [u8],
     pub own: &'a mut [u8],
+    pub settings: &'a mut [u8],
 }
 
 /// Every function that is measured or compared.
@@ -103,7 +116,10 @@ pub trait Library {
 
     fn check_record(record: &[u8]) -> u8;
     fn blank_record(record: &mut [u8]) -> u8;
-    fn begin(record: &mut [u8], me: u8, live: u16, distances: &[u8], timestamp: u32) -> Told;
+    fn check_settings(settings: &[u8]) -> u8;
+    fn blank_settings(settings: &mut [u8]) -> u8;
+    fn load_hours(settings: &mut [u8], list: &[u8]) -> u8;
+    fn begin(record: &mut [u8], settings: &[u8], me: u8, with: BeginWith) -> Told;
     fn reselect(record: &mut [u8], me: u8, live: u16, distances: &[u8]) -> Told;
     fn open_read(record: &mut [u8], me: u8, object: u8) -> Told;
     fn open_write(record: &mut [u8], me: u8, object: u8) -> Told;
@@ -115,7 +131,8 @@ pub trait Library {
     fn due(record: &[u8], me: u8, node: u8, object: u8, out: &mut [u8]) -> Written;
 
     fn station_blank(lent: Lent, on: u16) -> u8;
-    fn station_begin(records: &mut [u8], own: &[u8], node: u8, live: u16, distances: &[u8], timestamp: u32) -> Told;
+    fn station_begin(records: &mut [u8], own: &[u8], settings: &[u8], node: u8, with: BeginWith) -> Told;
+    fn station_load_hours(own: &[u8], settings: &mut [u8], node: u8, list: &[u8]) -> Told;
     fn station_reselect(records: &mut [u8], own: &[u8], node: u8, live: u16, distances: &[u8]) -> Told;
     fn station_open_read(records: &mut [u8], own: &[u8], node: u8, object: u8) -> Told;
     fn station_open_write(records: &mut [u8], own: &[u8], node: u8, object: u8) -> Told;

@@ -1,7 +1,7 @@
 //! The operations that are measured, each with the buffers it starts from. An operation is written once and compiled for both libraries.
 
 use crate::fast::Fast;
-use crate::library::{Chosen, Entries, Library, Told, Written, ALL};
+use crate::library::{BeginWith, Chosen, Entries, Library, Told, Written, ALL};
 use crate::product::Product;
 use crate::scenes::{self, Scene};
 use crate::stage::Stage;
@@ -119,11 +119,27 @@ fn replicas(list: &mut Vec<Op>) {
     }
 }
 
+/// A begin with the next timestamp, at a minute.
+fn at(minute: u16, distances: &[u8]) -> BeginWith<'_> {
+    BeginWith { live: black_box(ALL), distances, timestamp: 77, day: 0, minute: black_box(minute) }
+}
+
 fn coordinators(list: &mut Vec<Op>) {
     let stage = scenes::stage;
     let group = "coordinator";
     op!(list, group, "check record, 8 objects", stage(Scene::Voting8), |s| L::check_record(&s.record));
-    op!(list, group, "begin", stage(Scene::Idle), |s| L::begin(&mut s.record, OWNER, black_box(ALL), &s.distances, 77));
+    op!(list, group, "begin", stage(Scene::Idle), |s| L::begin(&mut s.record, &s.settings, OWNER, at(600, &s.distances)));
+    op!(list, group, "begin, 14 windows and 32 dates", scenes::with_hours(Scene::Idle), |s| {
+        L::begin(&mut s.record, &s.settings, OWNER, at(600, &s.distances))
+    });
+    op!(list, group, "begin, closed", scenes::with_hours(Scene::Idle), |s| L::begin(
+        &mut s.record,
+        &s.settings,
+        OWNER,
+        at(599, &s.distances)
+    ));
+    op!(list, group, "check settings, 14 windows and 32 dates", scenes::with_hours(Scene::Idle), |s| L::check_settings(&s.settings));
+    op!(list, group, "load hours, 14 windows and 32 dates", stage(Scene::Idle), |s| L::load_hours(&mut s.settings, &s.table));
     op!(list, group, "open read", stage(Scene::Begun), |s| L::open_read(&mut s.record, OWNER, black_box(5)));
     op!(list, group, "open write", stage(Scene::Begun), |s| L::open_write(&mut s.record, OWNER, black_box(5)));
     op!(list, group, "open the 8th", stage(Scene::Open7), |s| L::open_write(&mut s.record, OWNER, black_box(63)));
@@ -145,8 +161,20 @@ fn coordinators(list: &mut Vec<Op>) {
     op!(list, group, "nothing", stage(Scene::Idle), |s| L::due(&s.record, OWNER, black_box(1), 0, &mut s.out));
 }
 
+/// A begin at a minute that the longest table has, and at one that it has not.
+const BEGIN: Step = Step::Begin { node: OWNER, live: ALL, distances: transaction::DISTANCES_USED, timestamp: 77, day: 0, minute: 600 };
+const BEGIN_EARLY: Step =
+    Step::Begin { node: OWNER, live: ALL, distances: transaction::DISTANCES_USED, timestamp: 77, day: 0, minute: 599 };
+
 fn steps(list: &mut Vec<Op>) {
-    step!(list, "begin", Scene::Idle, Step::Begin { node: OWNER, live: ALL, distances: transaction::DISTANCES_USED, timestamp: 77 });
+    step!(list, "begin", Scene::Idle, BEGIN);
+    op!(list, "station step", "begin, 14 windows and 32 dates", scenes::with_hours(Scene::Idle), |s| s
+        .station
+        .take::<L>(&black_box(BEGIN)));
+    op!(list, "station step", "begin, closed", scenes::with_hours(Scene::Idle), |s| s.station.take::<L>(&black_box(BEGIN_EARLY)));
+    op!(list, "station step", "load hours, 14 windows and 32 dates", scenes::stage(Scene::Idle), |s| {
+        L::station_load_hours(&s.station.own, &mut s.station.settings, black_box(OWNER), &s.table)
+    });
     step!(list, "open read", Scene::Begun, Step::OpenRead { node: OWNER, object: 5 });
     step!(list, "open write", Scene::Begun, Step::OpenWrite { node: OWNER, object: 5 });
     step!(list, "set value", Scene::Open, Step::SetValue { node: OWNER, object: 0, value: 42 });

@@ -1,6 +1,6 @@
 //! The compiled library, called through the functions of `include/senna.h`. A slice is passed as a pointer and a length.
 
-use crate::library::{Chosen, Entries, Entry, Lent, Library, Serials, Told, Transaction, Written};
+use crate::library::{BeginWith, Chosen, Entries, Entry, Lent, Library, Serials, Told, Transaction, Written};
 
 extern "C" {
     fn senna_is_read_quorum(mask: u16) -> u8;
@@ -47,14 +47,21 @@ extern "C" {
     fn senna_replica_answers(image: *const u8, image_length: usize, me: u8, message: *const u8, message_length: usize) -> u8;
     fn senna_check_record(record: *const u8, record_length: usize) -> u8;
     fn senna_blank_record(record: *mut u8, record_length: usize) -> u8;
+    fn senna_check_settings(settings: *const u8, settings_length: usize) -> u8;
+    fn senna_blank_settings(settings: *mut u8, settings_length: usize) -> u8;
+    fn senna_load_hours(settings: *mut u8, settings_length: usize, list: *const u8, list_length: usize) -> u8;
     fn senna_coordinator_begin(
         record: *mut u8,
         record_length: usize,
+        settings: *const u8,
+        settings_length: usize,
         me: u8,
         live: u16,
         distances: *const u8,
         distances_length: usize,
         timestamp: u32,
+        day: u32,
+        minute: u16,
     ) -> Told;
     fn senna_coordinator_reselect(
         record: *mut u8,
@@ -89,6 +96,8 @@ extern "C" {
         pool_length: usize,
         own: *mut u8,
         own_length: usize,
+        settings: *mut u8,
+        settings_length: usize,
         on: u16,
     ) -> u8;
     fn senna_station_begin(
@@ -96,11 +105,24 @@ extern "C" {
         records_length: usize,
         own: *const u8,
         own_length: usize,
+        settings: *const u8,
+        settings_length: usize,
         node: u8,
         live: u16,
         distances: *const u8,
         distances_length: usize,
         timestamp: u32,
+        day: u32,
+        minute: u16,
+    ) -> Told;
+    fn senna_station_load_hours(
+        own: *const u8,
+        own_length: usize,
+        settings: *mut u8,
+        settings_length: usize,
+        node: u8,
+        list: *const u8,
+        list_length: usize,
     ) -> Told;
     fn senna_station_reselect(
         records: *mut u8,
@@ -236,8 +258,35 @@ impl Library for Product {
         unsafe { senna_blank_record(record.as_mut_ptr(), record.len()) }
     }
     #[inline(always)]
-    fn begin(record: &mut [u8], me: u8, live: u16, distances: &[u8], timestamp: u32) -> Told {
-        unsafe { senna_coordinator_begin(record.as_mut_ptr(), record.len(), me, live, distances.as_ptr(), distances.len(), timestamp) }
+    fn check_settings(settings: &[u8]) -> u8 {
+        unsafe { senna_check_settings(settings.as_ptr(), settings.len()) }
+    }
+    #[inline(always)]
+    fn blank_settings(settings: &mut [u8]) -> u8 {
+        unsafe { senna_blank_settings(settings.as_mut_ptr(), settings.len()) }
+    }
+    #[inline(always)]
+    fn load_hours(settings: &mut [u8], list: &[u8]) -> u8 {
+        unsafe { senna_load_hours(settings.as_mut_ptr(), settings.len(), list.as_ptr(), list.len()) }
+    }
+    #[inline(always)]
+    fn begin(record: &mut [u8], settings: &[u8], me: u8, with: BeginWith) -> Told {
+        let BeginWith { live, distances, timestamp, day, minute } = with;
+        unsafe {
+            senna_coordinator_begin(
+                record.as_mut_ptr(),
+                record.len(),
+                settings.as_ptr(),
+                settings.len(),
+                me,
+                live,
+                distances.as_ptr(),
+                distances.len(),
+                timestamp,
+                day,
+                minute,
+            )
+        }
     }
     #[inline(always)]
     fn reselect(record: &mut [u8], me: u8, live: u16, distances: &[u8]) -> Told {
@@ -288,25 +337,36 @@ impl Library for Product {
                 lent.pool.len(),
                 lent.own.as_mut_ptr(),
                 lent.own.len(),
+                lent.settings.as_mut_ptr(),
+                lent.settings.len(),
                 on,
             )
         }
     }
     #[inline(always)]
-    fn station_begin(records: &mut [u8], own: &[u8], node: u8, live: u16, distances: &[u8], timestamp: u32) -> Told {
+    fn station_begin(records: &mut [u8], own: &[u8], settings: &[u8], node: u8, with: BeginWith) -> Told {
+        let BeginWith { live, distances, timestamp, day, minute } = with;
         unsafe {
             senna_station_begin(
                 records.as_mut_ptr(),
                 records.len(),
                 own.as_ptr(),
                 own.len(),
+                settings.as_ptr(),
+                settings.len(),
                 node,
                 live,
                 distances.as_ptr(),
                 distances.len(),
                 timestamp,
+                day,
+                minute,
             )
         }
+    }
+    #[inline(always)]
+    fn station_load_hours(own: &[u8], settings: &mut [u8], node: u8, list: &[u8]) -> Told {
+        unsafe { senna_station_load_hours(own.as_ptr(), own.len(), settings.as_mut_ptr(), settings.len(), node, list.as_ptr(), list.len()) }
     }
     #[inline(always)]
     fn station_reselect(records: &mut [u8], own: &[u8], node: u8, live: u16, distances: &[u8]) -> Told {

@@ -1,9 +1,9 @@
 //! The buffers that operations start from: moments of a transaction of node 4 at a station with all nodes on, after one that committed.
 
 use crate::fast::Fast;
-use crate::library::{Entries, Entry, Library, Serials, Transaction, ALL, MESSAGE_MAX, NODES};
+use crate::library::{Entries, Entry, Library, Serials, Transaction, ALL, MESSAGE_MAX, NODES, SETTINGS};
 use crate::stage::Stage;
-use crate::station::{Station, Step};
+use crate::station::{longest_table, Station, Step};
 use crate::transaction::{self, nodes, DISTANCES_USED, OWNER, PARTICIPANTS};
 
 /// A moment of the transaction. It has one object, or as many as the name says.
@@ -82,6 +82,8 @@ fn stage_of(station: Station) -> Stage {
     Stage {
         image: station.image(1).to_vec(),
         record: station.record(usize::from(OWNER)).to_vec(),
+        settings: station.settings(usize::from(OWNER)).to_vec(),
+        table: longest_table(),
         station,
         message: vec![],
         out: vec![0; MESSAGE_MAX],
@@ -96,6 +98,15 @@ fn stage_of(station: Station) -> Stage {
 /// The buffers at a moment: the station, with node 1's image and node 4's record for calls on these alone.
 pub fn stage(scene: Scene) -> Stage {
     stage_of(station(scene))
+}
+
+/// The same with the longest table of packing hours loaded, at the owner of the station too.
+pub fn with_hours(scene: Scene) -> Stage {
+    let mut stage = stage(scene);
+    assert_eq!(Fast::load_hours(&mut stage.settings, &longest_table()), 0, "a table is loaded");
+    let place = SETTINGS * usize::from(OWNER);
+    stage.station.settings[place..place + SETTINGS].copy_from_slice(&stage.settings);
+    stage
 }
 
 pub fn with_message(message: Vec<u8>) -> Stage {

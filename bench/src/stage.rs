@@ -9,6 +9,9 @@ pub struct Stage {
     pub station: Station,
     pub image: Vec<u8>,
     pub record: Vec<u8>,
+    pub settings: Vec<u8>,
+    /// A table of packing hours.
+    pub table: Vec<u8>,
     pub message: Vec<u8>,
     pub out: Vec<u8>,
     pub distances: [u8; DISTANCES],
@@ -21,14 +24,14 @@ pub struct Stage {
 
 impl Stage {
     /// The buffers that a call may change.
-    fn buffers(&self) -> [&Vec<u8>; 7] {
-        let Station { images, records, pool, own } = &self.station;
-        [images, records, pool, own, &self.image, &self.record, &self.out]
+    fn buffers(&self) -> [&Vec<u8>; 9] {
+        let Station { images, records, pool, own, settings } = &self.station;
+        [images, records, pool, own, settings, &self.image, &self.record, &self.settings, &self.out]
     }
 
-    fn buffers_mut(&mut self) -> [&mut Vec<u8>; 7] {
-        let Station { images, records, pool, own } = &mut self.station;
-        [images, records, pool, own, &mut self.image, &mut self.record, &mut self.out]
+    fn buffers_mut(&mut self) -> [&mut Vec<u8>; 9] {
+        let Station { images, records, pool, own, settings } = &mut self.station;
+        [images, records, pool, own, settings, &mut self.image, &mut self.record, &mut self.settings, &mut self.out]
     }
 
     /// Whether every buffer has the same bytes as another's.

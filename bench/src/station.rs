@@ -1,6 +1,8 @@
-//! A station's four buffers, and its steps as data, so that one list of steps can be taken with either library.
+//! A station's five buffers, and its steps as data, so that one list of steps can be taken with either library.
 
-use crate::library::{Lent, Library, Told, DISTANCES, IMAGE, IMAGES, OWN, POOL, RECORD, RECORDS, SLOT};
+use crate::library::{
+    BeginWith, Lent, Library, Told, DISTANCES, IMAGE, IMAGES, OWN, POOL, RECORD, RECORDS, SETTINGS, SLOT, STATION_SETTINGS,
+};
 
 #[derive(Clone, PartialEq, Eq)]
 pub struct Station {
@@ -8,36 +10,106 @@ pub struct Station {
     pub records: Vec<u8>,
     pub pool: Vec<u8>,
     pub own: Vec<u8>,
+    pub settings: Vec<u8>,
 }
 
 /// A step of the station.
 #[derive(Clone, Copy, Debug)]
 pub enum Step {
-    Begin { node: u8, live: u16, distances: [u8; DISTANCES], timestamp: u32 },
-    Reselect { node: u8, live: u16, distances: [u8; DISTANCES] },
-    OpenRead { node: u8, object: u8 },
-    OpenWrite { node: u8, object: u8 },
-    SetValue { node: u8, object: u8, value: i64 },
-    Found { node: u8, object: u8 },
-    RequestCommit { node: u8 },
-    Abort { node: u8 },
-    Send { node: u8, to: u8, object: u8 },
-    Deliver { k: u8, kept: u8 },
-    Drop { k: u8 },
-    Switch { node: u8, up: u8 },
+    Begin {
+        node: u8,
+        live: u16,
+        distances: [u8; DISTANCES],
+        timestamp: u32,
+        day: u32,
+        minute: u16,
+    },
+    Reselect {
+        node: u8,
+        live: u16,
+        distances: [u8; DISTANCES],
+    },
+    OpenRead {
+        node: u8,
+        object: u8,
+    },
+    OpenWrite {
+        node: u8,
+        object: u8,
+    },
+    SetValue {
+        node: u8,
+        object: u8,
+        value: i64,
+    },
+    Found {
+        node: u8,
+        object: u8,
+    },
+    RequestCommit {
+        node: u8,
+    },
+    Abort {
+        node: u8,
+    },
+    Send {
+        node: u8,
+        to: u8,
+        object: u8,
+    },
+    Deliver {
+        k: u8,
+        kept: u8,
+    },
+    Drop {
+        k: u8,
+    },
+    Switch {
+        node: u8,
+        up: u8,
+    },
+    /// One of the tables below, by its place.
+    LoadHours {
+        node: u8,
+        table: u8,
+    },
+}
+
+/// Tables of packing hours that steps load: the week in one window; minutes 600 to 699, with dates; two windows that overlap; three that are refused.
+pub const TABLES: [&[u8]; 6] = [
+    &[1, 0, 0, 0x60, 0x27, 0],
+    &[1, 0x58, 0x02, 0xbc, 0x02, 3, 1, 0, 0, 0, 0, 1, 0, 0, 255, 255, 255, 255],
+    &[2, 0x8a, 0x02, 0xbc, 0x02, 0, 0, 0x8b, 0x02, 0],
+    &[1, 0, 0, 0x60, 0x27, 1],
+    &[1, 0x58, 0x02, 0x58, 0x02, 0],
+    &[1, 0, 0, 0x61, 0x27, 0],
+];
+
+/// The longest table: fourteen windows, of which the last alone has minute 600, and 32 dates.
+pub fn longest_table() -> Vec<u8> {
+    let starts = (0..14u16).map(|i| if i < 13 { 700 + 100 * i } else { 600 });
+    let windows = starts.flat_map(|start| [start, start + 50]).flat_map(u16::to_le_bytes);
+    let dates = (0..32u32).flat_map(|i| (1000 + i).to_le_bytes());
+    [14].into_iter().chain(windows).chain([32]).chain(dates).collect()
 }
 
 impl Station {
     /// A blank station whose nodes of a mask are on.
     pub fn blank<L: Library>(on: u16) -> Station {
-        let mut station = Station { images: vec![0; IMAGES], records: vec![0; RECORDS], pool: vec![0; POOL], own: vec![0; OWN] };
+        let (images, records, pool) = (vec![0; IMAGES], vec![0; RECORDS], vec![0; POOL]);
+        let mut station = Station { images, records, pool, own: vec![0; OWN], settings: vec![0; STATION_SETTINGS] };
         assert_eq!(L::station_blank(station.lent(), on), 0, "a blank station");
         station
     }
 
     #[inline(always)]
     pub fn lent(&mut self) -> Lent<'_> {
-        Lent { images: &mut self.images, records: &mut self.records, pool: &mut self.pool, own: &mut self.own }
+        let Station { images, records, pool, own, settings } = self;
+        Lent { images, records, pool, own, settings }
+    }
+
+    pub fn settings(&self, node: usize) -> &[u8] {
+        &self.settings[SETTINGS * node..SETTINGS * (node + 1)]
     }
 
     pub fn record(&self, node: usize) -> &[u8] {
@@ -70,7 +142,9 @@ impl Station {
     pub fn take<L: Library>(&mut self, step: &Step) -> Told {
         let (records, own) = (&mut self.records[..], &self.own[..]);
         match *step {
-            Step::Begin { node, live, ref distances, timestamp } => L::station_begin(records, own, node, live, distances, timestamp),
+            Step::Begin { node, live, ref distances, timestamp, day, minute } => {
+                L::station_begin(records, own, &self.settings, node, BeginWith { live, distances, timestamp, day, minute })
+            }
             Step::Reselect { node, live, ref distances } => L::station_reselect(records, own, node, live, distances),
             Step::OpenRead { node, object } => L::station_open_read(records, own, node, object),
             Step::OpenWrite { node, object } => L::station_open_write(records, own, node, object),
@@ -82,6 +156,9 @@ impl Station {
             Step::Deliver { k, kept } => L::station_deliver(self.lent(), k, kept),
             Step::Drop { k } => L::station_drop(&mut self.pool, k),
             Step::Switch { node, up } => L::station_switch(&mut self.own, node, up),
+            Step::LoadHours { node, table } => {
+                L::station_load_hours(own, &mut self.settings, node, TABLES[usize::from(table) % TABLES.len()])
+            }
         }
     }
 

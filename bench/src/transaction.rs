@@ -35,7 +35,7 @@ pub fn deliver_all<L: Library>(station: &mut Station, before: u8) -> u64 {
 
 /// Begins, and opens objects 0, 7, 14, .. to write, each with its new value.
 pub fn open<L: Library>(station: &mut Station, objects: u8, timestamp: u32) {
-    let quorum = station.must::<L>(Step::Begin { node: OWNER, live: ALL, distances: DISTANCES_USED, timestamp });
+    let quorum = station.must::<L>(Step::Begin { node: OWNER, live: ALL, distances: DISTANCES_USED, timestamp, day: 0, minute: 600 });
     assert_eq!(quorum, u64::from(READ_QUORUM), "the chosen read quorum");
     for object in (0..objects).map(|i| 7 * i) {
         station.must::<L>(Step::OpenWrite { node: OWNER, object });

@@ -47,6 +47,15 @@ fn live(random: &mut Random) -> u16 {
     }
 }
 
+/// A day and a minute, mostly those that every table has open.
+fn clock(random: &mut Random) -> (u32, u16) {
+    match random.below(16) {
+        0 => (random.below(4) as u32, random.below(10_100) as u16),
+        1..=3 => (u32::from(random.once_in(2)), *random.pick(&[599, 600, 649, 650, 651, 699, 700])),
+        _ => (7, 650),
+    }
+}
+
 /// An object that a record has opened, where it has any.
 fn opened(random: &mut Random, record: &[u8]) -> u8 {
     match record[COUNT] {
@@ -81,7 +90,8 @@ fn node_step(random: &mut Random, station: &Station, node: u8) -> Step {
         0 => {
             let last = u32::from_le_bytes([record[TIMESTAMP], record[TIMESTAMP + 1], record[TIMESTAMP + 2], record[TIMESTAMP + 3]]);
             let timestamp = last.wrapping_add(random.below(12) as u32);
-            Step::Begin { node, live: live(random), distances: distances(random), timestamp }
+            let (day, minute) = clock(random);
+            Step::Begin { node, live: live(random), distances: distances(random), timestamp, day, minute }
         }
         1 => open_step(random, node, record),
         2 if random.once_in(60) => Step::Abort { node },
@@ -94,12 +104,14 @@ fn node_step(random: &mut Random, station: &Station, node: u8) -> Step {
 /// A step of any numbers.
 fn any_step(random: &mut Random) -> Step {
     let (node, object) = (random.below(15) as u8, random.below(70) as u8);
-    match random.below(12) {
+    match random.below(13) {
         0 => Step::Begin {
             node,
             live: random.word() >> random.below(4),
             distances: distances(random),
             timestamp: random.next() as u32 >> 20,
+            day: random.next() as u32 >> random.below(32),
+            minute: random.word(),
         },
         1 => Step::Reselect { node, live: random.word() >> random.below(4), distances: distances(random) },
         2 => Step::OpenRead { node, object },
@@ -111,6 +123,7 @@ fn any_step(random: &mut Random) -> Step {
         8 => Step::Send { node, to: random.below(15) as u8, object },
         9 => Step::Deliver { k: random.byte(), kept: random.byte() & 1 },
         10 => Step::Drop { k: random.byte() },
+        11 => Step::LoadHours { node, table: random.byte() },
         _ => Step::Switch { node, up: random.byte() & 3 },
     }
 }
@@ -132,6 +145,7 @@ pub fn next(random: &mut Random, station: &Station, eager: usize) -> Step {
         1 | 2 => return switch_step(random, mask(&station.own, 0)),
         3 if waiting > 0 => return Step::Drop { k: random.below(waiting) as u8 },
         4 if random.once_in(8) => return Step::Abort { node: random.below(13) as u8 },
+        5 => return Step::LoadHours { node: random.below(13) as u8, table: random.byte() },
         _ => {}
     }
     let crowded = random.below(WAITING) < eager * waiting;

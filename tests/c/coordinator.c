@@ -12,6 +12,7 @@ enum { ME = 3, OBJECT = 40, OTHER = 7 };
 
 static uint8_t record[SENNA_RECORD];
 static uint8_t before[SENNA_RECORD];
+static uint8_t settings[SENNA_SETTINGS]; /* blank: all hours are open; hours.c has the others */
 static uint8_t message[SENNA_MESSAGE_MAX];
 static uint8_t distances[SENNA_DISTANCES];
 
@@ -26,6 +27,11 @@ static void taken(senna_called got, uint64_t answer, const char *what)
     check(got.number == SENNA_OK && got.answer == answer, what);
     check(senna_check_record(record, sizeof record) == SENNA_OK, "a record stays one");
     memcpy(before, record, sizeof record);
+}
+
+static senna_called begin(unsigned me, unsigned live, size_t size, uint32_t timestamp)
+{
+    return senna_coordinator_begin(record, sizeof record, settings, sizeof settings, (uint8_t)me, (uint16_t)live, distances, size, timestamp, 9, 10079);
 }
 
 static senna_called deliver(senna_written w)
@@ -49,11 +55,12 @@ static void one_transaction(void)
     memset(&rivals, 0, sizeof rivals);
     check(senna_blank_record(record, sizeof record) == SENNA_OK, "a blank record");
     memcpy(before, record, sizeof record);
-    refused(senna_coordinator_begin(record, sizeof record, ME, SENNA_ALL, distances, 25, 5), SENNA_LENGTH, "25 bytes of distances");
-    refused(senna_coordinator_begin(record, sizeof record, 13, SENNA_ALL, distances, sizeof distances, 5), SENNA_STRANGER, "node 13");
-    refused(senna_coordinator_begin(record, sizeof record, ME, 0, distances, sizeof distances, 5), SENNA_NO_QUORUM, "nobody is live");
-    taken(senna_coordinator_begin(record, sizeof record, ME, SENNA_ALL, distances, sizeof distances, 5), 1, "begin chooses the root");
-    refused(senna_coordinator_begin(record, sizeof record, ME, SENNA_ALL, distances, sizeof distances, 9), SENNA_BUSY, "a second begin");
+    check(senna_blank_settings(settings, sizeof settings) == SENNA_OK, "blank settings");
+    refused(begin(ME, SENNA_ALL, 25, 5), SENNA_LENGTH, "25 bytes of distances");
+    refused(begin(13, SENNA_ALL, sizeof distances, 5), SENNA_STRANGER, "node 13");
+    refused(begin(ME, 0, sizeof distances, 5), SENNA_NO_QUORUM, "nobody is live");
+    taken(begin(ME, SENNA_ALL, sizeof distances, 5), 1, "begin chooses the root");
+    refused(begin(ME, SENNA_ALL, sizeof distances, 9), SENNA_BUSY, "a second begin");
     refused(senna_coordinator_request_commit(record, sizeof record, ME), SENNA_NOT_READY, "no object yet");
     taken(senna_coordinator_open_write(record, sizeof record, ME, OBJECT), 0, "open to write");
     taken(senna_coordinator_open_read(record, sizeof record, ME, OTHER), 0, "open to read");
@@ -92,7 +99,7 @@ static void one_transaction(void)
     check(senna_coordinator_phase(record, sizeof record) == SENNA_IDLE, "idle again");
     check(senna_coordinator_outcome(record, sizeof record) == SENNA_COMMITTED, "committed");
     check(senna_coordinator_serial(record, sizeof record) == 1 && senna_coordinator_timestamp(record, sizeof record) == 5, "the lasting part");
-    refused(senna_coordinator_begin(record, sizeof record, ME, SENNA_ALL, distances, sizeof distances, 5), SENNA_OUT_OF_TURN, "the same timestamp");
+    refused(begin(ME, SENNA_ALL, sizeof distances, 5), SENNA_OUT_OF_TURN, "the same timestamp");
 }
 
 /* Bytes that are no record. */

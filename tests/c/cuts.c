@@ -58,6 +58,7 @@ static void one_cut(unsigned who, unsigned moment, int lost)
     node *n = &s.nodes[BOOKS];
     int once;
     blank_station(&s);
+    load_packing_hours(n, 0, MINUTES_OF_A_DAY, 1); /* they are open, and survive the cut with the rest */
     weigh(n, 12500);
     once = book(&s, who, moment, lost) < STEPS && n->memory.batch == 0 && n->memory.booked == 12500 && tally_at_root(&s) == 12500;
     check(once, "a batch is booked once, whenever the power is cut");

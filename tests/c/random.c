@@ -2,11 +2,11 @@
  * Random bytes at every function of include/senna.h. Half of the calls are clean: right lengths, and bytes of a station that such calls keep
  * going. In the others lengths go from 0 to beyond the right one, and bytes are right, nearly right (one byte changed, or four of them 255), one
  * byte repeated, or random. After each call: no number outside the table, nothing lent altered on a refusal or where it is lent as const, nothing
- * written outside what is lent, and a refusal answers 0 beside its number.
+ * written outside what is lent, and a refusal answers 0 beside its number; a begin was accepted in packing hours, and closed outside of them.
  *
  * What is lent lies against a page that may not be touched, at its end or at its start, or in a heap block of exactly its length, so that the
  * address sanitizer and valgrind see its ends too. --calls N and --seed S: 200,000 calls and seed 1 where nothing is said. So many calls must
- * also have come to every number, to every function's acceptance, and to all that a delivery brings about.
+ * also have come to every number, to every function's acceptance, to every number of a begin and of a load, and to all that a delivery brings about.
  */
 #include "check.h"
 
@@ -15,16 +15,16 @@
 /* Every function of the header that the library has. */
 #define FUNCTIONS(F)                                                                                                                               \
     F(is_read_quorum) F(is_write_quorum) F(nearest_read) F(nearest_write)                                                                          \
-    F(check_message) F(check_image) F(check_record) F(blank_image) F(blank_record)                                                                 \
+    F(check_message) F(check_image) F(check_record) F(check_settings) F(blank_image) F(blank_record) F(blank_settings)                             \
     F(write_fetch) F(write_copy) F(write_ask) F(write_vote) F(write_outcome) F(write_done) F(write_yield)                                          \
-    F(replica_receive) F(replica_answers)                                                                                                          \
+    F(replica_receive) F(replica_answers) F(load_hours)                                                                                            \
     F(coordinator_begin) F(coordinator_reselect) F(coordinator_open_read) F(coordinator_open_write) F(coordinator_set_value)                       \
     F(coordinator_found) F(coordinator_request_commit) F(coordinator_abort) F(coordinator_receive) F(coordinator_due)                              \
     F(coordinator_phase) F(coordinator_serial) F(coordinator_timestamp) F(coordinator_outcome) F(coordinator_participants)                         \
     F(coordinator_count) F(coordinator_object) F(coordinator_mode) F(coordinator_is_ready)                                                         \
     F(station_blank) F(station_begin) F(station_reselect) F(station_open_read) F(station_open_write) F(station_set_value)                          \
-    F(station_found) F(station_request_commit) F(station_abort) F(station_send) F(station_deliver) F(station_drop)                                 \
-    F(station_switch) F(station_waiting) F(station_message)
+    F(station_found) F(station_request_commit) F(station_abort) F(station_load_hours) F(station_send) F(station_deliver)                           \
+    F(station_drop) F(station_switch) F(station_waiting) F(station_message)
 
 #define NUMBERED(name) AT_##name,
 #define NAMED(name) "senna_" #name,
@@ -33,7 +33,7 @@ static const char *const names[] = {FUNCTIONS(NAMED)};
 
 #define USUAL 200000ul /* calls */
 
-enum { LENDERS = 4, ROOM = 20480, PAGE = 4096, GUARD = 64, RECENT = 16 };
+enum { LENDERS = 5, ROOM = 20480, PAGE = 4096, GUARD = 64, RECENT = 16 };
 
 /* A lent buffer: where it stands, what stood there before the call, and where its bytes came from, if the call is clean. */
 typedef struct lent {
@@ -51,7 +51,7 @@ static lent lents[LENDERS];
 static unsigned lending;
 
 /* The station that clean calls keep going, and the last messages that were written. */
-static uint8_t images[SENNA_IMAGES], records[SENNA_RECORDS], pool[SENNA_POOL], own[SENNA_OWN];
+static uint8_t images[SENNA_IMAGES], records[SENNA_RECORDS], pool[SENNA_POOL], own[SENNA_OWN], settings[SENNA_STATION_SETTINGS];
 static uint8_t eight_open[SENNA_RECORD], used_up[SENNA_RECORD]; /* records that the station seldom has */
 static uint8_t recent[RECENT][SENNA_MESSAGE_MAX];
 static size_t recent_length[RECENT];
@@ -59,7 +59,7 @@ static uint32_t timestamps;
 
 static unsigned current;
 static int clean;
-static unsigned long accepted_of[COUNT], faults_of[COUNT], numbers_seen[SENNA_POOL_FULL + 1], brought[SENNA_FINISHED + 1];
+static unsigned long accepted_of[COUNT], faults_of[COUNT], numbers_of[COUNT][SENNA_CLOSED + 1], brought[SENNA_FINISHED + 1];
 
 /* ---- Random numbers (xorshift) ---- */
 
@@ -92,7 +92,7 @@ static void scatter(uint8_t *at, size_t length)
     }
 }
 
-/* A node, mostly one of three; an object, mostly one of four; a mask, mostly of all nodes. */
+/* A node, mostly one of three; an object, mostly one of four; a mask, mostly of all nodes, seldom of one. */
 static uint8_t node(void)
 {
     static const uint8_t busy[] = {0, 5, 8};
@@ -107,8 +107,8 @@ static uint8_t object(void)
 
 static uint16_t mask(void)
 {
-    unsigned kind = below(8);
-    return (uint16_t)(kind == 0 ? below(65536) : kind == 1 ? below(SENNA_ALL + 1) : SENNA_ALL);
+    unsigned kind = below(16);
+    return (uint16_t)(kind < 2 ? below(65536) : kind == 2 ? below(SENNA_ALL + 1) : kind == 3 ? 1u << below(SENNA_NODES) : SENNA_ALL);
 }
 
 static uint32_t serial(void)
@@ -120,6 +120,19 @@ static uint32_t serial(void)
 static uint32_t timestamp(void)
 {
     return below(16) == 0 ? serial() : ++timestamps;
+}
+
+/* A day, mostly one of four; a minute, mostly at an edge of a window that tables often have. */
+static uint32_t day(void)
+{
+    return below(8) == 0 ? (uint32_t)draw() : below(4);
+}
+
+static uint16_t minute(void)
+{
+    static const uint16_t edges[] = {599, 600, 601, 699, 700, 0, 10079, 10080};
+    unsigned kind = below(16);
+    return (uint16_t)(kind == 0 ? below(65536) : kind < 4 ? below(SENNA_MINUTES) : edges[below(8)]);
 }
 
 /* ---- Faults, and what is lent ---- */
@@ -241,6 +254,54 @@ static lent *lend_out(void)
     return lend(garbage, SENNA_MESSAGE_MAX + (below(2) ? below(10) : 0), NULL, 1);
 }
 
+/* A table of packing hours: always open, open from 600 to 699, or of any sound windows; with few dates, or many. */
+static lent *lend_table(void)
+{
+    static const uint8_t open_once[] = {0x58, 0x02, 0xbc, 0x02}, open_always[] = {0, 0, 0x60, 0x27};
+    uint8_t list[SENNA_HOURS_MAX];
+    unsigned i, size = 1, count = below(8) == 0 ? below(SENNA_WINDOWS + 1) : 1, dates = below(4) == 0 ? below(SENNA_DATES + 1) : below(2);
+    list[0] = (uint8_t)count;
+    for (i = 0; i < count; i++, size += 4) {
+        unsigned start = below(SENNA_MINUTES), end = start + 1 + below(SENNA_MINUTES - start);
+        const uint8_t any[] = {(uint8_t)start, (uint8_t)(start >> 8), (uint8_t)end, (uint8_t)(end >> 8)};
+        memcpy(list + size, below(4) == 0 ? any : below(2) ? open_once : open_always, 4);
+    }
+    list[size++] = (uint8_t)dates;
+    for (i = 0; i < dates; i++, size += 4) {
+        uint32_t date = day();
+        const uint8_t bytes[] = {(uint8_t)date, (uint8_t)(date >> 8), (uint8_t)(date >> 16), (uint8_t)(date >> 24)};
+        memcpy(list + size, bytes, 4);
+    }
+    if (below(8) == 0) {
+        list[below(2) ? 0 : below(size)] = byte();
+    }
+    return lend_read(list, size - (below(16) == 0));
+}
+
+/* Where a node's settings stand, or any where it is none. */
+static uint8_t *settings_of(unsigned at)
+{
+    return settings + (at < SENNA_NODES ? at : below(SENNA_NODES)) * SENNA_SETTINGS;
+}
+
+/* Whether settings that are sound are open on a day at a minute. */
+static int is_open(const uint8_t *s, uint32_t on, unsigned at)
+{
+    unsigned i, dates = 2 + 4u * s[1];
+    int has = 0;
+    for (i = 0; i < s[dates]; i++) {
+        const uint8_t *d = s + dates + 1 + 4 * i;
+        if (on == ((uint32_t)d[0] | (uint32_t)d[1] << 8 | (uint32_t)d[2] << 16 | (uint32_t)d[3] << 24)) {
+            return s[0] == 0;
+        }
+    }
+    for (i = 0; i < s[1]; i++) {
+        const uint8_t *w = s + 2 + 4 * i;
+        has |= (w[0] | w[1] << 8) <= (int)at && (int)at < (w[2] | w[3] << 8);
+    }
+    return s[0] == 0 || has;
+}
+
 /* A message that waits in the station or was written lately. */
 static lent *lend_message(void)
 {
@@ -277,10 +338,10 @@ static void settle(int refused)
 
 static void answered(unsigned number)
 {
-    must(number <= SENNA_POOL_FULL, "a number outside the table");
+    must(number <= SENNA_CLOSED, "a number outside the table");
     must(strcmp(senna_word((uint8_t)number), "unknown") != 0, "a number without a word");
-    if (number <= SENNA_POOL_FULL) {
-        numbers_seen[number]++;
+    if (number <= SENNA_CLOSED) {
+        numbers_of[current][number]++;
     }
     accepted_of[current] += number == SENNA_OK;
     settle(number != SENNA_OK);
@@ -304,6 +365,15 @@ static void called(senna_called c)
 {
     must(c.number == SENNA_OK || c.answer == 0, "a refusal answers 0");
     answered(c.number);
+}
+
+/* A begin, with the settings of its node, if it is one: accepted where they are open, and closed where they are not. */
+static void begun(senna_called c, const uint8_t *s, uint32_t on, unsigned at)
+{
+    must(c.number != SENNA_OK || (at < SENNA_MINUTES && is_open(s, on, at)), "a begin outside packing hours");
+    must(c.number != SENNA_CLOSED || (at < SENNA_MINUTES && !is_open(s, on, at)), "a begin that is closed in packing hours");
+    must(c.number != SENNA_GARBLED || at >= SENNA_MINUTES, "a minute of the week is refused");
+    called(c);
 }
 
 /* A call that brings something about. */
@@ -403,6 +473,8 @@ static void call_check(void)
     case AT_check_message: l = lend_message(); answered(senna_check_message(l->at, l->length)); break;
     case AT_check_image: l = lend_read(images + at * SENNA_IMAGE, SENNA_IMAGE); answered(senna_check_image(l->at, l->length)); break;
     case AT_check_record: l = lend_read(records + at * SENNA_RECORD, SENNA_RECORD); answered(senna_check_record(l->at, l->length)); break;
+    case AT_check_settings: l = lend_read(settings_of(at), SENNA_SETTINGS); answered(senna_check_settings(l->at, l->length)); break;
+    case AT_blank_settings: l = lend(settings, SENNA_SETTINGS, NULL, 1); answered(senna_blank_settings(l->at, l->length)); break;
     case AT_blank_image: l = lend(images, SENNA_IMAGE, NULL, 1); answered(senna_blank_image(l->at, l->length)); break;
     default: l = lend(records, SENNA_RECORD, NULL, 1); answered(senna_blank_record(l->at, l->length)); break;
     }
@@ -451,6 +523,16 @@ static void call_replica(void)
     answered(r.number);
 }
 
+/* A table for a lone node. */
+static void call_load(void)
+{
+    uint8_t *home = settings_of(node());
+    lent *s = lend_write(home, SENNA_SETTINGS), *table = lend_table();
+    unsigned number = senna_load_hours(s->at, s->length, table->at, table->length);
+    must(number != SENNA_OK || senna_check_settings(s->at, s->length) == SENNA_OK, "settings stay settings");
+    answered(number);
+}
+
 /* A record of the station, with the number of its node, or of the two others. What does not belong together is not taken home. */
 static lent *lend_record(uint8_t *me)
 {
@@ -466,13 +548,18 @@ static lent *lend_record(uint8_t *me)
 static void call_coordinator(void)
 {
     uint8_t me;
-    lent *r = lend_record(&me), *other;
+    lent *r = lend_record(&me), *other, *s;
+    uint32_t on = day();
+    uint16_t at = minute();
     senna_called c;
     switch (current) {
     case AT_coordinator_begin:
         other = lend_distances();
-        c = senna_coordinator_begin(r->at, r->length, me, mask(), other->at, other->length, timestamp());
-        break;
+        s = lend_read(settings_of(me), SENNA_SETTINGS);
+        c = senna_coordinator_begin(r->at, r->length, s->at, s->length, me, mask(), other->at, other->length, timestamp(), on, at);
+        record_stays(r, c.number);
+        begun(c, s->at, on, at);
+        return;
     case AT_coordinator_reselect:
         other = lend_distances();
         c = senna_coordinator_reselect(r->at, r->length, me, mask(), other->at, other->length);
@@ -520,12 +607,17 @@ static void call_record(void)
 /* The host's calls at a station's node. */
 static void call_host(void)
 {
-    lent *r = lend_write(records, SENNA_RECORDS), *o = lend_read(own, SENNA_OWN), *d;
+    lent *r = lend_write(records, SENNA_RECORDS), *o = lend_read(own, SENNA_OWN), *d, *s;
     uint8_t at = node();
+    uint32_t today = day();
+    uint16_t now = minute();
+    senna_called c;
     switch (current) {
     case AT_station_begin:
         d = lend_distances();
-        called(senna_station_begin(r->at, r->length, o->at, o->length, at, mask(), d->at, d->length, timestamp()));
+        s = lend_read(settings, SENNA_STATION_SETTINGS);
+        c = senna_station_begin(r->at, r->length, o->at, o->length, s->at, s->length, at, mask(), d->at, d->length, timestamp(), today, now);
+        begun(c, s->at + (at < SENNA_NODES ? at * SENNA_SETTINGS : 0), today, now);
         break;
     case AT_station_reselect:
         d = lend_distances();
@@ -544,6 +636,16 @@ static void call_host(void)
         called(senna_station_abort(r->at, r->length, o->at, o->length, at));
         break;
     }
+}
+
+/* A table for a station's node. */
+static void call_station_load(void)
+{
+    lent *o = lend_read(own, SENNA_OWN), *s = lend_write(settings, SENNA_STATION_SETTINGS), *table = lend_table();
+    uint8_t at = node();
+    senna_called c = senna_station_load_hours(o->at, o->length, s->at, s->length, at, table->at, table->length);
+    must(c.number != SENNA_OK || senna_check_settings(s->at + at * SENNA_SETTINGS, SENNA_SETTINGS) == SENNA_OK, "settings stay settings");
+    called(c);
 }
 
 /* A send of something that is due, where a few tries find it. */
@@ -565,13 +667,14 @@ static void call_send(void)
 /* A new station now and then. */
 static void call_blank(void)
 {
-    lent *i, *r, *p, *o;
+    lent *i, *r, *p, *o, *s;
     clean = clean && below(64) == 0;
     i = lend_write(images, SENNA_IMAGES);
     r = lend_write(records, SENNA_RECORDS);
     p = lend_write(pool, SENNA_POOL);
     o = lend_write(own, SENNA_OWN);
-    answered(senna_station_blank(i->at, i->length, r->at, r->length, p->at, p->length, o->at, o->length, mask()));
+    s = lend_write(settings, SENNA_STATION_SETTINGS);
+    answered(senna_station_blank(i->at, i->length, r->at, r->length, p->at, p->length, o->at, o->length, s->at, s->length, mask()));
 }
 
 static void call_station(void)
@@ -611,12 +714,14 @@ static void one_call(void)
     clean = below(2) == 0;
     if (current <= AT_nearest_write) {
         call_quorum();
-    } else if (current <= AT_blank_record) {
+    } else if (current <= AT_blank_settings) {
         call_check();
     } else if (current <= AT_write_yield) {
         call_write();
     } else if (current <= AT_replica_answers) {
         call_replica();
+    } else if (current == AT_load_hours) {
+        call_load();
     } else if (current == AT_coordinator_found || (current >= AT_coordinator_due && current <= AT_coordinator_is_ready)) {
         call_record();
     } else if (current <= AT_coordinator_receive) {
@@ -625,6 +730,8 @@ static void one_call(void)
         call_blank();
     } else if (current <= AT_station_abort) {
         call_host();
+    } else if (current == AT_station_load_hours) {
+        call_station_load();
     } else {
         call_station();
     }
@@ -633,8 +740,10 @@ static void one_call(void)
 /* A record with eight objects open, and one whose last serial is the last there is. */
 static void prepare_records(void)
 {
-    uint8_t distances[SENNA_DISTANCES] = {0}, i;
-    check(senna_coordinator_begin(eight_open, SENNA_RECORD, 3, SENNA_ALL, distances, sizeof distances, 1).number == SENNA_OK, "begin");
+    uint8_t distances[SENNA_DISTANCES] = {0}, blank[SENNA_SETTINGS] = {0}, i;
+    senna_called c =
+        senna_coordinator_begin(eight_open, SENNA_RECORD, blank, SENNA_SETTINGS, 3, SENNA_ALL, distances, sizeof distances, 1, 0, 0);
+    check(c.number == SENNA_OK, "begin");
     for (i = 0; i < SENNA_ENTRIES; i++) {
         check(senna_coordinator_open_read(eight_open, SENNA_RECORD, 3, (uint8_t)(20 + i)).number == SENNA_OK, "open");
     }
@@ -660,22 +769,47 @@ static void prepare(void)
         senna_written w = senna_write_done(recent[i], SENNA_MESSAGE_MAX, 1, 2, 3, 4);
         recent_length[i] = w.length;
     }
-    check(senna_station_blank(images, SENNA_IMAGES, records, SENNA_RECORDS, pool, SENNA_POOL, own, SENNA_OWN, SENNA_ALL) == SENNA_OK, "a station");
+    i = senna_station_blank(images, SENNA_IMAGES, records, SENNA_RECORDS, pool, SENNA_POOL, own, SENNA_OWN, settings, SENNA_STATION_SETTINGS, SENNA_ALL);
+    check(i == SENNA_OK, "a station");
+}
+
+/* Functions, and as masks the numbers that each may have and of those the ones that so many calls must come to. */
+static const struct {
+    unsigned function, may, must;
+} reached[] = {
+    {AT_coordinator_begin, 0x273f, 0x273f}, {AT_station_begin, 0x273f, 0x253f}, {AT_load_hours, 0x7, 0x7},    {AT_station_load_hours, 0x37, 0x37},
+    {AT_check_settings, 0x7, 0x7},          {AT_blank_settings, 0x3, 0x3},      {AT_station_blank, 0x13, 0x13},
+};
+
+static void report_reached(void)
+{
+    unsigned i, number;
+    for (i = 0; i < sizeof reached / sizeof reached[0]; i++) {
+        const unsigned long *seen = numbers_of[reached[i].function];
+        for (number = 0; number <= SENNA_CLOSED; number++) {
+            check(seen[number] == 0 ? (reached[i].must >> number & 1) == 0 : (reached[i].may >> number & 1) != 0, names[reached[i].function]);
+        }
+    }
 }
 
 /* What is printed and counted after so many calls. */
 static void report(unsigned long calls)
 {
     int enough = calls >= USUAL;
-    unsigned i;
+    unsigned i, number;
     for (i = 0; i < COUNT; i++) {
         check(faults_of[i] == 0 && (!enough || accepted_of[i] > 0), names[i]);
     }
-    for (i = 0; i <= SENNA_POOL_FULL; i++) {
-        printf("%lu %s%s", numbers_seen[i], senna_word((uint8_t)i), i < SENNA_POOL_FULL ? ", " : "\n");
+    for (number = 0; number <= SENNA_CLOSED; number++) {
+        unsigned long seen = 0;
+        for (i = 0; i < COUNT; i++) {
+            seen += numbers_of[i][number];
+        }
+        printf("%lu %s%s", seen, senna_word((uint8_t)number), number < SENNA_CLOSED ? ", " : "\n");
+        check(!enough || seen > 0, senna_word((uint8_t)number));
     }
-    for (i = 0; enough && i <= SENNA_POOL_FULL; i++) {
-        check(numbers_seen[i] > 0, senna_word((uint8_t)i));
+    if (enough) {
+        report_reached();
     }
     for (i = 0; enough && i <= SENNA_FINISHED; i++) {
         check(brought[i] > 0, "each thing that a delivery brings about");

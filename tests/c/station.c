@@ -5,17 +5,18 @@
 #include "check.h"
 
 static_assert(SENNA_IMAGES == SENNA_NODES * SENNA_IMAGE && SENNA_RECORDS == SENNA_NODES * SENNA_RECORD, "the sizes agree");
-static_assert(SENNA_POOL == 1 + SENNA_WAITING * (1 + SENNA_MESSAGE_MAX), "the sizes agree");
+static_assert(SENNA_POOL == 1 + SENNA_WAITING * (1 + SENNA_MESSAGE_MAX) && SENNA_STATION_SETTINGS == SENNA_NODES * SENNA_SETTINGS, "the sizes agree");
 static_assert(sizeof(senna_waiting) == 3 * sizeof(size_t) && offsetof(senna_waiting, place) == sizeof(size_t), "the layout that the library returns");
 
 enum { ME = 5, OBJECT = 7, PARTY = 439 };
 
-/* A station's four buffers. */
+/* A station's five buffers. */
 typedef struct station {
     uint8_t images[SENNA_IMAGES];
     uint8_t records[SENNA_RECORDS];
     uint8_t pool[SENNA_POOL];
     uint8_t own[SENNA_OWN];
+    uint8_t settings[SENNA_STATION_SETTINGS];
 } station;
 
 static station it;
@@ -36,8 +37,15 @@ static void taken(senna_called got, uint64_t answer, const char *what)
 
 static senna_called begin(unsigned node, uint32_t timestamp)
 {
-    return senna_station_begin(it.records, sizeof it.records, it.own, sizeof it.own, (uint8_t)node, SENNA_ALL, distances, sizeof distances,
-                               timestamp);
+    return senna_station_begin(it.records, sizeof it.records, it.own, sizeof it.own, it.settings, sizeof it.settings, (uint8_t)node, SENNA_ALL,
+                               distances, sizeof distances, timestamp, 0, 600);
+}
+
+/* A blank station, of buffers of which two may have another length. */
+static uint8_t blank(size_t records_length, size_t settings_length, unsigned on)
+{
+    return senna_station_blank(it.images, sizeof it.images, it.records, records_length, it.pool, sizeof it.pool, it.own, sizeof it.own, it.settings,
+                               settings_length, (uint16_t)on);
 }
 
 static senna_called send_to(unsigned to, unsigned object)
@@ -81,8 +89,8 @@ static void one_booking(void)
 {
     senna_value found;
     unsigned node;
-    check(senna_station_blank(it.images, sizeof it.images, it.records, sizeof it.records, it.pool, sizeof it.pool, it.own, sizeof it.own,
-                              SENNA_ALL) == SENNA_OK, "a blank station");
+    memset(&it, 0xa5, sizeof it);
+    check(blank(sizeof it.records, sizeof it.settings, SENNA_ALL) == SENNA_OK, "a blank station");
     memcpy(&before, &it, sizeof it);
     refused(deliver(0, 0), SENNA_OUT_OF_TURN, "nothing waits yet");
     taken(begin(ME, 3), 1, "begin chooses the root");
@@ -146,13 +154,15 @@ static void bad_buffers(void)
                                   sizeof it.own, 0, 0), SENNA_LENGTH, "images a byte short");
     refused(senna_station_deliver(it.images, sizeof it.images, it.records, sizeof it.records, it.pool, sizeof it.pool, it.own,
                                   1, 0, 0), SENNA_LENGTH, "a mask of one byte");
-    refused(senna_station_begin(it.records, sizeof it.records, it.own, sizeof it.own, 1, SENNA_ALL, distances, 25, 1), SENNA_LENGTH,
-            "25 bytes of distances");
+    refused(senna_station_begin(it.records, sizeof it.records, it.own, sizeof it.own, it.settings, sizeof it.settings, 1, SENNA_ALL, distances, 25,
+                                1, 0, 600), SENNA_LENGTH, "25 bytes of distances");
+    refused(senna_station_begin(it.records, sizeof it.records, it.own, sizeof it.own, it.settings, SENNA_SETTINGS, 1, SENNA_ALL, distances,
+                                sizeof distances, 1, 0, 600), SENNA_LENGTH, "one node's settings");
     refused(senna_station_drop(it.pool, sizeof it.pool - 1, 0), SENNA_LENGTH, "a pool a byte short");
-    check(senna_station_blank(it.images, sizeof it.images, it.records, sizeof it.records - 1, it.pool, sizeof it.pool, it.own, sizeof it.own,
-                              SENNA_ALL) == SENNA_LENGTH, "records a byte short");
-    check(senna_station_blank(it.images, sizeof it.images, it.records, sizeof it.records, it.pool, sizeof it.pool, it.own, sizeof it.own,
-                              SENNA_ALL + 1) == SENNA_STRANGER, "a mask of more than there are");
+    check(blank(sizeof it.records - 1, sizeof it.settings, SENNA_ALL) == SENNA_LENGTH, "records a byte short");
+    check(blank(sizeof it.records, sizeof it.settings - 1, SENNA_ALL) == SENNA_LENGTH, "settings a byte short");
+    check(blank(sizeof it.records, sizeof it.settings, SENNA_ALL + 1) == SENNA_STRANGER, "a mask of more than there are");
+    check(memcmp(&it, &before, sizeof it) == 0, "a refusal leaves every byte");
     refused(deliver(1, 0), SENNA_OUT_OF_TURN, "no such message waits");
     count = it.pool[0];
     it.pool[0] = before.pool[0] = 129;
@@ -166,6 +176,7 @@ static void bad_buffers(void)
     it.own[1] = before.own[1] = 0x1f;
     it.records[place + 8] = before.records[place + 8] = 9;
     refused(begin(ME, 99), SENNA_DAMAGED, "a damaged record");
+    refused(begin(ME + 13, 99), SENNA_STRANGER, "of no node");
     refused(send_to(13, 0), SENNA_DAMAGED, "a send from a damaged record");
     taken(begin(1, 1), 1, "its neighbour's is sound");
 }

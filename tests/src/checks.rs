@@ -1,6 +1,7 @@
 //! The checks, a module for each part of the product.
 
 pub mod coordinator;
+pub mod hours;
 pub mod image;
 pub mod message;
 pub mod program;

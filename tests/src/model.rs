@@ -1,4 +1,4 @@
-//! The second model: the rules once more, written from document 01 and for plainness, to be compared with the library.
+//! The second model: the rules once more, written from documents 01 and 02 and for plainness, to be compared with the library.
 //!
 //! A module for each part of the rules. Speed does not matter here; a reader compares each function with a sentence.
 
@@ -6,6 +6,7 @@ pub mod buffers;
 mod bytes;
 pub mod coordinator;
 pub mod history;
+pub mod hours;
 pub mod image;
 pub mod message;
 pub mod program;
@@ -33,6 +34,10 @@ pub mod number {
     pub const BUSY: u8 = 10;
     pub const NOT_READY: u8 = 11;
     pub const POOL_FULL: u8 = 12;
+    pub const CLOSED: u8 = 13;
+
+    /// How many there are, 0 too.
+    pub const COUNT: usize = 14;
 }
 
 /// A rule broken on purpose, to see that the check of demand 3 notices. The model itself has none.

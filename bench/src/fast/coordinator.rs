@@ -1,11 +1,12 @@
 //! The coordinator's calls and deliveries, on a record that was found in order. Each finds its refusal, then changes a few bytes.
 
 use super::bytes::{get_u16, get_u32, get_u64, put_u16, put_u32, put_u64};
+use super::hours::{self, Settings};
 use super::kind::{COPY, DONE, VOTE, YIELD};
 use super::message::{self, SHORTEST};
 use super::record::{self, Record, ABORTED, COMMITTED, FINISHING, IDLE, OPEN, VOTING};
 use super::{number, quorum, Answer, LAST};
-use crate::library::{ALL, DISTANCES, MESSAGE_MAX};
+use crate::library::{BeginWith, ALL, DISTANCES, MESSAGE_MAX};
 
 /// What a delivery brings about; 1 and 2 are the outcomes.
 const NOTHING: u64 = 0;
@@ -56,8 +57,24 @@ fn select(record: &mut Record, live: u16, distances: &[u8; DISTANCES], quorum: u
     put_u16(record, record::QUORUM, quorum);
 }
 
+/// A begin on the bytes of a record and of settings.
 #[inline(always)]
-pub fn begin(record: &mut Record, me: u8, on: bool, live: u16, distances: &[u8; DISTANCES], timestamp: u32) -> Answer {
+pub fn begin_call(record: &mut [u8], settings: &[u8], me: u8, with: BeginWith) -> Answer {
+    let settings: &Settings = settings.try_into().map_err(|_| number::LENGTH)?;
+    on_bytes_with(record, with.distances, |record, distances| {
+        if !hours::is_valid(settings) {
+            return Err(number::DAMAGED);
+        }
+        begin(record, settings, me, true, distances, with)
+    })
+}
+
+#[inline(always)]
+pub fn begin(record: &mut Record, settings: &Settings, me: u8, on: bool, distances: &[u8; DISTANCES], with: BeginWith) -> Answer {
+    let BeginWith { live, timestamp, day, minute, .. } = with;
+    if minute > hours::LAST_MINUTE {
+        return Err(number::GARBLED);
+    }
     if me > 12 || live > ALL {
         return Err(number::STRANGER);
     }
@@ -71,6 +88,9 @@ pub fn begin(record: &mut Record, me: u8, on: bool, live: u16, distances: &[u8; 
     let serial = get_u32(record, record::SERIAL);
     if serial == LAST {
         return Err(number::USED_UP);
+    }
+    if hours::is_closed(settings, day, minute) {
+        return Err(number::CLOSED);
     }
     put_u32(record, record::SERIAL, serial + 1);
     put_u32(record, record::TIMESTAMP, timestamp);

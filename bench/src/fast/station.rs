@@ -1,13 +1,14 @@
-//! The station's steps over four lent buffers.
+//! The station's steps over five lent buffers.
 
 use super::bytes::{get_u16, put_u16};
+use super::hours::Settings;
 use super::image::{self, Image};
 use super::kind::{ASK, FETCH, OUTCOME};
 use super::pool::{self, Pool};
 use super::record::{self, Record};
 use super::replica::{self, Plan};
-use super::{coordinator, due, message, number, Answer};
-use crate::library::{Lent, ALL, DISTANCES, IMAGES, OWN, RECORDS, WAITING};
+use super::{coordinator, due, hours, message, number, Answer};
+use crate::library::{BeginWith, Lent, ALL, DISTANCES, IMAGES, OWN, RECORDS, STATION_SETTINGS, WAITING};
 
 /// Lent bytes of a length, or 1.
 #[inline(always)]
@@ -58,9 +59,38 @@ pub fn host(records: &mut [u8], own: &[u8], node: u8, call: impl FnOnce(&mut Rec
     call(record_of(records, node)?, is_on(on, node))
 }
 
-pub fn begin(records: &mut [u8], own: &[u8], node: u8, live: u16, distances: &[u8], timestamp: u32) -> Answer {
-    let distances = sized::<DISTANCES>(distances)?;
-    host(records, own, node, |record, on| coordinator::begin(record, node, on, live, distances, timestamp))
+pub fn begin(records: &mut [u8], own: &[u8], settings: &[u8], node: u8, with: BeginWith) -> Answer {
+    let (distances, settings) = (sized::<DISTANCES>(with.distances)?, sized::<STATION_SETTINGS>(settings)?);
+    let (records, own) = (sized_mut(records)?, sized(own)?);
+    let on = nodes_on(own)?;
+    if node > 12 && with.minute > hours::LAST_MINUTE {
+        return Err(number::GARBLED);
+    }
+    let record = record_of(records, node)?;
+    let settings: &Settings = &settings.as_chunks().0[usize::from(node)];
+    if !hours::is_valid(settings) {
+        return Err(number::DAMAGED);
+    }
+    coordinator::begin(record, settings, node, is_on(on, node), distances, with)
+}
+
+pub fn load_hours(own: &[u8], settings: &mut [u8], node: u8, list: &[u8]) -> Answer {
+    let (own, settings) = (sized::<OWN>(own)?, sized_mut::<STATION_SETTINGS>(settings)?);
+    let number = hours::number(list);
+    if number == number::LENGTH {
+        return Err(number);
+    }
+    let on = nodes_on(own)?;
+    let settings: Option<&mut Settings> = settings.as_chunks_mut().0.get_mut(usize::from(node));
+    if number != 0 || settings.as_ref().is_some_and(|settings| !hours::is_valid(settings)) {
+        return Err(number::DAMAGED);
+    }
+    let settings = settings.ok_or(number::STRANGER)?;
+    if !is_on(on, node) {
+        return Err(number::OUT_OF_TURN);
+    }
+    hours::store(settings, list);
+    Ok(0)
 }
 
 pub fn reselect(records: &mut [u8], own: &[u8], node: u8, live: u16, distances: &[u8]) -> Answer {
@@ -164,12 +194,14 @@ pub fn switch(own: &mut [u8], node: u8, up: bool) -> Answer {
 pub fn blank(lent: Lent, on: u16) -> u8 {
     let (Ok(images), Ok(records)) = (sized_mut::<IMAGES>(lent.images), sized_mut::<RECORDS>(lent.records)) else { return number::LENGTH };
     let (Ok(pool), Ok(own)): (Result<&mut Pool, _>, _) = (sized_mut(lent.pool), sized_mut::<OWN>(lent.own)) else { return number::LENGTH };
+    let Ok(settings) = sized_mut::<STATION_SETTINGS>(lent.settings) else { return number::LENGTH };
     if on > ALL {
         return number::STRANGER;
     }
     images.as_chunks_mut().0.iter_mut().for_each(image::make_blank);
     records.fill(0);
     pool.fill(0);
+    settings.fill(0);
     put_u16(own, 0, on);
     0
 }

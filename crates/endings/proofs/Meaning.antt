@@ -36,8 +36,8 @@ use Rattle.history.proofs.Numbered.{always-in-turn}
 use Rattle.history.proofs.Running.{Starts, sheet-is-replay}
 use Rattle.history.specs.Running.{sheet}
 use Rattle.replay.specs.Sheet.{valueOf}
-use Rattle.runs.specs.Held.{Holds}
-use Rattle.runs.proofs.Demand.{anew}
+use Rattle.holding.specs.Held.{Holds}
+use Rattle.holding.proofs.Demand.{anew}
 use Rattle.closing.specs.Copies.{newestOf, newest}
 use Rattle.closing.specs.State.{atRest, settled}
 use Rattle.closing.specs.Meaning.{Holding, Released}

@@ -39,8 +39,8 @@ use Rattle.protocol.specs.Refine.Messages.{done-applied}
 use Rattle.history.specs.Ledger.{Ledger, ledgerFrom, txOf, in?, fed, current, turn, givenTo, lastValue}
 use Rattle.history.specs.Ballots.{ballotsFrom}
 use Rattle.history.specs.Origin.{Origin, ledgerOf, Rested, blankOrigin}
-use Rattle.history.specs.Claims.{AllTyped, Shows, Finds, Carries, Settled, Newest, Ripe, SaysCommitted, reached, told, votes, event, Ripens}
-use Rattle.history.specs.Claims.{Sourced, Demand3}
+use Rattle.history.specs.Claims.{AllTyped, Shows, Finds, Carries, Settled, Newest, Ripe, reached, told, votes, event, account}
+use Rattle.history.specs.Claims.{Sourced, Commits, Ripens, Demand3}
 use Rattle.history.proofs.Quorums.{quorums, rules, top, of-mask}
 use Rattle.history.proofs.Sim.{Match}
 use Rattle.history.proofs.Books.{Decided, Past, More, World}
@@ -264,12 +264,12 @@ module _ (o : Origin) (r : Rested o) where
     now : AllTyped (c ∷ ds)
     now = typed-suffix (c ∷ ds) cs s a
 
-    pub commits-ripen : SaysCommitted (told o ds) (event o ds c) x → Ripens o ds c x
+    pub commits-ripen : Commits (account o) ds c x → Ripens (account o) ds c x
     unfolding ledgerFrom ballotsFrom
     commits-ripen = says-ripens (reached o ds) (told o ds) (Earlier ds) (votes o ds) (always-good ds (now .1)) (always-counts ds (now .1)) c
         (Earlier (c ∷ ds)) (always-good (c ∷ ds) now) (always-counts (c ∷ ds) now) x
 
-    pub ripe-commits : Ripens o ds c x → SaysCommitted (told o ds) (event o ds c) x
+    pub ripe-commits : Ripens (account o) ds c x → Commits (account o) ds c x
     unfolding ledgerFrom ballotsFrom
     ripe-commits = ripens-says (reached o ds) (told o ds) (Earlier ds) (votes o ds) (always-good ds (now .1)) (always-counts ds (now .1)) c
         (Earlier (c ∷ ds)) (always-good (c ∷ ds) now) (always-counts (c ∷ ds) now) x
@@ -292,7 +292,7 @@ module _ (o : Origin) (r : Rested o) where
   shown-finds n t ds a q = shown-by (reached o ds) n t (told o ds .serials n) (sym (always-good ds a .world .books .present n .serial-as)) q
 
   -- THE THEOREM: for every list of steps, whichever nodes are on
-  pub demand-3 : (cs : List Call) → AllTyped cs → Demand3 o cs
+  pub demand-3 : (cs : List Call) → AllTyped cs → Demand3 (account o) cs
   demand-3 cs a = let g = always-good cs a in record {
     committed-ripens = λ x c ds s. commits-ripen cs a c ds s x;
     ripens-committed = λ x c ds s. ripe-commits cs a c ds s x;
@@ -317,5 +317,5 @@ module _ (o : Origin) (r : Rested o) where
   }
 
 -- from a blank station, whichever nodes are on
-pub from-blank : (on : ℕ) (cs : List Call) → AllTyped cs → Demand3 (blankOrigin on) cs
+pub from-blank : (on : ℕ) (cs : List Call) → AllTyped cs → Demand3 (account (blankOrigin on)) cs
 from-blank on = demand-3 (blankOrigin on) (blank-rested on)

@@ -74,10 +74,14 @@ module _ (L : Ledger) (B : Ballots) (x : Tx) (is : B .spoilt x ≡ true) where
   unfolding poll
   poll-spoilt e = either-way Spoilt (eqb (e .number) 0) (polled L B (e .call)) B (polled-spoilt (e .call)) is
 
+-- an event of the station says 'committed'
+abbrev pub Says : Ledger → Event → Tx → Type 0
+Says L e x = SaysCommitted delivery L (e .call) (e .number) (e .answer) x
+
 -- ---- what is told committed was told before, or is by this event
 module _ (L : Ledger) (x : Tx) where
   abbrev Told : Event → Ledger → Type 0
-  Told e L' = In x (L' .committed) → In x (L .committed) ⊎ SaysCommitted L e x
+  Told e L' = In x (L' .committed) → In x (L .committed) ⊎ Says L e x
 
   noted-told : (c : Call) (number answer : ℕ) (p : Option (List ℕ)) → number ≡ 0
       → Told (record { call = c; number = number; answer = answer; put = p }) (noted L c answer p)
@@ -94,7 +98,7 @@ module _ (L : Ledger) (x : Tx) where
   noted-told (delivery k kept) number answer p z i =
       let b = getD (L .pool) k [] in
       let e : Event = record { call = delivery k kept; number = number; answer = answer; put = p } in
-      on-cond (λ (C : List Tx). In x C → In x (L .committed) ⊎ SaysCommitted L e x) (eqb answer 1) (txOf b ∷ L .committed) (L .committed)
+      on-cond (λ (C : List Tx). In x C → In x (L .committed) ⊎ Says L e x) (eqb answer 1) (txOf b ∷ L .committed) (L .committed)
       (λ q j. on j (λ f. inr (record { place = k; kept = kept; a-delivery = refl; accepted = z; says-so = eqb-true answer 1 q; names = sym f })) inl)
       (λ q j. inl j) i
   noted-told (drop k) number answer p z i = inl i
@@ -223,7 +227,7 @@ module _ (st : Station) (L : Ledger) (F : Past) (B : Ballots) (g : Good st L F) 
   abbrev e : Event
   e = eventOf call (step st call)
 
-  pub ripens-says : (Ripe L B x → ⊥) × Ripe (note L e) (poll L B e) x → SaysCommitted L e x
+  pub ripens-says : (Ripe L B x → ⊥) × Ripe (note L e) (poll L B e) x → Says L e x
   ripens-says z = on (note-told L x e (ripe-told (step st call .station) (note L e) F' (poll L B e) g' k' x (z .1)))
       (λ i. let f = k .all-agreed x i in
       absurd (z .0 (record {
@@ -232,7 +236,7 @@ module _ (st : Station) (L : Ledger) (F : Past) (B : Ballots) (g : Good st L F) 
         unspoilt = by-test (B .spoilt x ≡ false) (B .spoilt x) (λ s. absurd (no-both (poll-spoilt L B x s e) (z .1 .unspoilt))) (λ s. s);
       }))) (λ s. s)
 
-  module _ (s : SaysCommitted L e x) where
+  module _ (s : Says L e x) where
     abbrev j : ℕ
     j = s .place
 

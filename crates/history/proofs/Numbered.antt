@@ -39,7 +39,7 @@ use Rattle.protocol.specs.Table.{In}
 use Rattle.protocol.specs.Proof.Tables.{on, clash}
 use Rattle.history.specs.Ledger.{Ledger}
 use Rattle.history.specs.Origin.{Origin, Rested}
-use Rattle.history.specs.Claims.{AllTyped, Crowded, reached, DeliveryNumbers}
+use Rattle.history.specs.Claims.{AllTyped, Crowded, reached, account, DeliveryNumbers}
 use Rattle.history.proofs.Tests.{no-both, and-true, not-true}
 use Rattle.history.proofs.Sim.{waits-well}
 use Rattle.history.proofs.Books.{Past, World}
@@ -238,11 +238,14 @@ module _ (st : Station) (L : Ledger) (F : Past) (w : World st L F) (t : InTurn s
   is-full : full st ≡ true → length (st .pool) ≡ mostWaiting
   is-full e = let h = ltb-false (length (st .pool)) mostWaiting (not-true (ltb (length (st .pool)) mostWaiting) e) in omega (arith, h, room)
 
-  pub waiting-number : (kept : Bool) → (step st (delivery k kept) .number ≡ 0) ⊎ Crowded st k kept
+  abbrev Numbered : Bool → Type 0
+  Numbered kept = (step st (delivery k kept) .number ≡ 0)
+      ⊎ Crowded (st .pool) kept (step st (delivery k kept) .number) (step st (delivery k false) .put)
+
+  pub waiting-number : (kept : Bool) → Numbered kept
   waiting-number kept = by (contains (st .own .on) (toOf b)) (forReplica (kindOf b)) refl refl
     where
-      by : (up order : Bool) → contains (st .own .on) (toOf b) ≡ up → forReplica (kindOf b) ≡ order
-          → (step st (delivery k kept) .number ≡ 0) ⊎ Crowded st k kept
+      by : (up order : Bool) → contains (st .own .on) (toOf b) ≡ up → forReplica (kindOf b) ≡ order → Numbered kept
       by false order p q = inl (ap (λ (r : Outcome). r .number) (arrives-at kept false order p q))
       by true false p q = inl (ap (λ (r : Outcome). r .number) (arrives-at kept true false p q) ∙ coordinator-number kept q)
       by true true p q =
@@ -251,7 +254,7 @@ module _ (st : Station) (L : Ledger) (F : Past) (w : World st L F) (t : InTurn s
           on (answered-number st k kept (toOf b) (made .image) (made .answer))
           (λ e. inl (ap (λ (r : Outcome). r .number) (same kept) ∙ e))
           (λ z. let y = and-true kept (full st) (z .1) in inr (record {
-            number = ap (λ (r : Outcome). r .number) (same kept) ∙ z .0;
+            is-full = ap (λ (r : Outcome). r .number) (same kept) ∙ z .0;
             is-kept = y .0;
             waiting = is-full (y .1);
             an-answer = λ e. z .2 (sym (ap (λ (r : Outcome). r .put) (same false)) ∙ e);
@@ -277,7 +280,7 @@ module _ (o : Origin) (r : Rested o) where
   always-room (c ∷ cs) = room-next (reached o cs) (always-room cs) c
 
   -- THE THEOREM: for every list of steps, whichever nodes are on
-  pub delivery-number : (cs : List Call) → AllTyped cs → DeliveryNumbers o cs
+  pub delivery-number : (cs : List Call) → AllTyped cs → DeliveryNumbers (account o) cs
   delivery-number cs a = record {
     none-waits = no-number (reached o cs);
     one-waits = λ k kept h.

@@ -1,12 +1,12 @@
--- What is claimed of every list of station steps from an origin that is `Rested`, the blank station being one, whichever nodes are on: demand 3, and the
--- numbers of deliveries. A list is newest first, so the lists that came before are its ends; what is claimed after every list is claimed after every
--- one of those.
+-- What is claimed of every list of steps from an origin that is `Rested`, the blank station being one, whichever nodes are on: demand 3, and the numbers
+-- of deliveries. It is said once, of whatever steps an `Account` is of: here the station's own, above it those of the service. A list is newest first, so
+-- the lists that came before are its ends; what is claimed after every list is claimed after every one of those.
 use mathlib.Core.Path.{_≡_}
 use mathlib.Core.Logic.{_≢_, _⊎_}
 use mathlib.Core.Bool.{Bool, true, false, cond}
 use lib.Dec.{eqb}
 use mathlib.Core.List.{List, [], _∷_}
-use mathlib.Core.Option.{none}
+use mathlib.Core.Option.{Option, none}
 use Prim.Native.Nat.{ℕ, _^_, _≤_, _<_}
 use lib.ListN.{length, getD}
 use Rattle.numbers.specs.Sizes.{nodes, objects, mostWaiting}
@@ -85,26 +85,85 @@ pub record Ripe (L : Ledger) (B : Ballots) (x : Tx) : Type 0 where
   pub everyone : (n : ℕ) → contains (L .participants x) n ≡ true → B .agreed x n ≡ true
   pub unspoilt : B .spoilt x ≡ false
 
--- an event is a delivery that answered 'committed' for the transaction
-pub record SaysCommitted (L : Ledger) (e : Event) (x : Tx) : Type 0 where
-  pub place : ℕ
-  pub kept : Bool
-  pub a-delivery : e .call ≡ delivery place kept
-  pub accepted : e .number ≡ 0
-  pub says-so : e .answer ≡ committed
-  pub names : txOf (getD (L .pool) place []) ≡ x
-
--- a kept delivery that has an answer (the same delivery, not kept, puts it into the pool) with 128 messages waiting: 12
-pub record Crowded (st : Station) (k : ℕ) (kept : Bool) : Type 0 where
-  pub number : step st (delivery k kept) .number ≡ poolFull
-  pub is-kept : kept ≡ true
-  pub waiting : length (st .pool) ≡ mostWaiting
-  pub an-answer : step st (delivery k false) .put ≢ none
-
 -- the value is 0, or the new value that a transaction told committed gave the object
 abbrev pub Sourced : Ledger → ℕ → ℕ → Type 0
 Sourced L t v = (v ≡ 0) ⊎ ((y : Tx) × In y (L .committed) × (L .mode y t ≡ write) × (v ≡ L .new y t))
 
+-- What is seen of lists of steps of a kind C: the transactions carried to their origin; after a list the station, what it told of transactions and what of
+-- votes; of one more step its number, its answer and the message that it put; and which steps are a delivery, kept or not, and a found call at a node.
+pub record Account (C : Type 0) : Type 0 where
+  pub carried : List Tx
+  pub reached : List C → Station
+  pub told : List C → Ledger
+  pub votes : List C → Ballots
+  pub number : List C → C → ℕ
+  pub answer : List C → C → ℕ
+  pub put : List C → C → Option (List ℕ)
+  pub deliver : ℕ → Bool → C
+  pub find : ℕ → ℕ → C
+
+-- a step with its number and its answer is a delivery that answered 'committed' for the transaction; the ledger is of the steps before it
+pub record SaysCommitted {C : Type 0} (deliver : ℕ → Bool → C) (L : Ledger) (c : C) (number answer : ℕ) (x : Tx) : Type 0 where
+  pub place : ℕ
+  pub kept : Bool
+  pub a-delivery : c ≡ deliver place kept
+  pub accepted : number ≡ 0
+  pub says-so : answer ≡ committed
+  pub names : txOf (getD (L .pool) place []) ≡ x
+
+-- a kept delivery that has an answer (the same delivery, not kept, puts one into the pool) with 128 messages waiting: 12
+pub record Crowded (pool : List (List ℕ)) (kept : Bool) (number : ℕ) (put : Option (List ℕ)) : Type 0 where
+  pub is-full : number ≡ poolFull
+  pub is-kept : kept ≡ true
+  pub waiting : length pool ≡ mostWaiting
+  pub an-answer : put ≢ none
+
+module _ {C : Type 0} (A : Account C) where
+  -- one more step says so; it makes a transaction ripe that was not
+  abbrev pub Commits : List C → C → Tx → Type 0
+  Commits ds c x = SaysCommitted (A .deliver) (A .told ds) c (A .number ds c) (A .answer ds c) x
+
+  abbrev pub Ripens : List C → C → Tx → Type 0
+  Ripens ds c x = (Ripe (A .told ds) (A .votes ds) x → ⊥) × Ripe (A .told (c ∷ ds)) (A .votes (c ∷ ds)) x
+
+  pub record Demand3 (cs : List C) : Type 0 where
+    -- what 'committed' means: a delivery answers it for a transaction exactly when it makes the transaction ripe
+    pub committed-ripens : (x : Tx) (c : C) (ds : List C) → Suffix (c ∷ ds) cs → Commits ds c x → Ripens ds c x
+    pub ripens-committed : (x : Tx) (c : C) (ds : List C) → Suffix (c ∷ ds) cs → Ripens ds c x → Commits ds c x
+    -- (0) each committed transaction stands exactly once in the log, and so in what replay is fed
+    pub logged-once : (x : Tx) → In x (A .told cs .committed) → times Tx-discrete x (A .told cs .log) ≡ 1
+    pub fed-once : (x : Tx) → In x (A .told cs .committed) → times Tx-discrete x (fed (A .told cs)) ≡ 1
+    -- and its entries are those of every ask and every commit put for it; a commit was put for no other transaction
+    pub entries-as : (x : Tx) (b : List ℕ) → In x (A .told cs .committed) → In b (A .told cs .puts) → txOf b ≡ x
+        → (kindOf b ≡ ask) ⊎ ((kindOf b ≡ outcome) × (wordOf b ≡ 1)) → Carries (A .told cs) x (decode b .entries)
+    pub commits-only : (b : List ℕ) → In b (A .told cs .puts) → kindOf b ≡ outcome → wordOf b ≡ 1 → In (txOf b) (A .told cs .committed)
+    -- (a) if it was not carried, some earlier list has each of its objects ready; after every one that does, the value found is what replay gives it
+    pub was-ready : (x : Tx) (t : ℕ) → In x (A .told cs .committed) → (In x (A .carried) → ⊥) → A .told cs .mode x t ≢ unused
+        → (ds : List C) × Suffix ds cs × Finds (A .reached ds) x t (givenTo (A .told cs) x t)
+    pub serial : (x : Tx) (t v : ℕ) (ds : List C) → In x (A .told cs .committed) → Suffix ds cs → Finds (A .reached ds) x t v
+        → v ≡ givenTo (A .told cs) x t
+    -- and every accepted found call for it answered that value
+    pub shown : (x : Tx) (n t : ℕ) (ds : List C) → In x (A .told cs .committed) → Suffix (A .find n t ∷ ds) cs → current (A .told ds) n ≡ x
+        → A .number ds (A .find n t) ≡ 0 → A .answer ds (A .find n t) ≡ givenTo (A .told cs) x t
+    -- (b) whatever a transaction found, committed or not, after any earlier list is 0 or the new value that one committed by then gave the object
+    pub sourced : (x : Tx) (t v : ℕ) (ds : List C) → Suffix ds cs → Finds (A .reached ds) x t v → Sourced (A .told ds) t v
+    -- and so is the answer of every accepted found call
+    pub shown-sourced : (n t : ℕ) (ds : List C) → Suffix (A .find n t ∷ ds) cs → A .number ds (A .find n t) ≡ 0
+        → Sourced (A .told ds) t (A .answer ds (A .find n t))
+    -- (c) if it is settled, then in every read quorum of the station (from blank the tree's, larger sets too; no step changes them: `lasting-system`,
+    -- proofs/Lasting), whichever nodes are on, every newest copy has replay's last value
+    pub newest : Settled (A .told cs) → (q : ℕ) → system (A .reached cs) .isRead q ≡ true → (n t : ℕ) → n < nodes → contains q n ≡ true
+        → t < objects → Newest (A .reached cs) q n t
+        → value (A .reached cs .images n) t ≡ lastValue (A .told cs) t
+
+  -- The numbers of deliveries: 5 only where no such message waits, 12 as above, else 0. So whatever waits is accepted where it goes: it is never garbled,
+  -- for another node or out of turn, and no image is damaged.
+  pub record DeliveryNumbers (cs : List C) : Type 0 where
+    pub none-waits : (k : ℕ) (kept : Bool) → length (A .reached cs .pool) ≤ k → A .number cs (A .deliver k kept) ≡ outOfTurn
+    pub one-waits : (k : ℕ) (kept : Bool) → k < length (A .reached cs .pool)
+        → (A .number cs (A .deliver k kept) ≡ 0) ⊎ Crowded (A .reached cs .pool) kept (A .number cs (A .deliver k kept)) (A .put cs (A .deliver k false))
+
+-- ---- the station's own steps
 module _ (o : Origin) where
   -- after a list of steps from the origin: the station, and what the events told of transactions and votes
   abbrev pub reached : List Call → Station
@@ -116,45 +175,20 @@ module _ (o : Origin) where
   abbrev pub votes : List Call → Ballots
   votes cs = ballotsFrom (ledgerOf o) (ballotsOf o) (trace (o .station) cs)
 
-  -- the event of one more step; it makes a transaction ripe that was not
+  -- the event of one more step
   abbrev pub event : List Call → Call → Event
   event ds c = eventOf c (step (reached ds) c)
 
-  abbrev pub Ripens : List Call → Call → Tx → Type 0
-  Ripens ds c x = (Ripe (told ds) (votes ds) x → ⊥) × Ripe (told (c ∷ ds)) (votes (c ∷ ds)) x
-
-  pub record Demand3 (cs : List Call) : Type 0 where
-    -- what 'committed' means: a delivery answers it for a transaction exactly when it makes the transaction ripe
-    pub committed-ripens : (x : Tx) (c : Call) (ds : List Call) → Suffix (c ∷ ds) cs → SaysCommitted (told ds) (event ds c) x → Ripens ds c x
-    pub ripens-committed : (x : Tx) (c : Call) (ds : List Call) → Suffix (c ∷ ds) cs → Ripens ds c x → SaysCommitted (told ds) (event ds c) x
-    -- (0) each committed transaction stands exactly once in the log, and so in what replay is fed
-    pub logged-once : (x : Tx) → In x (told cs .committed) → times Tx-discrete x (told cs .log) ≡ 1
-    pub fed-once : (x : Tx) → In x (told cs .committed) → times Tx-discrete x (fed (told cs)) ≡ 1
-    -- and its entries are those of every ask and every commit put for it; a commit was put for no other transaction
-    pub entries-as : (x : Tx) (b : List ℕ) → In x (told cs .committed) → In b (told cs .puts) → txOf b ≡ x
-        → (kindOf b ≡ ask) ⊎ ((kindOf b ≡ outcome) × (wordOf b ≡ 1)) → Carries (told cs) x (decode b .entries)
-    pub commits-only : (b : List ℕ) → In b (told cs .puts) → kindOf b ≡ outcome → wordOf b ≡ 1 → In (txOf b) (told cs .committed)
-    -- (a) if it was not carried, some earlier list has each of its objects ready; after every one that does, the value found is what replay gives it
-    pub was-ready : (x : Tx) (t : ℕ) → In x (told cs .committed) → (In x (o .carried .txs) → ⊥) → told cs .mode x t ≢ unused
-        → (ds : List Call) × Suffix ds cs × Finds (reached ds) x t (givenTo (told cs) x t)
-    pub serial : (x : Tx) (t v : ℕ) (ds : List Call) → In x (told cs .committed) → Suffix ds cs → Finds (reached ds) x t v → v ≡ givenTo (told cs) x t
-    -- and every accepted found call for it answered that value
-    pub shown : (x : Tx) (n t : ℕ) (ds : List Call) → In x (told cs .committed) → Suffix (found n t ∷ ds) cs → current (told ds) n ≡ x
-        → step (reached ds) (found n t) .number ≡ 0 → step (reached ds) (found n t) .answer ≡ givenTo (told cs) x t
-    -- (b) whatever a transaction found, committed or not, after any earlier list is 0 or the new value that one committed by then gave the object
-    pub sourced : (x : Tx) (t v : ℕ) (ds : List Call) → Suffix ds cs → Finds (reached ds) x t v → Sourced (told ds) t v
-    -- and so is the answer of every accepted found call
-    pub shown-sourced : (n t : ℕ) (ds : List Call) → Suffix (found n t ∷ ds) cs → step (reached ds) (found n t) .number ≡ 0
-        → Sourced (told ds) t (step (reached ds) (found n t) .answer)
-    -- (c) if it is settled, then in every read quorum of the station (from blank the tree's, larger sets too; no step changes them: `lasting-system`,
-    -- proofs/Lasting), whichever nodes are on, every newest copy has replay's last value
-    pub newest : Settled (told cs) → (q : ℕ) → system (reached cs) .isRead q ≡ true → (n t : ℕ) → n < nodes → contains q n ≡ true
-        → t < objects → Newest (reached cs) q n t
-        → value (reached cs .images n) t ≡ lastValue (told cs) t
-
-  -- The numbers of deliveries: 5 only where no such message waits, 12 as above, else 0. So whatever waits is accepted where it goes: it is never garbled,
-  -- for another node or out of turn, and no image is damaged.
-  pub record DeliveryNumbers (cs : List Call) : Type 0 where
-    pub none-waits : (k : ℕ) (kept : Bool) → length (reached cs .pool) ≤ k → step (reached cs) (delivery k kept) .number ≡ outOfTurn
-    pub one-waits : (k : ℕ) (kept : Bool) → k < length (reached cs .pool)
-        → (step (reached cs) (delivery k kept) .number ≡ 0) ⊎ Crowded (reached cs) k kept
+  abbrev pub account : Account Call
+  account =
+      record {
+        carried = o .carried .txs;
+        reached = reached;
+        told = told;
+        votes = votes;
+        number = λ ds c. step (reached ds) c .number;
+        answer = λ ds c. step (reached ds) c .answer;
+        put = λ ds c. step (reached ds) c .put;
+        deliver = delivery;
+        find = found;
+      }

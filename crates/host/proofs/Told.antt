@@ -5,9 +5,11 @@ use mathlib.Core.List.{List}
 use Prim.Native.Nat.{ℕ, _<_, _≤_}
 use borrow.Author.Tests.{eq-eqb, ne-eqb, le-leb, lt-leb}
 use lib.ListN.{length}
+use Rattle.coordinator.specs.declared.BeginWith.{BeginWith}
 use Rattle.coordinator.specs.declared.Coordinator.{Coordinator}
 use Rattle.coordinator.specs.declared.Step.{Step}
 use Rattle.record.specs.Call.{calledOf, recordAfter}
+use Rattle.frontend.specs.Calls.{begunOf, begunAfter}
 use Rattle.host.specs.declared.records.Value.{Value}
 use Rattle.parts.specs.Parts.{part}
 use Rattle.pool.specs.Pool.{messagePlace, count, lengthAt, messageAt, check}
@@ -15,10 +17,11 @@ use Rattle.pool.specs.Change.{removeNumber, removeRefusals}
 use Rattle.steps.specs.Step.{Call}
 use Rattle.buffers.specs.Buffers.{Buffers}
 use Rattle.station_calls.specs.Calls.{hostTold, hostRecords}
-use Rattle.host.specs.Records.{answerWith, bytesWith}
+use Rattle.service.specs.Lent.{Lent, beginTold, beginRecords}
+use Rattle.host.specs.Records.{answerWith, bytesWith, begunWith, bytesBegun}
 use Rattle.host.specs.declared.stations.Waiting.{Waiting}
 use Rattle.host.specs.Distances.{distancesOf}
-use Rattle.host.specs.Stations.{toldWith, recordsWith, waitingAt}
+use Rattle.host.specs.Stations.{toldWith, recordsWith, beginToldWith, beginRecordsWith, waitingAt}
 
 module _ (d l : List ℕ) (f g : Coordinator → Step) (e : length d ≡ 26) (p : f ≡ g) where
   pub taken-answer : calledOf f l ≡ answerWith d g l
@@ -28,6 +31,24 @@ module _ (d l : List ℕ) (f g : Coordinator → Step) (e : length d ≡ 26) (p 
   pub taken-bytes : recordAfter f l ≡ bytesWith d g l
   unfolding bytesWith
   taken-bytes = simp (eq-eqb (length d) 26 e) (ap (λ (x : Coordinator → Step). recordAfter x l) p)
+
+  module _ (s : List ℕ) (day minute : ℕ) where
+    pub taken-begun : begunOf f l s day minute ≡ begunWith d g l s day minute
+    unfolding begunWith
+    taken-begun = simp (eq-eqb (length d) 26 e) (ap (λ (x : Coordinator → Step). begunOf x l s day minute) p)
+
+    pub taken-begun-bytes : begunAfter f l s day minute ≡ bytesBegun d g l s day minute
+    unfolding bytesBegun
+    taken-begun-bytes = simp (eq-eqb (length d) 26 e) (ap (λ (x : Coordinator → Step). begunAfter x l s day minute) p)
+
+module _ (d : List ℕ) (b : Lent) (n day minute : ℕ) (v w : BeginWith) (e : length d ≡ 26) (p : v ≡ w) where
+  pub taken-begin-told : beginTold b n v day minute ≡ beginToldWith d b n w day minute
+  unfolding beginToldWith
+  taken-begin-told = simp (eq-eqb (length d) 26 e) (ap (λ (x : BeginWith). beginTold b n x day minute) p)
+
+  pub taken-begin-records : beginRecords b n v day minute ≡ beginRecordsWith d b n w day minute
+  unfolding beginRecordsWith
+  taken-begin-records = simp (eq-eqb (length d) 26 e) (ap (λ (x : BeginWith). beginRecords b n x day minute) p)
 
 module _ (d x : List ℕ) (b : Buffers) (n : ℕ) (f : List ℕ → Call) (e : length d ≡ 26) (p : x ≡ distancesOf d) where
   pub taken-told : hostTold b n (f x) ≡ toldWith d b n f

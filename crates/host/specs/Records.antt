@@ -1,4 +1,5 @@
--- The coordinator's calls for C: distances as bytes, 1 for another length than 26, and values as signed numbers.
+-- The coordinator's calls for C: distances as bytes, 1 for another length than 26, and values as signed numbers. A begin goes by the hours in the
+-- settings that are lent beside the record.
 use mathlib.Core.Bool.{cond}
 use mathlib.Core.List.{List}
 use Prim.Native.Nat.{ℕ}
@@ -13,6 +14,7 @@ use Rattle.coordinator.specs.System.{tree}
 use Rattle.coordinator.specs.Calls.{beginOf, reselectOf}
 use Rattle.record.specs.declared.Called.{Called}
 use Rattle.record.specs.Call.{called, calledOf, recordAfter}
+use Rattle.frontend.specs.Calls.{begunOf, begunAfter}
 use Rattle.host.specs.declared.records.Value.{Value}
 use Rattle.host.specs.Distances.{distancesOf}
 
@@ -22,6 +24,13 @@ answerWith distances f l = cond (eqb (length distances) 26) (calledOf f l) (call
 
 unfoldable pub bytesWith : List ℕ → (Coordinator → Step) → List ℕ → List ℕ
 bytesWith distances f l = cond (eqb (length distances) 26) (recordAfter f l) l
+
+-- a begin, which takes distances too: the same over a record, settings, a day and a minute
+unfoldable pub begunWith : List ℕ → (Coordinator → Step) → List ℕ → List ℕ → ℕ → ℕ → Called
+begunWith distances f l settings day minute = cond (eqb (length distances) 26) (begunOf f l settings day minute) (called wrongLength 0)
+
+unfoldable pub bytesBegun : List ℕ → (Coordinator → Step) → List ℕ → List ℕ → ℕ → ℕ → List ℕ
+bytesBegun distances f l settings day minute = cond (eqb (length distances) 26) (begunAfter f l settings day minute) l
 
 -- begin and reselect with distances as bytes
 abbrev pub beginWith : ℕ → List ℕ → ℕ → BeginWith

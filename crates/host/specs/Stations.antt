@@ -9,10 +9,12 @@ use Rattle.numbers.specs.Numbers.{wrongLength}
 use Rattle.octets.specs.Signed.{signedOf}
 use Rattle.pool.specs.Pool.{messagePlace, count, lengthAt, check}
 use Rattle.pool.specs.Change.{removeNumber}
+use Rattle.coordinator.specs.declared.BeginWith.{BeginWith}
 use Rattle.buffers.specs.declared.Answer.{Answer}
-use Rattle.steps.specs.Step.{Call, begin}
+use Rattle.steps.specs.Step.{Call}
 use Rattle.buffers.specs.Buffers.{Buffers, answerWith}
 use Rattle.station_calls.specs.Calls.{hostTold, hostRecords}
+use Rattle.service.specs.Lent.{Lent, beginTold, beginRecords}
 use Rattle.host.specs.declared.records.Value.{Value}
 use Rattle.host.specs.declared.stations.Waiting.{Waiting}
 use Rattle.host.specs.Distances.{distancesOf}
@@ -25,8 +27,12 @@ toldWith distances b n f = cond (eqb (length distances) 26) (hostTold b n (f (di
 unfoldable pub recordsWith : List ℕ → Buffers → ℕ → (List ℕ → Call) → List ℕ
 recordsWith distances b n f = cond (eqb (length distances) 26) (hostRecords b n (f (distancesOf distances))) (b .records)
 
-abbrev pub begins : ℕ → ℕ → ℕ → List ℕ → Call
-begins n live timestamp distances = begin n (record { live = live; distances = distances; timestamp = timestamp })
+-- a begin at node n, on a day, at a minute, which takes distances too
+unfoldable pub beginToldWith : List ℕ → Lent → ℕ → BeginWith → ℕ → ℕ → Answer
+beginToldWith distances b n w day minute = cond (eqb (length distances) 26) (beginTold b n w day minute) (answerWith wrongLength 0)
+
+unfoldable pub beginRecordsWith : List ℕ → Lent → ℕ → BeginWith → ℕ → ℕ → List ℕ
+beginRecordsWith distances b n w day minute = cond (eqb (length distances) 26) (beginRecords b n w day minute) (b .station .records)
 
 -- an answer that is a value
 abbrev pub valueOf : Answer → Value

@@ -4,6 +4,7 @@ mod images;
 mod messages;
 mod records;
 mod replicas;
+mod settings;
 mod stations;
 
 ghost use mathlib.Core.Path.{_≡_};

@@ -1,5 +1,5 @@
-// A coordinator's record for C: checked, made blank, each call on it, what is due, and what it says. Each function states the same equation as
-// what it wraps.
+// A coordinator's record for C: checked, made blank, each call on it (a begin by the settings beside it), what is due, and what it says. Each function
+// states the same equation as what it wraps.
 ghost use mathlib.Core.Path.{_≡_};
 ghost use mathlib.Core.Bool.{cond};
 ghost use lib.ListN.{length, getD};
@@ -13,7 +13,7 @@ ghost use Rattle.record.specs.Record.{check, shown};
 ghost use Rattle.record.specs.Call.{calledOf, recordAfter, blankNumber, blankAfter};
 ghost use Rattle.record_arrive.specs.Call.{receivedOf};
 ghost use Rattle.record_due.specs.Call.{recordDue, recordDueBuffer};
-ghost use Rattle.host.specs.Records.{answerWith, bytesWith, beginStep, reselectStep, valueOf};
+ghost use Rattle.host.specs.Records.{answerWith, bytesWith, begunWith, bytesBegun, beginStep, reselectStep, valueOf};
 use crate::DISTANCES;
 use crate::distances_of;
 use coordinator::BeginWith;
@@ -54,17 +54,22 @@ fn wrong_length() -> Called
     }
 }
 
-// Begins a transaction; answers the chosen read quorum. Ruled out: 10 for distances of 25 bytes; a distance read high byte first.
+// Begins a transaction on a day, at a minute; answers the chosen read quorum. Ruled out: 10 for distances of 25 bytes; 13 where the record is busy.
 #[no_mangle]
 pub extern "C" fn senna_coordinator_begin(
     bytes: &mut [u8],
+    settings: &[u8],
     me: u8,
     live: u16,
     distances: &[u8],
     timestamp: u32,
+    day: u32,
+    minute: u16,
 ) -> Called
-    ensures { λ r. ⌜ r ≡ answerWith (now (distances .entry)) (beginStep me live (now (distances .entry)) timestamp) (now (bytes .entry)) ⌝ }
-    ensures { λ r. ⌜ now (bytes .exit) ≡ bytesWith (now (distances .entry)) (beginStep me live (now (distances .entry)) timestamp) (now (bytes .entry)) ⌝ }
+    ensures { λ r. ⌜ r ≡ begunWith (now (distances .entry)) (beginStep me live (now (distances .entry)) timestamp)
+        (now (bytes .entry)) (now (settings .entry)) day minute ⌝ }
+    ensures { λ r. ⌜ now (bytes .exit) ≡ bytesBegun (now (distances .entry)) (beginStep me live (now (distances .entry)) timestamp)
+        (now (bytes .entry)) (now (settings .entry)) day minute ⌝ }
 {
     if distances.len() != DISTANCES {
         return wrong_length();
@@ -75,7 +80,7 @@ pub extern "C" fn senna_coordinator_begin(
         distances: d,
         timestamp,
     };
-    record_calls::begin(bytes, me, w)
+    frontend::begin(bytes, settings, me, w, day, minute)
 }
 
 // Takes a fresh live mask and distances; answers the chosen read quorum. Ruled out: 8 for distances of 25 bytes; the old quorum answered.

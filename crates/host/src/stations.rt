@@ -1,12 +1,15 @@
 // A station for C: made blank, every step, and what waits. Each function states the same equation as what it wraps.
 ghost use mathlib.Core.Path.{_≡_};
+ghost use mathlib.Core.List.{[]};
 ghost use Rattle.octets.specs.Signed.{bitsOf};
 ghost use Rattle.steps.specs.Step.{openRead, openWrite, setValue, found, reselect, requestCommit, abort};
 ghost use Rattle.buffers.specs.Buffers.{all, ends, answerWith};
-ghost use Rattle.station_calls.specs.Calls.{blankNumber, blankAfter, hostTold, hostRecords, switching, switchTold, switchOwn};
+ghost use Rattle.station_calls.specs.Calls.{hostTold, hostRecords, switching, switchTold, switchOwn};
 ghost use Rattle.station.specs.Messages.{sending, sendTold, sendPool, deliveryTold, deliveryImages, deliveryRecords, deliveryPool, dropping, dropTold};
 ghost use Rattle.station.specs.Messages.{dropPool};
-ghost use Rattle.host.specs.Stations.{toldWith, recordsWith, begins, valueOf, yes, waitingIn, waitingAt};
+ghost use Rattle.service.specs.Lent.{lent, loadTold, loadSettings, blankNumber, blankAfter};
+ghost use Rattle.host.specs.Records.{beginWith};
+ghost use Rattle.host.specs.Stations.{toldWith, recordsWith, beginToldWith, beginRecordsWith, valueOf, yes, waitingIn, waitingAt};
 use crate::DISTANCES;
 use crate::distances_of;
 use crate::records::Value;
@@ -21,22 +24,23 @@ pub struct Waiting {
     pub length: usize,
 }
 
-// Makes a blank station whose nodes of a mask are on. Ruled out: a message that still waits; a byte altered where one buffer is too short.
+// Makes a blank station whose nodes of a mask are on, with nothing loaded. Ruled out: a message that still waits; a byte altered where one buffer is
+// too short.
 #[no_mangle]
 pub extern "C" fn senna_station_blank(
     images: &mut [u8],
     records: &mut [u8],
     pool: &mut [u8],
     own: &mut [u8],
+    settings: &mut [u8],
     on: u16,
 ) -> u8
-    ensures { λ r. ⌜ r ≡ blankNumber (all (now (images .entry)) (now (records .entry)) (now (pool .entry)) (now (own .entry))) on ⌝ }
-    ensures { λ r. ⌜ now (images .exit) ≡ blankAfter (all (now (images .entry)) (now (records .entry)) (now (pool .entry)) (now (own .entry))) on .images ⌝ }
-    ensures { λ r. ⌜ now (records .exit) ≡ blankAfter (all (now (images .entry)) (now (records .entry)) (now (pool .entry)) (now (own .entry))) on .records ⌝ }
-    ensures { λ r. ⌜ now (pool .exit) ≡ blankAfter (all (now (images .entry)) (now (records .entry)) (now (pool .entry)) (now (own .entry))) on .pool ⌝ }
-    ensures { λ r. ⌜ now (own .exit) ≡ blankAfter (all (now (images .entry)) (now (records .entry)) (now (pool .entry)) (now (own .entry))) on .own ⌝ }
+    ensures { λ r. ⌜ r ≡ blankNumber
+        (lent (now (images .entry)) (now (records .entry)) (now (pool .entry)) (now (own .entry)) (now (settings .entry))) on ⌝ }
+    ensures { λ r. ⌜ lent (now (images .exit)) (now (records .exit)) (now (pool .exit)) (now (own .exit)) (now (settings .exit))
+        ≡ blankAfter (lent (now (images .entry)) (now (records .entry)) (now (pool .entry)) (now (own .entry)) (now (settings .entry))) on ⌝ }
 {
-    station_calls::blank(images, records, pool, own, on)
+    service::blank(images, records, pool, own, settings, on)
 }
 
 // The distances have another length.
@@ -49,19 +53,25 @@ fn wrong_length() -> Answer
     }
 }
 
-// Begins a transaction at a node; answers the chosen read quorum. Ruled out: 10 for distances of 25 bytes; another node's record begun.
+// Begins a transaction at a node, on a day, at a minute; answers the chosen read quorum. Ruled out: 10 for distances of 25 bytes; a begin by another
+// node's hours.
 #[no_mangle]
 pub extern "C" fn senna_station_begin(
     records: &mut [u8],
     own: &[u8],
+    settings: &[u8],
     node: u8,
     live: u16,
     distances: &[u8],
     timestamp: u32,
+    day: u32,
+    minute: u16,
 ) -> Answer
-    ensures { λ r. ⌜ r ≡ toldWith (now (distances .entry)) (ends (now (records .entry)) (now (own .entry))) node (begins node live timestamp) ⌝ }
+    ensures { λ r. ⌜ r ≡ beginToldWith (now (distances .entry)) (lent [] (now (records .entry)) [] (now (own .entry)) (now (settings .entry)))
+        node (beginWith live (now (distances .entry)) timestamp) day minute ⌝ }
     ensures { λ r. ⌜ now (records .exit)
-        ≡ recordsWith (now (distances .entry)) (ends (now (records .entry)) (now (own .entry))) node (begins node live timestamp) ⌝ }
+        ≡ beginRecordsWith (now (distances .entry)) (lent [] (now (records .entry)) [] (now (own .entry)) (now (settings .entry)))
+        node (beginWith live (now (distances .entry)) timestamp) day minute ⌝ }
 {
     if distances.len() != DISTANCES {
         return wrong_length();
@@ -72,7 +82,21 @@ pub extern "C" fn senna_station_begin(
         distances: d,
         timestamp,
     };
-    station_calls::begin(records, own, node, w)
+    service::begin(records, own, settings, node, w, day, minute)
+}
+
+// Loads a table of packing hours for a node, in any phase. Ruled out: another node's hours replaced; a faulty table that takes the old one's place.
+#[no_mangle]
+pub extern "C" fn senna_station_load_hours(
+    own: &[u8],
+    settings: &mut [u8],
+    node: u8,
+    list: &[u8],
+) -> Answer
+    ensures { λ r. ⌜ r ≡ loadTold (lent [] [] [] (now (own .entry)) (now (settings .entry))) node (now (list .entry)) ⌝ }
+    ensures { λ r. ⌜ now (settings .exit) ≡ loadSettings (lent [] [] [] (now (own .entry)) (now (settings .entry))) node (now (list .entry)) ⌝ }
+{
+    service::load_hours(own, settings, node, list)
 }
 
 // Opens an object to read it. Ruled out: an open to write; a byte of another node's record altered.

@@ -17,7 +17,8 @@ const MOST_WINDOWS: usize = 14;
 
 const MOST_DATES: usize = 32;
 
-const LAST_MINUTE: u16 = 10079;
+// The last minute of a week.
+pub const LAST_MINUTE: u16 = 10079;
 
 const WINDOW: usize = 4;
 

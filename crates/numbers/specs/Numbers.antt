@@ -1,4 +1,4 @@
--- Document 01's table 'Numbers and their words'. What each stands for is said by the refusals of each call.
+-- Document 01's table 'Numbers and their words', and document 02's new numbers. What each stands for is said by the refusals of each call.
 use Prim.Native.Nat.{ℕ}
 
 -- length
@@ -39,3 +39,7 @@ notReady = 11
 
 abbrev pub poolFull : ℕ
 poolFull = 12
+
+-- closed (document 02, 2.1)
+abbrev pub outsideHours : ℕ
+outsideHours = 13

@@ -2,6 +2,7 @@
 use mathlib.Core.Bool.{Bool, cond}
 use mathlib.Core.List.{List, [], _∷_}
 use Prim.Native.Nat.{ℕ}
+use lib.Dec.{eqb, ltb}
 
 pub record Refusal : Type 0 where
   pub number : ℕ
@@ -13,3 +14,7 @@ refuse n b = record { number = n; fits = b }
 abbrev pub firstOf : List Refusal → ℕ
 firstOf [] = 0
 firstOf (r ∷ rs) = cond (r .fits) (r .number) (firstOf rs)
+
+-- of two numbers the lower that is not 0
+unfoldable pub lower : ℕ → ℕ → ℕ
+lower m n = cond (eqb m 0) n (cond (eqb n 0) m (cond (ltb m n) m n))

@@ -1,6 +1,7 @@
-// Document 01's numbers, by their words, and how a call's number is found; 0 is no refusal. The sizes that everything is built to.
+// Document 01's numbers and document 02's, by their words, and how a call's number is found; 0 is no refusal. The sizes that everything is built to.
 ghost use mathlib.Core.Path.{_≡_};
 ghost use mathlib.Core.Bool.{cond, _&&_, _||_};
+ghost use Rattle.numbers.specs.Refusal.{lower};
 
 mod sizes;
 
@@ -40,6 +41,8 @@ pub const NOT_READY: u8 = 11;
 
 pub const POOL_FULL: u8 = 12;
 
+pub const CLOSED: u8 = 13;
+
 // Both tests hold. Ruled out: either of them is enough; the second alone counts.
 pub fn both(a: bool, b: bool) -> bool
     ensures { λ r. ⌜ r ≡ (a && b) ⌝ }
@@ -66,4 +69,17 @@ pub fn pick(first: bool, a: u8, b: u8) -> u8
     ensures { λ r. ⌜ r ≡ cond first a b ⌝ }
 {
     if first { a } else { b }
+}
+
+// Of two numbers the lower that is not 0. Ruled out: the higher; 0 where one of them is not.
+pub fn lower(m: u8, n: u8) -> u8
+    ensures { λ r. ⌜ r ≡ lower m n ⌝ }
+{
+    if m == 0 {
+        return n;
+    }
+    if n == 0 {
+        return m;
+    }
+    if m < n { m } else { n }
 }

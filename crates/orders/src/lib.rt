@@ -11,6 +11,7 @@ pub enum Kind {
     Reselect,
     RequestCommit,
     Abort,
+    LoadHours,
     Send,
     Deliver,
     Drop,
@@ -26,5 +27,7 @@ pub struct Order {
     pub place: u8,
     pub flag: bool,
     pub value: u64,
+    pub day: u32,
+    pub minute: u16,
     pub with: BeginWith,
 }

@@ -138,17 +138,6 @@ pub fn remove(pool: &mut [u8], k: u8) -> u8
     0
 }
 
-// Every byte becomes 0.
-fn zero(pool: &mut [u8])
-    ensures { λ r. ⌜ now (pool .exit) ≡ replicate (length (now (pool .entry))) 0 ⌝ }
-{
-    let mut i = 0;
-    while i < pool.len() {
-        pool[i] = 0;
-        i = i + 1;
-    }
-}
-
 // Makes a pool in which nothing waits: all zeros. Ruled out: a byte left as it was; a byte written where the length is another.
 pub fn blank(pool: &mut [u8]) -> u8
     ensures number { λ r. ⌜ r ≡ blankNumber (now (pool .entry)) ⌝ }
@@ -157,6 +146,6 @@ pub fn blank(pool: &mut [u8]) -> u8
     if pool.len() != SIZE {
         return numbers::LENGTH;
     }
-    zero(pool);
+    parts::zero(pool);
     0
 }

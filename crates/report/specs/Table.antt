@@ -5,19 +5,19 @@ use mathlib.Core.List.{List, [], _∷_, _++_}
 use lib.Dec.{ltb, eqb}
 use lib.ListN.{getD, take, drop}
 use Rattle.report.specs.Texts.{Text, lengthWord, damagedWord, garbledWord, strangerWord, outOfTurnWord, noSuchWord, eightOpenWord, noQuorumWord}
-use Rattle.report.specs.Texts.{usedUpWord, busyWord, notReadyWord, poolFullWord}
+use Rattle.report.specs.Texts.{usedUpWord, busyWord, notReadyWord, poolFullWord, closedWord}
 use Rattle.report.specs.Texts.{fetchWord, copyWord, askWord, yesWord, noWord, commitWord, abortWord, doneWord, yieldWord}
 
 -- the bytes, one row behind another
 unfoldable pub words : Text
 words =
-    poolFullWord ++ lengthWord ++ damagedWord ++ garbledWord ++ strangerWord ++ outOfTurnWord ++ noSuchWord ++ eightOpenWord ++ noQuorumWord ++ usedUpWord
-    ++ busyWord ++ notReadyWord ++ fetchWord ++ copyWord ++ askWord ++ noWord ++ yesWord ++ abortWord ++ commitWord ++ doneWord ++ yieldWord
+    closedWord ++ lengthWord ++ damagedWord ++ garbledWord ++ strangerWord ++ outOfTurnWord ++ noSuchWord ++ eightOpenWord ++ noQuorumWord ++ usedUpWord
+    ++ busyWord ++ notReadyWord ++ poolFullWord ++ fetchWord ++ copyWord ++ askWord ++ noWord ++ yesWord ++ abortWord ++ commitWord ++ doneWord ++ yieldWord
 
 -- where each row begins, and the end
 abbrev pub places : List ℕ
 places =
-    0 ∷ 9 ∷ 15 ∷ 22 ∷ 29 ∷ 37 ∷ 48 ∷ 61 ∷ 71 ∷ 80 ∷ 94 ∷ 98 ∷ 107 ∷ 112 ∷ 116 ∷ 119 ∷ 121 ∷ 124 ∷ 129 ∷ 135 ∷ 139 ∷ 144 ∷ []
+    0 ∷ 6 ∷ 12 ∷ 19 ∷ 26 ∷ 34 ∷ 45 ∷ 58 ∷ 68 ∷ 77 ∷ 91 ∷ 95 ∷ 104 ∷ 113 ∷ 118 ∷ 122 ∷ 125 ∷ 127 ∷ 130 ∷ 135 ∷ 141 ∷ 145 ∷ 150 ∷ []
 
 unfoldable pub rowAt : ℕ → Text
 rowAt k = take (getD places (k + 1) 0 - getD places k 0) (drop (getD places k 0) words)
@@ -28,7 +28,7 @@ cap limit n = cond (ltb n limit) n 0
 
 -- the rows of each kind, for a word other than 1 and for 1
 abbrev pub kinds : List ℕ
-kinds = 20 ∷ 20 ∷ 12 ∷ 12 ∷ 13 ∷ 13 ∷ 14 ∷ 14 ∷ 15 ∷ 16 ∷ 17 ∷ 18 ∷ 19 ∷ 19 ∷ []
+kinds = 21 ∷ 21 ∷ 13 ∷ 13 ∷ 14 ∷ 14 ∷ 15 ∷ 15 ∷ 16 ∷ 17 ∷ 18 ∷ 19 ∷ 20 ∷ 20 ∷ []
 
 abbrev pub kindRow : ℕ → ℕ → ℕ
 kindRow kind word = cond (eqb word 1) (getD kinds (2 * cap 7 kind + 1) 0) (getD kinds (2 * cap 7 kind) 0)

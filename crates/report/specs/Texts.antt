@@ -143,6 +143,10 @@ notReadyWord = 110 ∷ 111 ∷ 116 ∷ 32 ∷ 114 ∷ 101 ∷ 97 ∷ 100 ∷ 121
 abbrev pub poolFullWord : Text
 poolFullWord = 112 ∷ 111 ∷ 111 ∷ 108 ∷ 32 ∷ 102 ∷ 117 ∷ 108 ∷ 108 ∷ []
 
+-- `closed`
+abbrev pub closedWord : Text
+closedWord = 99 ∷ 108 ∷ 111 ∷ 115 ∷ 101 ∷ 100 ∷ []
+
 -- ---- the word of a message: a vote is `yes` or `no`, an outcome `commit` or `abort`; any kind but 1 to 6 is `yield`
 unfoldable pub kindWord : ℕ → ℕ → Text
 kindWord kind word =
@@ -188,7 +192,7 @@ messageTexts m =
     routeTexts (headerOf m) (wordOf m) ++ nameTexts (headerOf m) ++ eachFrom (nthEntryTexts m) (entryCount m) 0
     ++ eachFrom (nthRivalTexts m) (rivalCount m) 0
 
--- ---- the words of the numbers; any number but 1 to 11 has that of 12
+-- ---- the words of the numbers; any number but 1 to 12 has that of 13
 unfoldable pub wordOfNumber : ℕ → Text
 wordOfNumber n =
     cond (eqb n 1) lengthWord
@@ -198,4 +202,5 @@ wordOfNumber n =
     (cond (eqb n 5) outOfTurnWord
     (cond (eqb n 6) noSuchWord
     (cond (eqb n 7) eightOpenWord
-    (cond (eqb n 8) noQuorumWord (cond (eqb n 9) usedUpWord (cond (eqb n 10) busyWord (cond (eqb n 11) notReadyWord poolFullWord))))))))))
+    (cond (eqb n 8) noQuorumWord
+    (cond (eqb n 9) usedUpWord (cond (eqb n 10) busyWord (cond (eqb n 11) notReadyWord (cond (eqb n 12) poolFullWord closedWord)))))))))))

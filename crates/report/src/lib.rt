@@ -46,8 +46,8 @@ pub fn value(out: &mut [u8], at: usize, label: &[u8], v: u64) -> usize
     number(out, a, b"-", 18446744073709551615 - v + 1)
 }
 
-// The words of the numbers and of the kinds, a row each: `pool full`, those of the numbers 1 to 11, those of the kinds.
-const WORDS: [u8; 144] = *b"pool full\
+// The words of the numbers and of the kinds, a row each: `closed`, those of the numbers 1 to 12, those of the kinds.
+const WORDS: [u8; 150] = *b"closed\
     length\
     damaged\
     garbled\
@@ -59,6 +59,7 @@ const WORDS: [u8; 144] = *b"pool full\
     number used up\
     busy\
     not ready\
+    pool full\
     fetch\
     copy\
     ask\
@@ -70,37 +71,38 @@ const WORDS: [u8; 144] = *b"pool full\
     yield";
 
 // Where each row begins, and where the last one ends.
-const PLACES: [usize; 22] = [
+const PLACES: [usize; 23] = [
     0,
-    9,
-    15,
-    22,
-    29,
-    37,
-    48,
-    61,
-    71,
-    80,
-    94,
-    98,
-    107,
-    112,
-    116,
-    119,
-    121,
-    124,
-    129,
+    6,
+    12,
+    19,
+    26,
+    34,
+    45,
+    58,
+    68,
+    77,
+    91,
+    95,
+    104,
+    113,
+    118,
+    122,
+    125,
+    127,
+    130,
     135,
-    139,
-    144,
+    141,
+    145,
+    150,
 ];
 
 // The rows of each kind, for a word other than 1 and for 1; first those of kinds that are none of 1 to 6.
-const KINDS: [usize; 14] = [20, 20, 12, 12, 13, 13, 14, 14, 15, 16, 17, 18, 19, 19];
+const KINDS: [usize; 14] = [21, 21, 13, 13, 14, 14, 15, 15, 16, 17, 18, 19, 20, 20];
 
 // Where a row begins.
 fn place(k: usize) -> usize
-    requires { ⌜ k < 22 ⌝ }
+    requires { ⌜ k < 23 ⌝ }
     ensures { λ r. ⌜ r ≡ getD places k 0 ⌝ }
 {
     PLACES[k]
@@ -108,7 +110,7 @@ fn place(k: usize) -> usize
 
 // Puts the word of a row.
 fn row(out: &mut [u8], at: usize, k: usize) -> usize
-    requires { ⌜ k < 21 ⌝ }
+    requires { ⌜ k < 22 ⌝ }
     ensures { λ r. ⌜ page (now (out .exit)) r ≡ ink (page (now (out .entry)) at) (rowAt k) ⌝ }
 {
     let a = place(k);
@@ -126,7 +128,7 @@ fn capped(n: u8, limit: u8) -> usize
 
 // The row of a kind, with the message's word.
 fn kind_row(kind: u8, word: u8) -> usize
-    ensures { λ r. ⌜ (r ≡ kindRow kind word) × (r < 21) ⌝ }
+    ensures { λ r. ⌜ (r ≡ kindRow kind word) × (r < 22) ⌝ }
 {
     let k = capped(kind, 7);
     if word == 1 {
@@ -232,5 +234,5 @@ pub fn message(out: &mut [u8], at: usize, m: &[u8]) -> usize
 pub fn word(out: &mut [u8], at: usize, n: u8) -> usize
     ensures { λ r. ⌜ page (now (out .exit)) r ≡ ink (page (now (out .entry)) at) (wordOfNumber n) ⌝ }
 {
-    row(out, at, capped(n, 12))
+    row(out, at, capped(n, 13))
 }

@@ -6,7 +6,8 @@ use lib.Dec.{eqb}
 use Rattle.report.specs.Texts.{Text, spaceText, valueText, numberTexts, valueTexts, wordOfNumber}
 use Rattle.buffers.specs.declared.Answer.{Answer}
 use Rattle.orders.specs.declared.Kind.{Kind}
-use Rattle.orders.specs.declared.Kind.the-variants.{Begin, OpenRead, OpenWrite, SetValue, Found, Reselect, RequestCommit, Abort, Send, Deliver, Drop, Switch}
+use Rattle.orders.specs.declared.Kind.the-variants.{Begin, OpenRead, OpenWrite, SetValue, Found, Reselect, RequestCommit, Abort, LoadHours}
+use Rattle.orders.specs.declared.Kind.the-variants.{Send, Deliver, Drop, Switch}
 
 -- the newline, and two spaces
 abbrev pub newline : Text
@@ -59,6 +60,7 @@ answerTexts Found v = valueTexts valueText v
 answerTexts Reselect v = numberTexts quorumText v
 answerTexts RequestCommit v = numberTexts participantsText v
 answerTexts Abort v = broughtTexts v
+answerTexts LoadHours v = []
 answerTexts Send v = []
 answerTexts Deliver v = broughtTexts v
 answerTexts Drop v = []

@@ -11,7 +11,8 @@ use Rattle.replay.specs.Sheet.{begunAfter, openedAfter, valuedAfter, committedA
 use Rattle.buffers.specs.declared.Answer.{Answer}
 use Rattle.history.specs.Running.{putIn, sheetKeeper}
 use Rattle.orders.specs.declared.Kind.{Kind}
-use Rattle.orders.specs.declared.Kind.the-variants.{Begin, OpenRead, OpenWrite, SetValue, Found, Reselect, RequestCommit, Abort, Send, Deliver, Drop, Switch}
+use Rattle.orders.specs.declared.Kind.the-variants.{Begin, OpenRead, OpenWrite, SetValue, Found, Reselect, RequestCommit, Abort, LoadHours}
+use Rattle.orders.specs.declared.Kind.the-variants.{Send, Deliver, Drop, Switch}
 use Rattle.orders.specs.declared.Order.{Order}
 use Rattle.report.specs.Texts.{Text, messageTexts}
 use Rattle.results.specs.Results.{newline}
@@ -59,6 +60,7 @@ namedTexts Found pool k = []
 namedTexts Reselect pool k = []
 namedTexts RequestCommit pool k = []
 namedTexts Abort pool k = []
+namedTexts LoadHours pool k = []
 namedTexts Send pool k = []
 namedTexts Switch pool k = []
 
@@ -73,6 +75,7 @@ sheetTold Found sheet o answer owner = sheet
 sheetTold Reselect sheet o answer owner = sheet
 sheetTold RequestCommit sheet o answer owner = sheet
 sheetTold Abort sheet o answer owner = sheet
+sheetTold LoadHours sheet o answer owner = sheet
 sheetTold Send sheet o answer owner = sheet
 sheetTold Drop sheet o answer owner = sheet
 sheetTold Switch sheet o answer owner = sheet
@@ -89,6 +92,7 @@ takenOut Found kept = 0
 takenOut Reselect kept = 0
 takenOut RequestCommit kept = 0
 takenOut Abort kept = 0
+takenOut LoadHours kept = 0
 takenOut Send kept = 0
 takenOut Switch kept = 0
 

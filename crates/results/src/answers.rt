@@ -38,6 +38,7 @@ fn answer(out: &mut [u8], at: usize, kind: Kind, v: u64) -> usize
         Kind::OpenRead => at,
         Kind::OpenWrite => at,
         Kind::SetValue => at,
+        Kind::LoadHours => at,
         Kind::Send => at,
         Kind::Drop => at,
         Kind::Switch => at,

@@ -81,6 +81,7 @@ pub fn named(out: &mut [u8], at: usize, pool: &[u8], kind: Kind, k: u8) -> usize
         Kind::Reselect => at,
         Kind::RequestCommit => at,
         Kind::Abort => at,
+        Kind::LoadHours => at,
         Kind::Send => at,
         Kind::Switch => at,
     }
@@ -106,6 +107,7 @@ fn taken_out(kind: Kind, kept: bool) -> u8
         Kind::Reselect => 0,
         Kind::RequestCommit => 0,
         Kind::Abort => 0,
+        Kind::LoadHours => 0,
         Kind::Send => 0,
         Kind::Switch => 0,
     }
@@ -151,6 +153,7 @@ fn told(sheet: &mut [u64], o: Order, answer: u64, owner: u8)
         Kind::Reselect => {}
         Kind::RequestCommit => {}
         Kind::Abort => {}
+        Kind::LoadHours => {}
         Kind::Send => {}
         Kind::Drop => {}
         Kind::Switch => {}

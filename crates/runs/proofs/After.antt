@@ -1,462 +1,240 @@
--- Buffers that hold a station hold, after any step, the station after the step; and the caller is told the step's own number and answer.
-use mathlib.Core.Path.{_≡_, refl, sym, ap, ap₂, subst, _∙_}
-use mathlib.Core.Bool.{Bool, true, false, cond, not, _||_, _&&_}
-use mathlib.Core.Logic.{_⊎_, inl, inr, ⊎-elim}
-use mathlib.Core.List.{List, _++_, _∷_, []}
-use Prim.Native.Nat.{ℕ, _*_, _<_, _≤_, _^_}
+-- Five buffers that hold a service hold, after any step, the service after the step; and the caller is told the step's own number and answer. The machine's
+-- part is crate holding's; what is new are the hours.
+use mathlib.Core.Path.{_≡_, refl, sym, ap, subst₂, _∙_}
+use mathlib.Core.Bool.{Bool, true, false}
+use mathlib.Core.Logic.{⊎-elim}
+use mathlib.Core.List.{List}
+use Prim.Native.Nat.{ℕ, _<_}
 use native.Mathlib.Omega.{arith}
-use lib.Dec.{T, eqb, ltb}
+use lib.Dec.{eqb, ltb}
 use lib.ListN.{length}
-use lib.Pow.{pow-mono}
-use borrow.Author.Tests.{eq-eqb, ne-eqb, eqb-true, eqb-false, lt-ltb, le-ltb, ltb-true, ltb-false, not-false}
-use Rattle.image.specs.Layout.{imageSize, shape}
-use Rattle.numbers.specs.Sizes.{nodes, everyNode, longestMessage, mostWaiting}
-use Rattle.mask.specs.Mask.{contains, only, joined, minus}
-use Rattle.mask.proofs.Laws.{only-small, contains-minus, contains-within}
-use Rattle.mask.proofs.Tests.{and-left}
-use Rattle.octets.specs.Octets.{put}
-use Rattle.octets.proofs.Laws.{get-put, length-put}
-use Rattle.numbers.specs.Refusal.{firstOf}
-use Rattle.wire.specs.Message.{Message}
-use Rattle.wire.specs.Formed.{wellFormed}
-use Rattle.wire.specs.Encode.{encode}
-use Rattle.wire.specs.Decode.{kindOf, toOf, checkOf}
-use Rattle.wire.proofs.Theorems.{length-bounds}
-use Rattle.replica.specs.Steps.{Answer, silent, says}
-use Rattle.replica.specs.Receive.{Delivered, deliver, spoken}
-use Rattle.replica.proofs.Spoken.{false-true, and-false}
-use Rattle.replica.proofs.Delivered.{past, Fine}
-use Rattle.coordinator.specs.declared.Coordinator.{Coordinator}
-use Rattle.coordinator.specs.declared.Step.{Step}
-use Rattle.coordinator.specs.System.{tree}
-use Rattle.coordinator.specs.Calls.{noNode, beginOf, openOf, setOf, foundOf, reselectOf, requestCommitOf, abortOf}
-use Rattle.due.specs.Kind.{dueKind, dueRefusals}
-use Rattle.arrivals.specs.Receive.{forReplica, receiveOf}
-use Rattle.due.specs.Due.{messageDue}
-use Rattle.clauses.proofs.Facts.{Meets}
-use Rattle.clauses.proofs.Fits.{Fits}
-use Rattle.clauses.proofs.Sets.{joined-known, within-known}
-use Rattle.record.specs.Record.{bytesOf}
-use Rattle.pool.specs.Pool.{count, waiting, messageAt}
-use Rattle.pool.specs.Pool.{check as checkPool}
-use Rattle.pool.specs.Change.{added, removed}
-use Rattle.pool.proofs.Numbers.{passed-number, Room, fine, add-after}
-use Rattle.pool.proofs.Laws.{length-waiting, getD-waiting, waiting-added, check-added, waiting-removed, check-removed}
-use Rattle.steps.specs.Station.{Station, system, putAt, withImage, withRecord, withPool, nowOn, sent, without}
-use Rattle.steps.specs.Step.{Call, begin, openRead, openWrite, setValue, found, reselect, requestCommit, abort, send, delivery, drop, switch, Outcome}
-use Rattle.steps.specs.Step.{refusedWith, taken, putting, whenOff, hosted, full, sendNumber, sendOf, takenOut, answered, atReplica, atCoordinator, arriving}
-use Rattle.steps.specs.Step.{deliveryOf, dropOf, switchOf, step}
-use Rattle.buffers.specs.Buffers.{Buffers, imageAt, imageIn, withImageAt, recordIn, withRecordAt}
-use Rattle.buffers.specs.Buffers.{recordDamaged, onOf, ownOf, ownNumber, ownDamaged, wrong, ownSize}
-use Rattle.buffers.specs.Buffers.{stationOf, answerWith, told, recordsAfter, hostFirst, all, Whole}
-use Rattle.station_calls.specs.Calls.{hostTold, hostRecords, switchTold, switchOwn}
-use Rattle.station.specs.Messages.{lower, putInto, sendFirst, sendTold, poolAfter, sendPool, dropTold, dropPool, blocked, messageIn, reaches, buffersNumber}
-use Rattle.station.specs.Messages.{deliveryFirst, deliveryTold, deliveryImages, deliveryRecords, leaving, deliveryPool, answeredBy}
-use Rattle.steps.proofs.Nodes.{node-on, off-number}
-use Rattle.station.proofs.Waiting.{there-of, check-leaving}
-use Rattle.station.proofs.Delivering.{none-said, all-said, not-said, Brought, brought, by, at-is, refused-all, blocked-all, has-room, taken-all, said, Leaves}
-use Rattle.station.proofs.Delivering.{stopped-all, heard-all, image-in}
-use Rattle.station.proofs.Arriving.{Waits, waits-of, receiver-node, Left, no-message, off, at-replica, at-sound}
-use Rattle.runs.specs.Left.{toldOf, hostLeft, leftOf}
-use Rattle.runs.proofs.Kept.{Kept, same-kept, own-is, none-damaged, host-first, buffers-first, image-kept, record-kept, pool-kept, own-kept}
+use borrow.Author.Tests.{eq-eqb, eqb-true, lt-ltb, ltb-true}
+use Rattle.numbers.specs.Sizes.{nodes}
+use Rattle.numbers.specs.Refusal.{lower}
+use Rattle.hours.specs.Hours.{tableNumber}
+use Rattle.coordinator.specs.declared.BeginWith.{BeginWith}
+use Rattle.steps.specs.Station.{putAt}
+use Rattle.steps.specs.Step.{Call as Step, begin as beginStep, step as stepOf}
+use Rattle.history.specs.Claims.{Typed as StepTyped}
+use Rattle.buffers.specs.Buffers.{Buffers, all, stationOf, answerWith, recordsAfter}
+use Rattle.buffers.specs.Buffers.{Whole as StationWhole}
+use Rattle.station_calls.specs.Calls.{hostRecords}
+use Rattle.holding.specs.Left.{toldOf as stepTold, leftOf as stepLeft}
+use Rattle.holding.proofs.Kept.{host-first}
+use Rattle.frontend.specs.Settings.{settingsSize, settingsNumber, loaded}
+use Rattle.service.specs.Service.{Service, Call, begin, loadHours, plain, isBegin, Outcome, refusedWith, taken, withSettings, by, begunNumber, begunOf}
+use Rattle.service.specs.Service.{loadNumber, loadOf, step}
+use Rattle.service.specs.Lent.{Lent, serviceOf, settingsAt, withSettingsAt, settingsIn, settingsFirst, Whole, told, beginFirst}
+use Rattle.service.specs.Lent.{beginRecords, loadFirst, loadTold, loadSettings}
+use Rattle.accounts.specs.Accounts.{Typed}
+use Rattle.runs.specs.Left.{toldOf, leftOf}
+use Rattle.runs.proofs.Settings.{loaded-long, loaded-fine, at-long, settings-first, put-long, put-at, put-in}
 
--- what is known of a station that steps reached: its records are records, and its images have their length
-pub record Proper (st : Station) : Type 0 where
-  pub fits : (n : ℕ) → Fits (st .records n)
-  pub meets : (n : ℕ) → Meets (system st) (st .records n)
-  pub sized : (n : ℕ) → length (st .images n) ≡ imageSize shape
+-- buffers hold a service
+abbrev pub Kept : Lent → Service → Type 0
+Kept b v = Whole b × (serviceOf b ≡ v)
+
+-- what a step of the machine leaves of whole buffers, and tells
+pub record Stepped (B : Buffers) (m : Step) : Type 0 where
+  pub whole : StationWhole (stepLeft B m)
+  pub station : stationOf (stepLeft B m) ≡ stepOf (stationOf B) m .station
+  pub number : stepTold B m .number ≡ stepOf (stationOf B) m .number
+  pub answer : stepTold B m .answer ≡ stepOf (stationOf B) m .answer
+
+-- what a step of the service does
+pub record Goes (b : Lent) (c : Call) : Type 0 where
+  pub kept : Kept (leftOf b c) (step (serviceOf b) c .service)
+  pub told : toldOf b c ≡ answerWith (step (serviceOf b) c .number) (step (serviceOf b) c .answer)
 
 told-zero : (f : ℕ) (o : Outcome) → f ≡ 0 → told f o ≡ answerWith (o .number) (o .answer)
 unfolding told
 told-zero f o e = simp (eq-eqb f 0 e)
 
--- a test that is the same as another's
-same : (n : ℕ) → eqb n n ≡ true
-same n = eq-eqb n n refl
-
--- what is left of a pool is read as what is left of the messages
-left-waits : (P : List ℕ) (k : ℕ) (kept : Bool) → checkPool P ≡ 0 → k < count P → waiting (leaving P k kept) ≡ cond kept (waiting P) (without k (waiting P))
-left-waits P k true e h = refl
-left-waits P k false e h = waiting-removed P k (there-of P k e h)
-
-mask-fine : (l : List ℕ) → length l ≡ ownSize → onOf l ≤ everyNode → ownNumber l ≡ 0
-unfolding ownNumber
-mask-fine l e h = simp (eq-eqb (length l) ownSize e, le-ltb everyNode (onOf l) h)
-
-module _ (I R P O : List ℕ) (w : Whole (all I R P O)) where
+module _ (b : Lent) (w : Whole b) where
   abbrev B : Buffers
-  B = all I R P O
+  B = b .station
 
-  abbrev st : Station
-  st = stationOf B
+  abbrev v : Service
+  v = serviceOf b
 
-  -- ---- a host call
-  module _ (n : ℕ) (s : Step) where
-    abbrev o : Outcome
-    o = hosted st n s
+  first-zero : (n : ℕ) → settingsFirst (b .settings) n ≡ 0
+  first-zero = settings-first (b .settings) (w .settings-long) (w .settings-fine)
 
-    hosted-kept : Proper (o .station) → Kept (all I (recordsAfter 0 o n R) P O) (o .station)
-    unfolding recordsAfter hosted putAt
-    hosted-kept z = go (contains (onOf O) n) (eqb (s .number) 0) refl refl
-      where
-        go : (a b : Bool) → contains (onOf O) n ≡ a → eqb (s .number) 0 ≡ b → Kept (all I (recordsAfter 0 o n R) P O) (o .station)
-        go true true p q =
-            let e : o ≡ taken (s .answer) (withRecord st n (s .coordinator)) = simp (p, q) in
-            let y = subst (λ (x : Outcome). Proper (x .station)) e z in
-            let c = s .coordinator in
-            let i : putAt (recordIn R) n c n ≡ c = simp (same n) in
-            let k = record-kept I R P O w n c (node-on (onOf O) n (own-is I R P O w .mask) p) (subst (Meets tree) i (y .meets n))
-            (subst Fits i (y .fits n)) in
-            simp (p, q, same n) k
-        go true false p q = simp (p, q) (same-kept I R P O w)
-        go false b p q = simp (p, ne-eqb (whenOff (s .number)) 0 (off-number (s .number))) (same-kept I R P O w)
+  -- ---- a begin: the machine's own, or nothing
+  begin-first : (n : ℕ) → beginFirst b n ≡ 0
+  unfolding beginFirst lower
+  begin-first n = simp (host-first (B .images) (B .records) (B .pool) (B .own) (w .station) n, first-zero n)
 
-  abbrev Goes : Call → Type 0
-  Goes c = Kept (leftOf B c) (step st c .station) × (toldOf B c ≡ answerWith (step st c .number) (step st c .answer))
-
-  host-goes : (n : ℕ) (c : Call) (s : Step) → step st c ≡ hosted st n s → leftOf B c ≡ hostLeft B n c → toldOf B c ≡ hostTold B n c
-      → Proper (step st c .station) → Goes c
-  host-goes n c s e l t z =
-      let f = host-first I R P O w n in
-      let k = hosted-kept n s (subst (λ (x : Outcome). Proper (x .station)) e z) in (
-        subst (λ (b : Buffers). Kept b (step st c .station))
-            (sym (l ∙ (λ j. all I (recordsAfter (f j) (e j) n R) P O)))
-            (subst (λ (x : Outcome). Kept (all I (recordsAfter 0 (hosted st n s) n R) P O) (x .station)) (sym e) k),
-        t ∙ told-zero (hostFirst B n) (step st c) f,
-      )
-
-  -- ---- a drop
-  drop-goes : (k : ℕ) → Goes (drop k)
-  unfolding leftOf toldOf step dropOf dropPool
-  drop-goes k = (go (ltb k (length (waiting P))) refl, told-zero (checkPool P) (step st (drop k)) (w .pool-fine))
-    where
-      go : (t : Bool) → ltb k (length (waiting P)) ≡ t → Kept (all I R (dropPool B k) O) (dropOf st k .station)
-      go true t =
-          let n = length-waiting P in
-          let h : k < count P = let l = ltb-true k (length (waiting P)) t in omega arith in
-          let r = there-of P k (w .pool-fine) h in
-          simp (t, w .pool-fine) (pool-kept I R P O w (removed P k) (without k (waiting P)) (check-removed P k r) (waiting-removed P k r))
-      go false t = simp (t, w .pool-fine) (same-kept I R P O w)
-
-  -- ---- a switch
-  turned : ℕ → Bool → ℕ
-  turned n up = cond up (joined (onOf O) (only n)) (minus (onOf O) (only n))
-
-  turned-known : (n : ℕ) (up : Bool) → n < nodes → turned n up ≤ everyNode
-  unfolding turned
-  turned-known n true h =
-      let e = only-small n (omega arith) in
-      let p : 2 ^ n ≤ 2 ^ 12 = pow-mono {i = n} {j = 12} (omega arith) in
-      joined-known (onOf O) (only n) (own-is I R P O w .mask) (omega arith)
-  turned-known n false h = within-known (minus (onOf O) (only n)) (onOf O)
-      (contains-within (minus (onOf O) (only n)) (onOf O)
-      (λ i t. and-left (contains (onOf O) i) (not (contains (only n) i)) (subst T (contains-minus (onOf O) (only n) i) t)))
-      (own-is I R P O w .mask)
-
-  switch-goes : (n : ℕ) (up : Bool) → Goes (switch n up)
-  unfolding leftOf toldOf step switchOf switchOwn turned
-  switch-goes n up = (go (noNode n) refl, told-zero (ownNumber O) (step st (switch n up)) (w .own-fine))
-    where
-      m : ℕ
-      m = turned n up
-
-      go : (t : Bool) → noNode n ≡ t → Kept (all I R P (switchOwn B n up)) (switchOf st n up .station)
-      go true t = simp (t, w .own-fine) (same-kept I R P O w)
-      go false t =
-          let l : n < nodes = ltb-true n nodes (not-false (ltb n nodes) t) in
-          let h = turned-known n up l in
-          let z = own-is I R P O w .size in
-          let g = get-put 2 O 0 (turned n up) (omega arith) (omega arith) in
-          simp (t, w .own-fine) (own-kept I R P O w (put 2 O 0 (turned n up)) (nowOn (ownOf O) (turned n up))
-          (mask-fine (put 2 O 0 (turned n up)) (length-put 2 O 0 (turned n up) ∙ z)
-          (subst (λ (k : ℕ). k ≤ everyNode) (sym g) h)) (ap (nowOn (ownOf O)) g))
-
-  -- ---- a send
-  send-first : (n : ℕ) → sendFirst B n ≡ 0
-  unfolding sendFirst lower
-  send-first n = simp (host-first I R P O w n, w .pool-fine)
-
-  module _ (n to t : ℕ) where
-    abbrev kind : ℕ
-    kind = dueKind tree (recordIn R n) to t
-
-    abbrev message : Message
-    message = messageDue (recordIn R n) n to t kind
-
+  module _ (n : ℕ) (m : BeginWith) (day minute : ℕ) where
     abbrev number : ℕ
-    number = sendNumber st n to t message (not (eqb kind 0))
+    number = begunNumber v n m day minute
 
-    -- a message that goes is well formed, and there is room for it
-    may-go : number ≡ 0 → eqb kind 0 ≡ false → (wellFormed message ≡ true) × (count P < mostWaiting)
-    unfolding sendNumber
-    may-go e d = go (contains (onOf O) n) refl
+    abbrev began : Outcome
+    began = step v (begin n m day minute)
+
+    abbrev withRecords : List ℕ → Lent
+    withRecords l = record { station = all (B .images) l (B .pool) (B .own); settings = b .settings }
+
+    begun-is : eqb number 0 ≡ true → began ≡ by v (stepOf (stationOf B) (beginStep n m))
+    unfolding step begunOf
+    begun-is t = simp t
+
+    stayed-is : eqb number 0 ≡ false → began ≡ refusedWith number v
+    unfolding step begunOf
+    stayed-is t = simp t
+
+    begin-taken : eqb number 0 ≡ true → beginRecords b n m day minute ≡ hostRecords B n (beginStep n m)
+    unfolding beginRecords recordsAfter
+    begin-taken t = simp (begin-first n, begun-is t, host-first (B .images) (B .records) (B .pool) (B .own) (w .station) n)
+
+    begin-refused : eqb number 0 ≡ false → beginRecords b n m day minute ≡ B .records
+    unfolding beginRecords
+    begin-refused t = simp (begin-first n, stayed-is t, t)
+
+    begin-left : Stepped B (beginStep n m) → Kept (withRecords (beginRecords b n m day minute)) (began .service)
+    unfolding stepLeft
+    begin-left z = go (eqb number 0) refl
       where
-        rest : ℕ
-        rest = cond (not (eqb kind 0) && not (wellFormed message)) 3 (cond (full st) 12 0)
+        same : (l : List ℕ) (u : Outcome) → beginRecords b n m day minute ≡ l → began ≡ u → Kept (withRecords l) (u .service)
+            → Kept (withRecords (beginRecords b n m day minute)) (began .service)
+        same l u p q = subst₂ (λ (l : List ℕ) (u : Outcome). Kept (withRecords l) (u .service)) (sym p) (sym q)
 
-        formed : (f : Bool) → (not (eqb kind 0) && not f) ≡ false → f ≡ true
-        formed true q = refl
-        formed false q = sym (sym (ap (λ (b : Bool). not b && true) d) ∙ q)
+        go : (t : Bool) → eqb number 0 ≡ t → Kept (withRecords (beginRecords b n m day minute)) (began .service)
+        go true t = same (hostRecords B n (beginStep n m)) (by v (stepOf (stationOf B) (beginStep n m))) (begin-taken t) (begun-is t) (
+          record { station = z .whole; settings-long = w .settings-long; settings-fine = w .settings-fine },
+          λ i. record { machine = z .station i; settings = v .settings },
+        )
+        go false t = same (B .records) (refusedWith number v) (begin-refused t) (stayed-is t) (w, refl)
 
-        go : (a : Bool) → contains (onOf O) n ≡ a → (wellFormed message ≡ true) × (count P < mostWaiting)
-        go true p =
-            let a = passed-number (firstOf (dueRefusals (recordIn R n) n to t)) rest (sym (simp p) ∙ e) in
-            let b = past (not (eqb kind 0) && not (wellFormed message)) 2 _ (a .1) in
-            let f = past (full st) 11 0 (b .1) in
-            let l = ltb-true (length (waiting P)) mostWaiting (not-false (ltb (length (waiting P)) mostWaiting) (f .0)) in
-            let c = length-waiting P in
-            (formed (wellFormed message) (b .0), omega arith)
-        go false p = absurd (off-number (firstOf (dueRefusals (recordIn R n) n to t)) (sym (simp p) ∙ e))
+    begin-goes : Stepped B (beginStep n m) → Goes b (begin n m day minute)
+    unfolding leftOf toldOf
+    begin-goes z = record { kept = begin-left z; told = told-zero (beginFirst b n) began (begin-first n) }
 
-    -- by whether the send is refused and whether a message is due
-    out : Bool → Bool → Outcome
-    out a b = cond a (cond (not b) (putting (encode message) st) (taken 0 st)) (refusedWith number st)
+  -- ---- a load
+  load-first : (n : ℕ) (list : List ℕ) → loadFirst b n list ≡ tableNumber list
+  unfolding loadFirst lower
+  load-first n list = simp (w .station .own-fine, first-zero n)
 
-    send-kept : (a b : Bool) → eqb number 0 ≡ a → eqb kind 0 ≡ b → Kept (all I R (poolAfter 0 (out a b) P) O) (out a b .station)
-    unfolding poolAfter putInto out
-    send-kept true true p q = same-kept I R P O w
-    send-kept true false p q =
-        let m = may-go (eqb-true number 0 p) q in
-        let r : Room P (length (encode message)) = record { pool = fine P (w .pool-fine); size = length-bounds message (m .0) .1; slot = m .1 } in
-        pool-kept I R P O w (added P (encode message)) (waiting P ++ (encode message ∷ [])) (check-added P (encode message) r)
-        (waiting-added P (encode message) r)
-    send-kept false b p q = simp p (same-kept I R P O w)
+  module _ (n : ℕ) (list : List ℕ) where
+    abbrev s : List ℕ
+    s = loaded (v .settings n) list
 
-    send-goes : Goes (send n to t)
-    unfolding leftOf toldOf step sendOf out
-    send-goes = (
-      subst (λ (f : ℕ). Kept (all I R (poolAfter f (sendOf st n to t) P) O) (sendOf st n to t .station)) (sym (send-first n))
-          (send-kept (eqb number 0) (eqb kind 0) refl refl),
-      told-zero (sendFirst B n) (step st (send n to t)) (send-first n),
-    )
+    abbrev o : Outcome
+    o = step v (loadHours n list)
 
-  -- ---- a delivery
-  module _ (k : ℕ) (kept : Bool) where
-    abbrev m : List ℕ
-    m = messageAt P k
+    abbrev S : List ℕ
+    S = b .settings
 
-    abbrev made : Outcome
-    made = step st (delivery k kept)
+    abbrev with : List ℕ → Lent
+    with l = record { station = B; settings = l }
 
-    -- the buffers that a delivery leaves, where they are known
-    from-left : (a : Rattle.buffers.specs.declared.Answer.Answer) (i r p : List ℕ) (s : Station) → Left I R P O k kept a i r p → Kept (all i r p O) s
-        → Kept (all (deliveryImages B k kept) (deliveryRecords B k kept) (deliveryPool B k kept) O) s
-    from-left a i r p s l t = subst (λ (b : Buffers). Kept b s) (λ j. all (l .1 .0 j) (l .1 .1 .0 j) (l .1 .1 .1 j) O) t
+    -- a faulty table is refused first
+    faulty-number : eqb (tableNumber list) 0 ≡ false → loadNumber v n list ≡ tableNumber list
+    unfolding loadNumber
+    faulty-number t = simp t
 
-    delivered : Type 0
-    delivered = Kept (all (deliveryImages B k kept) (deliveryRecords B k kept) (deliveryPool B k kept) O) (made .station)
+    refused-is : eqb (loadNumber v n list) 0 ≡ false → o ≡ refusedWith (loadNumber v n list) v
+    unfolding step loadOf
+    refused-is t = simp t
 
-    -- a step that is refused leaves the station
-    refused-kept : (a : Rattle.buffers.specs.declared.Answer.Answer) (n : ℕ) → Left I R P O k kept a I R P → made ≡ refusedWith n st → delivered
-    unfolding delivered
-    refused-kept a n l e = from-left a I R P (made .station) l
-        (subst (λ (x : Outcome). Kept B (x .station)) (sym e) (same-kept I R P O w))
+    taken-is : eqb (loadNumber v n list) 0 ≡ true → o ≡ taken (withSettings v n s)
+    unfolding step loadOf
+    taken-is t = simp t
 
-    z0 : buffersNumber B ≡ 0
-    z0 = buffers-first I R P O w
-
-    none-kept : (x : ℕ) → x ≡ cond (ltb k (count P)) (checkOf m) 5 → (x ≡ 0 → ⊥) → delivered
-    unfolding step deliveryOf
-    none-kept x e h = refused-kept (answerWith x 0) x (no-message I R P O k kept z0 x e h) (go (ltb k (count P)) refl)
+    load-told : loadTold b n list ≡ answerWith (o .number) (o .answer)
+    unfolding told
+    load-told = go (eqb (tableNumber list) 0) refl
       where
-        go : (t : Bool) → ltb k (count P) ≡ t → made ≡ refusedWith x st
-        go true t =
-            let q : ltb k (length (waiting P)) ≡ true = ap (ltb k) (length-waiting P) ∙ t in
-            let g = getD-waiting P k (ltb-true k (count P) t) in
-            let u : x ≡ checkOf m = e ∙ simp t in
-            simp (q, g, ne-eqb (checkOf m) 0 (λ y. h (u ∙ y))) (ap (λ (y : ℕ). refusedWith y st) (sym u))
+        go : (t : Bool) → eqb (tableNumber list) 0 ≡ t → loadTold b n list ≡ answerWith (o .number) (o .answer)
+        go true t = told-zero (loadFirst b n list) o (load-first n list ∙ eqb-true (tableNumber list) 0 t)
         go false t =
-            let q : ltb k (length (waiting P)) ≡ false = ap (ltb k) (length-waiting P) ∙ t in
-            simp q (ap (λ (y : ℕ). refusedWith y st) (sym (e ∙ simp t)))
+            let e = faulty-number t in
+            let q = refused-is (ap (λ (k : ℕ). eqb k 0) e ∙ t) in
+            simp (load-first n list, t, q) (ap (λ (k : ℕ). answerWith k 0) (sym e))
 
-    module _ (h : k < count P) (e : checkOf m ≡ 0) where
-      abbrev n : ℕ
-      n = toOf m
+    -- refused: the settings stay
+    load-refused : eqb (loadNumber v n list) 0 ≡ false → loadSettings b n list ≡ S
+    unfolding loadSettings
+    load-refused t = go (eqb (loadFirst b n list) 0) refl
+      where
+        go : (f : Bool) → eqb (loadFirst b n list) 0 ≡ f → loadSettings b n list ≡ S
+        go true f = simp (f, refused-is t, t)
+        go false f = simp f
+
+    -- taken: the table is accepted, the node is one, and its settings have the table
+    module _ (t : eqb (loadNumber v n list) 0 ≡ true) where
+      none : loadNumber v n list ≡ 0
+      none = eqb-true (loadNumber v n list) 0 t
+
+      table-fine : tableNumber list ≡ 0
+      table-fine = go (eqb (tableNumber list) 0) refl
+        where
+          go : (f : Bool) → eqb (tableNumber list) 0 ≡ f → tableNumber list ≡ 0
+          go true f = eqb-true (tableNumber list) 0 f
+          go false f = sym (faulty-number f) ∙ none
 
       small : n < nodes
-      small = receiver-node m e
+      unfolding loadNumber
+      small = go (ltb n nodes) refl
+        where
+          go : (f : Bool) → ltb n nodes ≡ f → n < nodes
+          go true f = ltb-true n nodes f
+          go false f = absurd (let z : _≡_ {A = ℕ} 4 0 = sym (simp (table-fine, f)) ∙ none in omega (arith, z))
 
-      arrives : made ≡ arriving st k kept m
-      unfolding step deliveryOf
-      arrives = simp (ap (ltb k) (length-waiting P) ∙ lt-ltb k (count P) h, getD-waiting P k h, eq-eqb (checkOf m) 0 e)
+      its-own : v .settings n ≡ settingsAt S n
+      unfolding settingsIn
+      its-own = simp (lt-ltb n nodes small)
 
-      -- what is left of the pool, alone
-      left-kept : Kept (all I R (leaving P k kept) O) (takenOut st k kept)
-      left-kept = pool-kept I R P O w (leaving P k kept) _ (check-leaving P k kept (w .pool-fine) h) (left-waits P k kept (w .pool-fine) h)
+      own-long : length (v .settings n) ≡ settingsSize
+      own-long = ap length its-own ∙ at-long S (w .settings-long) n small
 
-      off-kept : contains (onOf O) n ≡ false → delivered
-      unfolding delivered arriving
-      off-kept u =
-          let q : made ≡ taken 0 (takenOut st k kept) = arrives ∙ simp u in
-          from-left (answerWith 0 0) I R (leaving P k kept) (made .station) (off I R P O k kept z0 h e u)
-          (subst (λ (x : Outcome). Kept (all I R (leaving P k kept) O) (x .station)) (sym q) left-kept)
+      s-long : length s ≡ settingsSize
+      s-long = loaded-long (v .settings n) list own-long
 
-      module _ (u : contains (onOf O) n ≡ true) where
-        -- ---- at a replica
-        module _ (v : forReplica (kindOf m) ≡ true) where
-          abbrev d : Delivered
-          d = deliver longestMessage (imageAt I n) n m
+      load-taken : loadSettings b n list ≡ withSettingsAt S n s
+      unfolding loadSettings putAt
+      load-taken = simp (load-first n list, table-fine, taken-is t, eq-eqb n n refl)
 
-          is-by : made ≡ by I R P O n k kept d
-          unfolding arriving
-          is-by = arrives ∙ simp (u, v) (at-is I R P O n k kept small)
+      load-kept : Kept (with (withSettingsAt S n s)) (withSettings v n s)
+      load-kept = (
+        record {
+          station = w .station;
+          settings-long = put-long S (w .settings-long) n s small s-long;
+          settings-fine = λ i h. ⊎-elim
+              (λ z. ap settingsNumber (z .1) ∙ loaded-fine (v .settings n) list own-long table-fine)
+              (λ z. ap settingsNumber (z .1) ∙ w .settings-fine i h)
+              (put-at S (w .settings-long) n s small s-long i h);
+        },
+        λ j. record { machine = v .machine; settings = λ i. put-in S (w .settings-long) n s small s-long i j },
+      )
 
-          -- what the replica leaves of the buffers, told of the whole delivery
-          as-left : (a : Rattle.buffers.specs.declared.Answer.Answer) (i p : List ℕ) → Leaves I R P O n k kept a i p (by I R P O n k kept d)
-              → Left I R P O k kept a i R p
-          as-left a i p t = at-replica I R P O k kept z0 h e u v n refl a i p
-              (subst (Leaves I R P O n k kept a i p) (sym (at-is I R P O n k kept small)) t)
-
-          stopped-kept : (d .number ≡ 0 → ⊥) → delivered
-          unfolding by
-          stopped-kept y = refused-kept (answerWith (d .number) 0) (d .number) (as-left (answerWith (d .number) 0) I P (refused-all I R P O n k kept d y))
-              (is-by ∙ simp (ne-eqb (d .number) 0 y))
-
-          crowded : Bool
-          crowded = kept && not (ltb (count P) mostWaiting)
-
-          -- as the station tests it
-          crowded-is : (kept && full st) ≡ crowded
-          unfolding crowded
-          crowded-is = ap (λ (j : ℕ). kept && not (ltb j mostWaiting)) (length-waiting P)
-
-          blocked-kept : d .number ≡ 0 → (crowded && spoken (d .answer)) ≡ true → delivered
-          unfolding by answered crowded spoken
-          blocked-kept y t = refused-kept (answerWith 12 0) 12 (as-left (answerWith 12 0) I P (blocked-all I R P O n k kept d y t))
-              (is-by ∙ go (d .answer) refl)
-            where
-              go : (a : Answer) → d .answer ≡ a → by I R P O n k kept d ≡ refusedWith 12 st
-              go silent q = absurd (none-said crowded (sym (ap (λ (a : Answer). crowded && spoken a) q) ∙ t))
-              go (says x) q = simp (eq-eqb (d .number) 0 y, q, crowded-is, all-said crowded (sym (ap (λ (a : Answer). crowded && spoken a) q) ∙ t))
-
-          -- taken: the image, then the pool with the answer at its end
-          taken-kept : Proper (made .station) → d .number ≡ 0 → Fine (d .answer) → (crowded && spoken (d .answer)) ≡ false → delivered
-          unfolding delivered by answered crowded spoken said putAt
-          taken-kept z y f t =
-              from-left (answerWith 0 0) (withImageAt I n (d .image)) R _ (made .station)
-              (as-left (answerWith 0 0) (withImageAt I n (d .image)) _ (taken-all I R P O n k kept (w .pool-fine) h d y f t))
-              (go (d .answer) refl)
-            where
-              q : eqb (d .number) 0 ≡ true
-              q = eq-eqb (d .number) 0 y
-
-              image-long : length (putAt (imageIn I) n (d .image) n) ≡ imageSize shape → length (d .image) ≡ imageSize shape
-              image-long l = subst (λ (b : Bool). length (cond b (d .image) (imageIn I n)) ≡ imageSize shape) (same n) l
-
-              silent-is : d .answer ≡ silent → by I R P O n k kept d ≡ taken 0 (withImage (takenOut st k kept) n (d .image))
-              silent-is a = simp (q, a)
-
-              go : (a : Answer) → d .answer ≡ a
-                  → Kept (all (withImageAt I n (d .image)) R (answeredBy (leaving P k kept) (said (d .answer))) O) (made .station)
-              go silent a =
-                  let s = is-by ∙ silent-is a in
-                  let l = subst (λ (x : Outcome). length (x .station .images n) ≡ imageSize shape) s (z .sized n) in
-                  let i = image-kept I R (leaving P k kept) O (left-kept .0) n (d .image) small (image-long l) in
-                  subst (λ (x : Outcome). Kept (all (withImageAt I n (d .image)) R (answeredBy (leaving P k kept) (said (d .answer))) O) (x .station))
-                  (sym s)
-                  (simp a (i .0, i .1 ∙ ap (λ (x : Station). withImage x n (d .image)) (left-kept .1)))
-              go (says x) a =
-                  let c = not-said crowded (sym (ap (λ (y : Answer). crowded && spoken y) a) ∙ t) in
-                  let g = length-bounds x (subst Fine a f) in
-                  let g0 = g .0 in
-                  let r = has-room I R P O n k kept (w .pool-fine) h c (length (encode x)) (g .1) in
-                  let b : by I R P O n k kept d ≡ putting (encode x) (withImage (takenOut st k kept) n (d .image)) = simp (q, a, crowded-is, c) in
-                  let s = is-by ∙ b in
-                  let l = subst (λ (y : Outcome). length (y .station .images n) ≡ imageSize shape) s (z .sized n) in
-                  let p = pool-kept I R (leaving P k kept) O (left-kept .0) (added (leaving P k kept) (encode x)) _
-                  (check-added (leaving P k kept) (encode x) r)
-                  (waiting-added (leaving P k kept) (encode x) r
-                  ∙ ap (λ (m : List (List ℕ)). m ++ (encode x ∷ [])) (left-waits P k kept (w .pool-fine) h)) in
-                  let i = image-kept I R (added (leaving P k kept) (encode x)) O (p .0) n (d .image) small (image-long l) in
-                  let v : answeredBy (leaving P k kept) (said (d .answer)) ≡ added (leaving P k kept) (encode x) = ap (answeredBy (leaving P k kept))
-                  (ap said a)
-                  ∙ simp (lt-ltb 0 (length (encode x)) (omega arith)) (add-after (leaving P k kept) (encode x) r) in
-                  subst (λ (y : Outcome). Kept (all (withImageAt I n (d .image)) R (answeredBy (leaving P k kept) (said (d .answer))) O) (y .station))
-                  (sym s)
-                  (subst (λ (m : List ℕ). Kept (all (withImageAt I n (d .image)) R m O) (sent (withImage (takenOut st k kept) n (d .image)) (encode x)))
-                  (sym v)
-                  (i .0, i .1 ∙ ap (λ (y : Station). withImage y n (d .image)) (p .1)))
-
-          replica-kept : Proper (made .station) → delivered
-          unfolding Brought
-          replica-kept z = go (brought (imageAt I n) n m)
-            where
-              either : d .number ≡ 0 → Fine (d .answer) → (t : Bool) → (crowded && spoken (d .answer)) ≡ t → delivered
-              either y f true t = blocked-kept y t
-              either y f false t = taken-kept z y f t
-
-              go : Brought (imageAt I n) d → delivered
-              go (inl y) = stopped-kept (y .0)
-              go (inr y) = either (y .0) (y .1) (crowded && spoken (d .answer)) refl
-
-        -- ---- at a coordinator
-        module _ (v : forReplica (kindOf m) ≡ false) where
-          abbrev s : Step
-          s = receiveOf tree (recordIn R n) n m
-
-          is-there : made ≡ atCoordinator st k kept n m
-          unfolding arriving
-          is-there = arrives ∙ simp (u, v)
-
-          coordinator-kept : Proper (made .station) → delivered
-          unfolding delivered atCoordinator putAt
-          coordinator-kept z = go (eqb (s .number) 0) refl
-            where
-              damaged : recordDamaged R n ≡ false
-              damaged = none-damaged I R P O w n
-
-              go : (t : Bool) → eqb (s .number) 0 ≡ t → delivered
-              go true t =
-                  let x = heard-all I R P O n k kept s refl (eqb-true (s .number) 0 t) in
-                  let c = s .coordinator in
-                  let b : made ≡ taken (s .answer) (withRecord (takenOut st k kept) n c) = is-there ∙ simp t in
-                  let y = subst (λ (x : Outcome). Proper (x .station)) b z in
-                  let i : putAt (recordIn R) n c n ≡ c = simp (same n) in
-                  let r = record-kept I R (leaving P k kept) O (left-kept .0) n c small (subst (Meets tree) i (y .meets n)) (subst Fits i (y .fits n)) in
-                  from-left _ I _ (leaving P k kept) (made .station)
-                  (at-sound I R P O k kept z0 h e u v n refl damaged _ _ _ (x .0) (x .1 .0) (x .1 .1))
-                  (subst (λ (x : Outcome). Kept (all I (withRecordAt R n (bytesOf c)) (leaving P k kept) O) (x .station)) (sym b)
-                  (r .0, r .1 ∙ ap (λ (x : Station). withRecord x n c) (left-kept .1)))
-              go false t =
-                  let x = stopped-all I R P O n k kept s refl (eqb-false (s .number) 0 t) in
-                  refused-kept _ (s .number) (at-sound I R P O k kept z0 h e u v n refl damaged _ _ _ (x .0) (x .1 .0) (x .1 .1)) (is-there ∙ simp t)
-
-    -- ---- whatever waits, and wherever it goes
-    delivery-kept : Proper (made .station) → delivered
-    delivery-kept z = go (eqb number 0) refl
+    load-left : Kept (with (loadSettings b n list)) (o .service)
+    load-left = go (eqb (loadNumber v n list) 0) refl
       where
-        number : ℕ
-        number = cond (ltb k (count P)) (checkOf m) 5
+        same : (l : List ℕ) (u : Outcome) → loadSettings b n list ≡ l → o ≡ u → Kept (with l) (u .service) → Kept (with (loadSettings b n list)) (o .service)
+        same l u p q = subst₂ (λ (l : List ℕ) (u : Outcome). Kept (with l) (u .service)) (sym p) (sym q)
 
-        at-node : Waits P k → (up r : Bool) → contains (onOf O) (toOf m) ≡ up → forReplica (kindOf m) ≡ r → delivered
-        at-node x false r p q = off-kept (x .message) (x .well) p
-        at-node x true true p q = replica-kept (x .message) (x .well) p q z
-        at-node x true false p q = coordinator-kept (x .message) (x .well) p q z
+        go : (t : Bool) → eqb (loadNumber v n list) 0 ≡ t → Kept (with (loadSettings b n list)) (o .service)
+        go true t = same (withSettingsAt S n s) (taken (withSettings v n s)) (load-taken t) (taken-is t) (load-kept t)
+        go false t = same S (refusedWith (loadNumber v n list) v) (load-refused t) (refused-is t) (w, refl)
 
-        go : (t : Bool) → eqb number 0 ≡ t → delivered
-        go true t = at-node (waits-of P k (eqb-true number 0 t)) (contains (onOf O) (toOf m)) (forReplica (kindOf m)) refl refl
-        go false t = none-kept number refl (eqb-false number 0 t)
+    load-goes : Goes b (loadHours n list)
+    unfolding leftOf toldOf
+    load-goes = record { kept = load-left; told = load-told }
 
-    first-none : deliveryFirst B k ≡ 0
-    unfolding deliveryFirst
-    first-none = simp (z0, none-damaged I R P O w (toOf (messageIn B k)), and-false (reaches B k))
-
-    delivery-goes : Proper (made .station) → Goes (delivery k kept)
-    unfolding leftOf toldOf delivered
-    delivery-goes z = (delivery-kept z, told-zero (deliveryFirst B k) made first-none)
-
-  -- ---- every step
-  pub goes : (c : Call) → Proper (step st c .station) → Goes c
+  -- ---- a step of the machine
+  plain-goes : (c : Step) (p : isBegin c ≡ false) → Stepped B c → Goes b (plain c p)
   unfolding leftOf toldOf step
-  goes (begin n a) z = host-goes n (begin n a) (beginOf tree (recordIn R n) n a) refl refl refl z
-  goes (openRead n t) z = host-goes n (openRead n t) (openOf (recordIn R n) n t 0) refl refl refl z
-  goes (openWrite n t) z = host-goes n (openWrite n t) (openOf (recordIn R n) n t 1) refl refl refl z
-  goes (setValue n t v) z = host-goes n (setValue n t v) (setOf (recordIn R n) n t v) refl refl refl z
-  goes (found n t) z = host-goes n (found n t) (foundOf tree (recordIn R n) n t) refl refl refl z
-  goes (reselect n live d) z = host-goes n (reselect n live d) (reselectOf tree (recordIn R n) n live d) refl refl refl z
-  goes (requestCommit n) z = host-goes n (requestCommit n) (requestCommitOf tree (recordIn R n) n) refl refl refl z
-  goes (abort n) z = host-goes n (abort n) (abortOf (recordIn R n) n) refl refl refl z
-  goes (send n to t) z = send-goes n to t
-  goes (delivery k kept) z = delivery-goes k kept z
-  goes (drop k) z = drop-goes k
-  goes (switch n up) z = switch-goes n up
+  plain-goes c p s = record {
+    kept = (
+      record { station = s .whole; settings-long = w .settings-long; settings-fine = w .settings-fine },
+      λ i. record { machine = s .station i; settings = v .settings },
+    );
+    told = λ i. answerWith (s .number i) (s .answer i);
+  }
+
+  -- any step
+  pub goes : ((m : Step) → StepTyped m → Stepped B m) → (c : Call) → Typed c → Goes b c
+  goes f (begin n m day minute) t = begin-goes n m day minute (f (beginStep n m) t)
+  goes f (loadHours n list) t = load-goes n list
+  goes f (plain c p) t = plain-goes c p (f c t)

@@ -1,64 +1,179 @@
--- One order: what each kind of step tells and leaves, in terms of all four buffers.
+-- One order: what each kind of step tells and leaves, in terms of all five buffers.
 use mathlib.Core.Path.{_≡_, refl, sym, ap, subst, _∙_}
-use mathlib.Core.Bool.{Bool}
-use mathlib.Core.List.{List}
-use Prim.Native.Nat.{ℕ}
+use mathlib.Core.Bool.{Bool, true, false, cond}
+use mathlib.Core.List.{List, []}
+use Prim.Native.Nat.{ℕ, _<_, _^_}
 use Rattle.coordinator.specs.declared.Step.{Step}
 use Rattle.buffers.specs.declared.Answer.{Answer}
-use Rattle.steps.specs.Step.{Call, send, delivery, drop, switch, hosted, step}
-use Rattle.buffers.specs.Buffers.{Buffers, stationOf, all, ends}
-use Rattle.station_calls.specs.Calls.{hostTold, hostRecords, switching, switchTold, switchOwn}
+use Rattle.buffers.specs.Buffers.{Buffers, stationOf, all, ends, answerWith}
+use Rattle.steps.specs.Step.{hosted, send, delivery, drop, switch}
+use Rattle.steps.specs.Step.{Call as Step-call, step as stepOf}
+use Rattle.station_calls.specs.Calls.{switching, switchTold, switchOwn}
+use Rattle.station_calls.specs.Calls.{hostTold as callTold, hostRecords as callRecords}
 use Rattle.station.specs.Messages.{sending, sendTold, sendPool, dropping, dropTold, dropPool, deliveryTold, deliveryImages, deliveryRecords, deliveryPool}
-use Rattle.history.specs.Claims.{Typed}
+use Rattle.holding.specs.Left.{toldOf as stepTold, leftOf as stepLeft, hostLeft as stepHostLeft}
+use Rattle.holding.proofs.Same.{host-told, host-records, send-same, drop-same, switch-same}
+use Rattle.history.specs.Claims.{Distances}
+use Rattle.service.specs.Service.{Call, begin, loadHours, plain, isBegin}
+use Rattle.service.specs.Lent.{Lent, lent, beginTold, beginRecords, loadTold, loadSettings}
+use Rattle.accounts.specs.Accounts.{Typed}
+use Rattle.orders.specs.declared.Kind.{Kind}
+use Rattle.orders.specs.declared.Kind.the-variants.{Begin, OpenRead, OpenWrite, SetValue, Found, Reselect, RequestCommit, Abort, LoadHours}
+use Rattle.orders.specs.declared.Kind.the-variants.{Send, Deliver, Drop, Switch}
 use Rattle.orders.specs.declared.Order.{Order}
-use Rattle.runs.specs.Order.{callOf}
-use Rattle.runs.specs.Left.{toldOf, hostLeft, leftOf}
+use Rattle.runs.specs.Order.{isHost, callBy, callOf}
+use Rattle.runs.specs.Left.{toldOf, leftOf, hostTold, hostLeft, otherTold, otherLeft}
 use Rattle.runs.specs.Held.{Claimed}
 use Rattle.runs.proofs.Demand.{claimed}
-use Rattle.runs.proofs.Same.{host-told, host-records, send-same, drop-same, switch-same}
+use Rattle.runs.proofs.Same.{begin-same, load-same}
 
+-- ---- an order's numbers are of their types, and so are the step's
+pub order-typed : (o : Order) (list : List ℕ) → o .value < 2 ^ 64 → o .with .timestamp < 2 ^ 32 → Distances (o .with .distances) → Typed (callOf o list)
+unfolding callBy
+order-typed o list v t d = by (o .kind)
+  where
+    by : (k : Kind) → Typed (callBy k o list)
+    by Begin = (t, d)
+    by OpenRead = tt
+    by OpenWrite = tt
+    by SetValue = v
+    by Found = tt
+    by Reselect = d
+    by RequestCommit = tt
+    by Abort = tt
+    by LoadHours = tt
+    by Send = tt
+    by Deliver = tt
+    by Drop = tt
+    by Switch = tt
+
+-- ---- a host's call
+module _ (R O S list : List ℕ) (o : Order) where
+  abbrev pub HostTells : Answer → List ℕ → List ℕ → Type 0
+  HostTells a r s = ((I P : List ℕ) → a ≡ hostTold (lent I R P O S) o list) × ((I P : List ℕ) → lent I r P O s ≡ hostLeft (lent I R P O S) o list)
+
+  -- by its kind
+  by-kind : (k : Kind) → o .kind ≡ k → isHost k ≡ true → (a : Answer) (r s : List ℕ)
+      → ((I P : List ℕ) → a ≡ toldOf (lent I R P O S) (callBy k o list)) → ((I P : List ℕ) → lent I r P O s ≡ leftOf (lent I R P O S) (callBy k o list))
+      → HostTells a r s
+  by-kind k e h a r s t l = (
+    λ I P. t I P ∙ sym (ap (λ (j : Kind). cond (isHost j) (toldOf (lent I R P O S) (callBy j o list)) (answerWith 5 0)) e
+        ∙ ap (λ (x : Bool). cond x (toldOf (lent I R P O S) (callBy k o list)) (answerWith 5 0)) h),
+    λ I P. l I P ∙ sym (ap (λ (j : Kind). cond (isHost j) (leftOf (lent I R P O S) (callBy j o list)) (lent I R P O S)) e
+        ∙ ap (λ (x : Bool). cond x (leftOf (lent I R P O S) (callBy k o list)) (lent I R P O S)) h),
+  )
+
+  pub plain-tells : (k : Kind) → o .kind ≡ k → isHost k ≡ true → (n : ℕ) (c : Step-call) (p : isBegin c ≡ false) (s : Step) → callBy k o list ≡ plain c p
+      → ((I P : List ℕ) → stepTold (all I R P O) c ≡ callTold (all I R P O) n c)
+      → ((I P : List ℕ) → stepLeft (all I R P O) c ≡ stepHostLeft (all I R P O) n c)
+      → ((I P : List ℕ) → stepOf (stationOf (all I R P O)) c ≡ hosted (stationOf (all I R P O)) n s)
+      → (a : Answer) (r : List ℕ) → a ≡ callTold (ends R O) n c → r ≡ callRecords (ends R O) n c → HostTells a r S
+  unfolding toldOf leftOf
+  plain-tells k e h n c p s f t l x a r u v = by-kind k e h a r S
+      (λ I P. u ∙ host-told I R P O n c s (x [] []) (x I P) ∙ sym (t I P) ∙ ap (toldOf (lent I R P O S)) (sym f))
+      (λ I P. (λ j. record { station = (ap (λ (m : List ℕ). all I m P O) (v ∙ host-records I R P O n c s (x [] []) (x I P)) ∙ sym (l I P)) j; settings = S })
+      ∙ ap (leftOf (lent I R P O S)) (sym f))
+
+  pub begin-tells : o .kind ≡ Begin → (a : Answer) (r : List ℕ)
+      → a ≡ beginTold (lent [] R [] O S) (o .node) (o .with) (o .day) (o .minute)
+      → r ≡ beginRecords (lent [] R [] O S) (o .node) (o .with) (o .day) (o .minute) → HostTells a r S
+  unfolding toldOf leftOf callBy
+  begin-tells e a r u v = by-kind Begin e refl a r S
+      (λ I P. u ∙ begin-same I R P O S (o .node) (o .with) (o .day) (o .minute) .0)
+      (λ I P. ap (λ (m : List ℕ). lent I m P O S) (v ∙ begin-same I R P O S (o .node) (o .with) (o .day) (o .minute) .1))
+
+  pub load-tells : o .kind ≡ LoadHours → (a : Answer) (s : List ℕ) → a ≡ loadTold (lent [] [] [] O S) (o .node) list
+      → s ≡ loadSettings (lent [] [] [] O S) (o .node) list → HostTells a R s
+  unfolding toldOf leftOf callBy
+  load-tells e a s u v = by-kind LoadHours e refl a R s
+      (λ I P. u ∙ load-same I R P O S (o .node) list .0)
+      (λ I P. ap (λ (m : List ℕ). lent I R P O m) (v ∙ load-same I R P O S (o .node) list .1))
+
+  pub host-none : (k : Kind) → o .kind ≡ k → isHost k ≡ false → (a : Answer) → a ≡ answerWith 5 0 → HostTells a R S
+  host-none k e h a u =
+      let f : isHost (o .kind) ≡ false = ap isHost e ∙ h in (
+        (λ I P. u ∙ sym (ap (λ (x : Bool). cond x (toldOf (lent I R P O S) (callOf o list)) (answerWith 5 0)) f)),
+        (λ I P. sym (ap (λ (x : Bool). cond x (leftOf (lent I R P O S) (callOf o list)) (lent I R P O S)) f)),
+      )
+
+-- ---- a send, a delivery, a drop, a switch
 module _ (I R P O : List ℕ) (o : Order) where
+  abbrev pub OtherTells : Answer → List ℕ → List ℕ → List ℕ → List ℕ → Type 0
+  OtherTells a i r p w = ((S list : List ℕ) → a ≡ otherTold (lent I R P O S) o list) × ((S list : List ℕ) → lent i r p w S ≡ otherLeft (lent I R P O S) o list)
+
   abbrev B : Buffers
   B = all I R P O
 
-  abbrev pub Tells : Answer → List ℕ → List ℕ → List ℕ → List ℕ → Type 0
-  Tells a i r p w = (a ≡ toldOf B (callOf o)) × ((all i r p w ≡ leftOf B (callOf o)) × Claimed B (callOf o) a (all i r p w))
-
-  -- by the call that the order names
-  by-call : (c : Call) → callOf o ≡ c → Typed c → (a : Answer) (i r p w : List ℕ) → a ≡ toldOf B c → all i r p w ≡ leftOf B c → Tells a i r p w
-  by-call c e f a i r p w t l =
-      let m = l ∙ ap (leftOf B) (sym e) in
-      let n = t ∙ ap (toldOf B) (sym e) in
-      let z = subst (λ (x : Answer). Claimed B (callOf o) x (leftOf B (callOf o))) (sym n) (claimed I R P O (callOf o) (subst Typed (sym e) f)) in
-      (n, (m, subst (λ (b : Buffers). Claimed B (callOf o) a b) (sym m) z))
-
-  pub hosted-tells : (n : ℕ) (c : Call) (s : Step) → callOf o ≡ c → Typed c → toldOf B c ≡ hostTold B n c → leftOf B c ≡ hostLeft B n c
-      → step (stationOf (ends R O)) c ≡ hosted (stationOf (ends R O)) n s → step (stationOf B) c ≡ hosted (stationOf B) n s
-      → (a : Answer) (r : List ℕ) → a ≡ hostTold (ends R O) n c → r ≡ hostRecords (ends R O) n c → Tells a I r P O
-  hosted-tells n c s e f t l x y a r p q =
-      by-call c e f a I r P O (p ∙ host-told I R P O n c s x y ∙ sym t) (ap (λ (m : List ℕ). all I m P O) (q ∙ host-records I R P O n c s x y) ∙ sym l)
-
-  pub send-tells : (n to t : ℕ) → callOf o ≡ send n to t → (a : Answer) (p : List ℕ) → a ≡ sendTold (sending R P O) n to t
-      → p ≡ sendPool (sending R P O) n to t → Tells a I R p O
+  other-kind : (k : Kind) → o .kind ≡ k → isHost k ≡ false → (c : Step-call) (q : isBegin c ≡ false) → ((list : List ℕ) → callBy k o list ≡ plain c q)
+      → (a : Answer) (i r p w : List ℕ) → a ≡ stepTold B c → all i r p w ≡ stepLeft B c → OtherTells a i r p w
   unfolding toldOf leftOf
-  send-tells n to t e a p x y =
-      let z = send-same I R P O n to t in
-      by-call (send n to t) e tt a I R p O (x ∙ z .0) (ap (λ (m : List ℕ). all I R m O) (y ∙ z .1))
+  other-kind k e h c q f a i r p w t l = (
+    λ S list. t ∙ ap (toldOf (lent I R P O S)) (sym (f list))
+        ∙ sym (ap (λ (j : Kind). cond (isHost j) (answerWith 5 0) (toldOf (lent I R P O S) (callBy j o list))) e
+        ∙ ap (λ (x : Bool). cond x (answerWith 5 0) (toldOf (lent I R P O S) (callBy k o list))) h),
+    λ S list. ap (λ (m : Buffers). record { station = m; settings = S }) l ∙ ap (leftOf (lent I R P O S)) (sym (f list))
+        ∙ sym (ap (λ (j : Kind). cond (isHost j) (lent I R P O S) (leftOf (lent I R P O S) (callBy j o list))) e
+        ∙ ap (λ (x : Bool). cond x (lent I R P O S) (leftOf (lent I R P O S) (callBy k o list))) h),
+  )
 
-  pub delivery-tells : (k : ℕ) (kept : Bool) → callOf o ≡ delivery k kept → (a : Answer) (i r p : List ℕ) → a ≡ deliveryTold B k kept
-      → i ≡ deliveryImages B k kept → r ≡ deliveryRecords B k kept → p ≡ deliveryPool B k kept → Tells a i r p O
-  unfolding toldOf leftOf
-  delivery-tells k kept e a i r p x y z w = by-call (delivery k kept) e tt a i r p O x (λ j. all (y j) (z j) (w j) O)
+  pub send-tells : o .kind ≡ Send → (a : Answer) (p : List ℕ) → a ≡ sendTold (sending R P O) (o .node) (o .to) (o .object)
+      → p ≡ sendPool (sending R P O) (o .node) (o .to) (o .object) → OtherTells a I R p O
+  unfolding stepTold stepLeft callBy
+  send-tells e a p x y =
+      let z = send-same I R P O (o .node) (o .to) (o .object) in
+      other-kind Send e refl (send (o .node) (o .to) (o .object)) refl (λ list. refl) a I R p O (x ∙ z .0) (ap (λ (m : List ℕ). all I R m O) (y ∙ z .1))
 
-  pub drop-tells : (k : ℕ) → callOf o ≡ drop k → (a : Answer) (p : List ℕ) → a ≡ dropTold (dropping P) k → p ≡ dropPool (dropping P) k → Tells a I R p O
-  unfolding toldOf leftOf
-  drop-tells k e a p x y =
-      let z = drop-same I R P O k in
-      by-call (drop k) e tt a I R p O (x ∙ z .0) (ap (λ (m : List ℕ). all I R m O) (y ∙ z .1))
+  pub delivery-tells : o .kind ≡ Deliver → (a : Answer) (i r p : List ℕ) → a ≡ deliveryTold B (o .place) (o .flag)
+      → i ≡ deliveryImages B (o .place) (o .flag) → r ≡ deliveryRecords B (o .place) (o .flag) → p ≡ deliveryPool B (o .place) (o .flag)
+      → OtherTells a i r p O
+  unfolding stepTold stepLeft callBy
+  delivery-tells e a i r p x y z w =
+      other-kind Deliver e refl (delivery (o .place) (o .flag)) refl (λ list. refl) a i r p O x (λ j. all (y j) (z j) (w j) O)
 
-  pub switch-tells : (n : ℕ) (up : Bool) → callOf o ≡ switch n up → (a : Answer) (w : List ℕ) → a ≡ switchTold (switching O) n up
-      → w ≡ switchOwn (switching O) n up → Tells a I R P w
-  unfolding toldOf leftOf
-  switch-tells n up e a w x y =
-      let z = switch-same I R P O n up in
-      by-call (switch n up) e tt a I R P w (x ∙ z .0) (ap (λ (m : List ℕ). all I R P m) (y ∙ z .1))
+  pub drop-tells : o .kind ≡ Drop → (a : Answer) (p : List ℕ) → a ≡ dropTold (dropping P) (o .place) → p ≡ dropPool (dropping P) (o .place)
+      → OtherTells a I R p O
+  unfolding stepTold stepLeft callBy
+  drop-tells e a p x y =
+      let z = drop-same I R P O (o .place) in
+      other-kind Drop e refl (drop (o .place)) refl (λ list. refl) a I R p O (x ∙ z .0) (ap (λ (m : List ℕ). all I R m O) (y ∙ z .1))
+
+  pub switch-tells : o .kind ≡ Switch → (a : Answer) (w : List ℕ) → a ≡ switchTold (switching O) (o .node) (o .flag)
+      → w ≡ switchOwn (switching O) (o .node) (o .flag) → OtherTells a I R P w
+  unfolding stepTold stepLeft callBy
+  switch-tells e a w x y =
+      let z = switch-same I R P O (o .node) (o .flag) in
+      other-kind Switch e refl (switch (o .node) (o .flag)) refl (λ list. refl) a I R P w (x ∙ z .0) (ap (λ (m : List ℕ). all I R P m) (y ∙ z .1))
+
+  pub other-none : isHost (o .kind) ≡ true → (a : Answer) → a ≡ answerWith 5 0 → OtherTells a I R P O
+  other-none f a u = (
+    λ S list. u ∙ sym (ap (λ (x : Bool). cond x (answerWith 5 0) (toldOf (lent I R P O S) (callOf o list))) f),
+    λ S list. sym (ap (λ (x : Bool). cond x (lent I R P O S) (leftOf (lent I R P O S) (callOf o list))) f),
+  )
+
+-- ---- any order: its function's, with the claims
+module _ (I R P O S list : List ℕ) (o : Order) (t : Typed (callOf o list)) where
+  abbrev b : Lent
+  b = lent I R P O S
+
+  abbrev Tells : Answer → Lent → Type 0
+  Tells a l = (a ≡ toldOf b (callOf o list)) × ((l ≡ leftOf b (callOf o list)) × Claimed b (callOf o list) a l)
+
+  with-claims : (a : Answer) (l : Lent) → a ≡ toldOf b (callOf o list) → l ≡ leftOf b (callOf o list) → Tells a l
+  with-claims a l e f = (
+    e,
+    (
+      f,
+      subst (λ (x : Answer). Claimed b (callOf o list) x l) (sym e)
+          (subst (λ (x : Lent). Claimed b (callOf o list) (toldOf b (callOf o list)) x) (sym f) (claimed b (callOf o list) t)),
+    ),
+  )
+
+  pub host-all : isHost (o .kind) ≡ true → (a : Answer) (r s : List ℕ) → HostTells R O S list o a r s → Tells a (lent I r P O s)
+  host-all h a r s z = with-claims a (lent I r P O s)
+      (z .0 I P ∙ ap (λ (x : Bool). cond x (toldOf b (callOf o list)) (answerWith 5 0)) h)
+      (z .1 I P ∙ ap (λ (x : Bool). cond x (leftOf b (callOf o list)) b) h)
+
+  pub other-all : isHost (o .kind) ≡ false → (a : Answer) (i r p w : List ℕ) → OtherTells I R P O o a i r p w → Tells a (lent i r p w S)
+  other-all h a i r p w z = with-claims a (lent i r p w S)
+      (z .0 S list ∙ ap (λ (x : Bool). cond x (answerWith 5 0) (toldOf b (callOf o list))) h)
+      (z .1 S list ∙ ap (λ (x : Bool). cond x b (leftOf b (callOf o list))) h)

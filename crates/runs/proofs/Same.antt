@@ -1,106 +1,100 @@
--- A step that is not lent a buffer does not look at it: what it tells and leaves is the same whatever stands there.
-use mathlib.Core.Path.{_≡_, refl, sym, ap, _∙_}
-use mathlib.Core.Bool.{Bool, true, false, cond, not, _||_}
-use mathlib.Core.List.{List}
+-- A begin and a load are not lent every buffer, and do not look at the others: what they tell and leave is the same whatever stands there.
+use mathlib.Core.Path.{_≡_, refl, sym, ap, ap₂, _∙_}
+use mathlib.Core.Bool.{Bool, true, false, cond}
+use mathlib.Core.List.{List, []}
 use Prim.Native.Nat.{ℕ}
-use lib.Dec.{eqb, ltb}
-use lib.ListN.{length}
+use lib.Dec.{eqb}
+use borrow.Author.Tests.{eqb-true, eqb-false}
 use Rattle.mask.specs.Mask.{contains}
+use Rattle.coordinator.specs.declared.BeginWith.{BeginWith}
 use Rattle.coordinator.specs.declared.Step.{Step}
 use Rattle.coordinator.specs.System.{tree}
-use Rattle.coordinator.specs.Calls.{noNode}
-use Rattle.due.specs.Kind.{dueKind}
-use Rattle.due.specs.Due.{messageDue}
-use Rattle.pool.specs.Pool.{waiting}
-use Rattle.wire.specs.Encode.{encode}
-use Rattle.steps.specs.Station.{Station}
-use Rattle.steps.specs.Step.{Call, Outcome, refusedWith, taken, putting, hosted, sendNumber, sendOf, dropOf, switchOf, step}
-use Rattle.buffers.specs.Buffers.{onOf, recordIn, stationOf, told, recordsAfter, ends, hostFirst, all}
-use Rattle.station_calls.specs.Calls.{hostTold, hostRecords, switching, switchTold, switchOwn}
-use Rattle.station.specs.Messages.{sending, sendFirst, sendTold, poolAfter, putInto, sendPool, dropping, dropTold, dropPool}
+use Rattle.coordinator.specs.Calls.{beginOf}
+use Rattle.steps.specs.Station.{Station, putAt}
+use Rattle.steps.specs.Step.{Outcome as Taken, begin as beginStep, step as stepOf, hosted}
+use Rattle.buffers.specs.declared.Answer.{Answer}
+use Rattle.buffers.specs.Buffers.{onOf, recordIn, stationOf, all, hostFirst, answerWith}
+use Rattle.frontend.specs.Calls.{beginNumber}
+use Rattle.service.specs.Service.{Service, Outcome, begin, loadHours, refusedWith, by, begunNumber, begunOf, loadNumber, loadOf, step}
+use Rattle.service.specs.Lent.{Lent, lent, serviceOf, settingsIn, told, beginFirst, beginTold, beginRecords, loadFirst, loadTold, loadSettings}
 
-module _ (I R P O : List ℕ) where
-  -- ---- a host call
-  -- a call that is settled at node n
-  module _ (n : ℕ) (c : Call) (s : Step) (e : step (stationOf (ends R O)) c ≡ hosted (stationOf (ends R O)) n s)
-      (a : step (stationOf (all I R P O)) c ≡ hosted (stationOf (all I R P O)) n s) where
-    told-same : (f : ℕ) → told f (hosted (stationOf (ends R O)) n s) ≡ told f (hosted (stationOf (all I R P O)) n s)
-    unfolding told hosted
-    told-same f = by (contains (onOf O) n) (eqb (s .number) 0) refl refl
+module _ (I R P O S : List ℕ) where
+  abbrev a : Lent
+  a = lent [] R [] O S
+
+  abbrev b : Lent
+  b = lent I R P O S
+
+  -- ---- a begin
+  module _ (n : ℕ) (w : BeginWith) (day minute : ℕ) where
+    abbrev s : Step
+    s = beginOf tree (recordIn R n) n w
+
+    -- the machine's own begin
+    made : List ℕ → List ℕ → Taken
+    made images pool = hosted (stationOf (all images R pool O)) n s
+
+    record Alike (x y : Taken) : Type 0 where
+      number : x .number ≡ y .number
+      answer : x .answer ≡ y .answer
+      its-record : x .station .records n ≡ y .station .records n
+
+    alike : Alike (made [] []) (made I P)
+    unfolding made hosted
+    alike = go (contains (onOf O) n) (eqb (s .number) 0) refl refl
       where
-        by : (a b : Bool) → contains (onOf O) n ≡ a → eqb (s .number) 0 ≡ b
-            → told f (hosted (stationOf (ends R O)) n s) ≡ told f (hosted (stationOf (all I R P O)) n s)
-        by true true p q = simp (p, q)
-        by true false p q = simp (p, q)
-        by false b p q = simp p
+        go : (up z : Bool) → contains (onOf O) n ≡ up → eqb (s .number) 0 ≡ z → Alike (made [] []) (made I P)
+        go true true p q = record { number = simp (p, q); answer = simp (p, q); its-record = simp (p, q) }
+        go true false p q = record { number = simp (p, q); answer = simp (p, q); its-record = simp (p, q) }
+        go false z p q = record { number = simp p; answer = simp p; its-record = simp p }
 
-    records-same : (f : ℕ) → recordsAfter f (hosted (stationOf (ends R O)) n s) n R ≡ recordsAfter f (hosted (stationOf (all I R P O)) n s) n R
-    unfolding recordsAfter hosted
-    records-same f = by (contains (onOf O) n) (eqb (s .number) 0) refl refl
+    number : List ℕ → List ℕ → ℕ
+    number images pool = beginNumber (settingsIn S n) day minute (made images pool .number)
+
+    began : Lent → Outcome
+    began c = step (serviceOf c) (begin n w day minute)
+
+    -- by its number
+    taken-is : (images pool : List ℕ) → eqb (number images pool) 0 ≡ true → began (lent images R pool O S)
+        ≡ by (serviceOf (lent images R pool O S)) (made images pool)
+    unfolding began number made step begunOf begunNumber stepOf
+    taken-is images pool e = simp e
+
+    refused-is : (images pool : List ℕ) → eqb (number images pool) 0 ≡ false → began (lent images R pool O S)
+        ≡ refusedWith (number images pool) (serviceOf (lent images R pool O S))
+    unfolding began number made step begunOf begunNumber stepOf
+    refused-is images pool e = simp e
+
+    same-number : number [] [] ≡ number I P
+    unfolding number
+    same-number = ap (beginNumber (settingsIn S n) day minute) (alike .number)
+
+    pub begin-same : (beginTold a n w day minute ≡ beginTold b n w day minute) × (beginRecords a n w day minute ≡ beginRecords b n w day minute)
+    unfolding told beginRecords beginFirst hostFirst began
+    begin-same = go (eqb (number [] []) 0) refl
       where
-        by : (a b : Bool) → contains (onOf O) n ≡ a → eqb (s .number) 0 ≡ b
-            → recordsAfter f (hosted (stationOf (ends R O)) n s) n R ≡ recordsAfter f (hosted (stationOf (all I R P O)) n s) n R
-        by true true p q = simp (p, q)
-        by true false p q = simp (p, q)
-        by false b p q = simp p
+        first : ℕ
+        first = beginFirst b n
 
-    pub host-told : hostTold (ends R O) n c ≡ hostTold (all I R P O) n c
-    unfolding hostFirst
-    host-told = ap (told (hostFirst (ends R O) n)) e ∙ told-same (hostFirst (ends R O) n) ∙ ap (told (hostFirst (all I R P O) n)) (sym a)
+        go : (z : Bool) → eqb (number [] []) 0 ≡ z
+            → (beginTold a n w day minute ≡ beginTold b n w day minute) × (beginRecords a n w day minute ≡ beginRecords b n w day minute)
+        go true z =
+            let e = taken-is [] [] z in
+            let f = taken-is I P (ap (λ (k : ℕ). eqb k 0) (sym same-number) ∙ z) in
+            simp (e, f, alike .number, alike .answer, alike .its-record) (refl, refl)
+        go false z =
+            let q : eqb (number I P) 0 ≡ false = ap (λ (k : ℕ). eqb k 0) (sym same-number) ∙ z in
+            let e = refused-is [] [] z in
+            let f = refused-is I P q in
+            simp (e, f, same-number) (refl, refl)
 
-    pub host-records : hostRecords (ends R O) n c ≡ hostRecords (all I R P O) n c
-    unfolding hostFirst
-    host-records = ap (λ (o : Outcome). recordsAfter (hostFirst (ends R O) n) o n R) e ∙ records-same (hostFirst (ends R O) n)
-        ∙ ap (λ (o : Outcome). recordsAfter (hostFirst (all I R P O) n) o n R) (sym a)
-
-  -- ---- a send
-  module _ (n to t : ℕ) where
-    abbrev kind : ℕ
-    kind = dueKind tree (recordIn R n) to t
-
-    abbrev number : ℕ
-    number = sendNumber (stationOf (all I R P O)) n to t (messageDue (recordIn R n) n to t kind) (not (eqb kind 0))
-
-    -- by whether the send is refused and whether a message is due
-    sent-by : (st : Station) (m : List ℕ) (a b : Bool) → Outcome
-    sent-by st m a b = cond a (cond (not b) (putting m st) (taken 0 st)) (refusedWith number st)
-
-    told-by : (f : ℕ) (m : List ℕ) (a b : Bool) → told f (sent-by (stationOf (sending R P O)) m a b) ≡ told f (sent-by (stationOf (all I R P O)) m a b)
-    unfolding told sent-by
-    told-by f m true true = refl
-    told-by f m true false = refl
-    told-by f m false b = refl
-
-    pool-by : (f : ℕ) (m : List ℕ) (a b : Bool)
-        → poolAfter f (sent-by (stationOf (sending R P O)) m a b) P ≡ poolAfter f (sent-by (stationOf (all I R P O)) m a b) P
-    unfolding poolAfter sent-by
-    pool-by f m true true = refl
-    pool-by f m true false = refl
-    pool-by f m false b = refl
-
-    pub send-same : (sendTold (sending R P O) n to t ≡ sendTold (all I R P O) n to t) × (sendPool (sending R P O) n to t ≡ sendPool (all I R P O) n to t)
-    unfolding sendFirst hostFirst step sendOf sendNumber sent-by
-    send-same = (
-      told-by (sendFirst (all I R P O) n) (encode (messageDue (recordIn R n) n to t kind)) (eqb number 0) (eqb kind 0),
-      pool-by (sendFirst (all I R P O) n) (encode (messageDue (recordIn R n) n to t kind)) (eqb number 0) (eqb kind 0),
-    )
-
-  -- ---- a drop and a switch
-  pub drop-same : (k : ℕ) → (dropTold (dropping P) k ≡ dropTold (all I R P O) k) × (dropPool (dropping P) k ≡ dropPool (all I R P O) k)
-  unfolding told dropPool step dropOf
-  drop-same k = by (ltb k (length (waiting P))) refl
+  -- ---- a load
+  pub load-same : (n : ℕ) (list : List ℕ)
+      → (loadTold (lent [] [] [] O S) n list ≡ loadTold b n list) × (loadSettings (lent [] [] [] O S) n list ≡ loadSettings b n list)
+  unfolding told loadSettings loadFirst step loadOf loadNumber
+  load-same n list = go (eqb (loadNumber (serviceOf b) n list) 0) refl
     where
-      by : (a : Bool) → ltb k (length (waiting P)) ≡ a
-          → (dropTold (dropping P) k ≡ dropTold (all I R P O) k) × (dropPool (dropping P) k ≡ dropPool (all I R P O) k)
-      by true p = (simp p, simp p)
-      by false p = (simp p, simp p)
-
-  pub switch-same : (n : ℕ) (up : Bool)
-      → (switchTold (switching O) n up ≡ switchTold (all I R P O) n up) × (switchOwn (switching O) n up ≡ switchOwn (all I R P O) n up)
-  unfolding told switchOwn step switchOf
-  switch-same n up = by (noNode n) refl
-    where
-      by : (a : Bool) → noNode n ≡ a
-          → (switchTold (switching O) n up ≡ switchTold (all I R P O) n up) × (switchOwn (switching O) n up ≡ switchOwn (all I R P O) n up)
-      by true p = (simp p, simp p)
-      by false p = (simp p, simp p)
+      go : (z : Bool) → eqb (loadNumber (serviceOf b) n list) 0 ≡ z
+          → (loadTold (lent [] [] [] O S) n list ≡ loadTold b n list) × (loadSettings (lent [] [] [] O S) n list ≡ loadSettings b n list)
+      go true z = simp z (refl, refl)
+      go false z = simp z (refl, refl)

@@ -1,40 +1,41 @@
--- What a step of any kind tells its caller, and leaves of the four buffers.
+-- What a step of the service tells its caller, and leaves of the five buffers.
+use mathlib.Core.Bool.{cond}
+use mathlib.Core.List.{List}
 use Prim.Native.Nat.{ℕ}
+use Rattle.numbers.specs.Numbers.{outOfTurn}
 use Rattle.buffers.specs.declared.Answer.{Answer}
-use Rattle.steps.specs.Step.{Call, begin, openRead, openWrite, setValue, found, reselect, requestCommit, abort, send, delivery, drop, switch}
-use Rattle.buffers.specs.Buffers.{Buffers, all}
-use Rattle.station_calls.specs.Calls.{hostTold, hostRecords, switchTold, switchOwn}
-use Rattle.station.specs.Messages.{sendTold, sendPool, dropTold, dropPool, deliveryTold, deliveryImages, deliveryRecords, deliveryPool}
+use Rattle.buffers.specs.Buffers.{all, answerWith}
+use Rattle.holding.specs.Left.{toldOf as stepTold, leftOf as stepLeft}
+use Rattle.service.specs.Service.{Call, begin, loadHours, plain}
+use Rattle.service.specs.Lent.{Lent, beginTold, beginRecords, loadTold, loadSettings}
+use Rattle.orders.specs.declared.Order.{Order}
+use Rattle.runs.specs.Order.{isHost, callOf}
 
 -- what its caller is told
-unfoldable pub toldOf : Buffers → Call → Answer
-toldOf b (begin n w) = hostTold b n (begin n w)
-toldOf b (openRead n t) = hostTold b n (openRead n t)
-toldOf b (openWrite n t) = hostTold b n (openWrite n t)
-toldOf b (setValue n t v) = hostTold b n (setValue n t v)
-toldOf b (found n t) = hostTold b n (found n t)
-toldOf b (reselect n live d) = hostTold b n (reselect n live d)
-toldOf b (requestCommit n) = hostTold b n (requestCommit n)
-toldOf b (abort n) = hostTold b n (abort n)
-toldOf b (send n to t) = sendTold b n to t
-toldOf b (delivery k kept) = deliveryTold b k kept
-toldOf b (drop k) = dropTold b k
-toldOf b (switch n up) = switchTold b n up
+unfoldable pub toldOf : Lent → Call → Answer
+toldOf b (begin n w day minute) = beginTold b n w day minute
+toldOf b (loadHours n list) = loadTold b n list
+toldOf b (plain c p) = stepTold (b .station) c
 
 -- what is left of the buffers
-abbrev pub hostLeft : Buffers → ℕ → Call → Buffers
-hostLeft b n c = all (b .images) (hostRecords b n c) (b .pool) (b .own)
+unfoldable pub leftOf : Lent → Call → Lent
+leftOf b (begin n w day minute) =
+    record {
+      station = all (b .station .images) (beginRecords b n w day minute) (b .station .pool) (b .station .own);
+      settings = b .settings;
+    }
+leftOf b (loadHours n list) = record { station = b .station; settings = loadSettings b n list }
+leftOf b (plain c p) = record { station = stepLeft (b .station) c; settings = b .settings }
 
-unfoldable pub leftOf : Buffers → Call → Buffers
-leftOf b (begin n w) = hostLeft b n (begin n w)
-leftOf b (openRead n t) = hostLeft b n (openRead n t)
-leftOf b (openWrite n t) = hostLeft b n (openWrite n t)
-leftOf b (setValue n t v) = hostLeft b n (setValue n t v)
-leftOf b (found n t) = hostLeft b n (found n t)
-leftOf b (reselect n live d) = hostLeft b n (reselect n live d)
-leftOf b (requestCommit n) = hostLeft b n (requestCommit n)
-leftOf b (abort n) = hostLeft b n (abort n)
-leftOf b (send n to t) = all (b .images) (b .records) (sendPool b n to t) (b .own)
-leftOf b (delivery k kept) = all (deliveryImages b k kept) (deliveryRecords b k kept) (deliveryPool b k kept) (b .own)
-leftOf b (drop k) = all (b .images) (b .records) (dropPool b k) (b .own)
-leftOf b (switch n up) = all (b .images) (b .records) (b .pool) (switchOwn b n up)
+-- ---- an order that is a host's call, and one that is not: the function for the other kind answers 5 and leaves everything
+abbrev pub hostTold : Lent → Order → List ℕ → Answer
+hostTold b o list = cond (isHost (o .kind)) (toldOf b (callOf o list)) (answerWith outOfTurn 0)
+
+abbrev pub hostLeft : Lent → Order → List ℕ → Lent
+hostLeft b o list = cond (isHost (o .kind)) (leftOf b (callOf o list)) b
+
+abbrev pub otherTold : Lent → Order → List ℕ → Answer
+otherTold b o list = cond (isHost (o .kind)) (answerWith outOfTurn 0) (toldOf b (callOf o list))
+
+abbrev pub otherLeft : Lent → Order → List ℕ → Lent
+otherLeft b o list = cond (isHost (o .kind)) b (leftOf b (callOf o list))

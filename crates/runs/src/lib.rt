@@ -1,45 +1,68 @@
-// A step of any kind at the station over its four lent buffers; and what is claimed of every list of steps from an origin, in its contract.
+// A step of any kind at the service over its five lent buffers, a host's call or another; and what is claimed of every list of steps from an origin, in its
+// contract.
 ghost use mathlib.Core.Path.{_≡_};
-ghost use mathlib.Core.List.{[]};
-ghost use Rattle.buffers.specs.Buffers.{all};
-ghost use Rattle.station_calls.specs.Calls.{blankNumber, blankAfter};
-ghost use Rattle.runs.specs.Order.{callOf};
-ghost use Rattle.runs.specs.Left.{toldOf, leftOf};
-ghost use Rattle.history.specs.Origin.{blankOrigin};
+ghost use mathlib.Core.List.{List, []};
+ghost use Prim.Native.Nat.{ℕ};
+ghost use Rattle.service.specs.Lent.{lent, blankNumber, blankAfter};
+ghost use Rattle.accounts.specs.Accounts.{blankOrigin};
+ghost use Rattle.runs.specs.Order.{isHost, callOf};
+ghost use Rattle.runs.specs.Left.{toldOf, leftOf, hostTold, hostLeft, otherTold, otherLeft};
 ghost use Rattle.runs.specs.Held.{Holds, Claimed};
 use buffers::Answer;
+use buffers::refused;
 use orders::Kind;
 use orders::Order;
 
-// Starts anew: a blank station whose nodes of a mask are on. Ruled out: a station on which a step was taken; another mask.
-pub fn start(images: &mut [u8], records: &mut [u8], pool: &mut [u8], own: &mut [u8], on: u16) -> u8
-    ensures { λ r. ⌜ r ≡ blankNumber (all (now (images .entry)) (now (records .entry)) (now (pool .entry)) (now (own .entry))) on ⌝ }
-    ensures { λ r. ⌜ all (now (images .exit)) (now (records .exit)) (now (pool .exit)) (now (own .exit))
-        ≡ blankAfter (all (now (images .entry)) (now (records .entry)) (now (pool .entry)) (now (own .entry))) on ⌝ }
-    ensures { λ r. ⌜ (r ≡ 0 → Holds (blankOrigin on) [] (all (now (images .exit)) (now (records .exit)) (now (pool .exit)) (now (own .exit)))) ⌝ }
-{
-    station_calls::blank(images, records, pool, own, on)
-}
-
-// Takes one step, and demand 3 holds of the longer list. Ruled out: a step of another kind; a buffer altered that this kind of step leaves alone;
-// a committed transaction that found another value than it finds in replay.
-pub fn step(
+// Starts anew: a blank service whose nodes of a mask are on. Ruled out: a service on which a step was taken; another mask.
+pub fn start(
     images: &mut [u8],
     records: &mut [u8],
     pool: &mut [u8],
     own: &mut [u8],
+    settings: &mut [u8],
+    on: u16,
+) -> u8
+    ensures { λ r. ⌜ r ≡ blankNumber
+        (lent (now (images .entry)) (now (records .entry)) (now (pool .entry)) (now (own .entry)) (now (settings .entry))) on ⌝ }
+    ensures { λ r. ⌜ lent (now (images .exit)) (now (records .exit)) (now (pool .exit)) (now (own .exit)) (now (settings .exit))
+        ≡ blankAfter (lent (now (images .entry)) (now (records .entry)) (now (pool .entry)) (now (own .entry)) (now (settings .entry))) on ⌝ }
+    ensures { λ r. ⌜ (r ≡ 0 → Holds (blankOrigin on) []
+        (lent (now (images .exit)) (now (records .exit)) (now (pool .exit)) (now (own .exit)) (now (settings .exit)))) ⌝ }
+{
+    service::blank(images, records, pool, own, settings, on)
+}
+
+// Whether a kind is a host's call at a node.
+fn is_host(kind: Kind) -> bool
+    ensures { λ r. ⌜ r ≡ isHost kind ⌝ }
+{
+    match kind {
+        Kind::Send => false,
+        Kind::Deliver => false,
+        Kind::Drop => false,
+        Kind::Switch => false,
+        _ => true,
+    }
+}
+
+// A host's call at a node, over what it needs, whatever images there are and whatever waits; 5 for any other kind. Ruled out: a begin that does not go by
+// the hours; a send that is taken here.
+pub fn host_step(
+    records: &mut [u8],
+    own: &[u8],
+    settings: &mut [u8],
+    list: &[u8],
     o: Order,
 ) -> Answer
-    ensures { λ r. ⌜ r ≡ toldOf (all (now (images .entry)) (now (records .entry)) (now (pool .entry)) (now (own .entry))) (callOf o) ⌝ }
-    ensures { λ r. ⌜ all (now (images .exit)) (now (records .exit)) (now (pool .exit)) (now (own .exit))
-        ≡ leftOf (all (now (images .entry)) (now (records .entry)) (now (pool .entry)) (now (own .entry))) (callOf o) ⌝ }
-    ensures { λ r. ⌜ Claimed (all (now (images .entry)) (now (records .entry)) (now (pool .entry)) (now (own .entry))) (callOf o) r
-        (all (now (images .exit)) (now (records .exit)) (now (pool .exit)) (now (own .exit))) ⌝ }
+    ensures { λ r. ⌜ ((images pool : List ℕ) → r ≡ hostTold
+        (lent images (now (records .entry)) pool (now (own .entry)) (now (settings .entry))) o (now (list .entry))) ⌝ }
+    ensures { λ r. ⌜ ((images pool : List ℕ) → lent images (now (records .exit)) pool (now (own .entry)) (now (settings .exit)) ≡ hostLeft
+        (lent images (now (records .entry)) pool (now (own .entry)) (now (settings .entry))) o (now (list .entry))) ⌝ }
 {
     let kind = o.kind;
     let with = o.with;
     match kind {
-        Kind::Begin => station_calls::begin(records, own, o.node, with),
+        Kind::Begin => service::begin(records, own, settings, o.node, with, o.day, o.minute),
         Kind::OpenRead => station_calls::open_read(records, own, o.node, o.object),
         Kind::OpenWrite => station_calls::open_write(records, own, o.node, o.object),
         Kind::SetValue => station_calls::set_value(records, own, o.node, o.object, o.value),
@@ -50,9 +73,60 @@ pub fn step(
         }
         Kind::RequestCommit => station_calls::request_commit(records, own, o.node),
         Kind::Abort => station_calls::abort(records, own, o.node),
+        Kind::LoadHours => service::load_hours(own, settings, o.node, list),
+        Kind::Send => refused(numbers::OUT_OF_TURN),
+        Kind::Deliver => refused(numbers::OUT_OF_TURN),
+        Kind::Drop => refused(numbers::OUT_OF_TURN),
+        Kind::Switch => refused(numbers::OUT_OF_TURN),
+    }
+}
+
+// A send, a delivery, a drop or a switch, over what it needs, whatever the settings are; 5 for a host's call. Ruled out: a delivery that alters a record
+// of a node that is off; a begin that is taken here.
+pub fn other_step(
+    images: &mut [u8],
+    records: &mut [u8],
+    pool: &mut [u8],
+    own: &mut [u8],
+    o: Order,
+) -> Answer
+    ensures { λ r. ⌜ ((settings list : List ℕ) → r ≡ otherTold
+        (lent (now (images .entry)) (now (records .entry)) (now (pool .entry)) (now (own .entry)) settings) o list) ⌝ }
+    ensures { λ r. ⌜ ((settings list : List ℕ) → lent (now (images .exit)) (now (records .exit)) (now (pool .exit)) (now (own .exit)) settings ≡ otherLeft
+        (lent (now (images .entry)) (now (records .entry)) (now (pool .entry)) (now (own .entry)) settings) o list) ⌝ }
+{
+    let kind = o.kind;
+    match kind {
         Kind::Send => station::send(records, pool, own, o.node, o.to, o.object),
         Kind::Deliver => station::deliver(images, records, pool, own, o.place, o.flag),
         Kind::Drop => station::drop(pool, o.place),
         Kind::Switch => station_calls::switch(own, o.node, o.flag),
+        _ => refused(numbers::OUT_OF_TURN),
     }
+}
+
+// Takes one step, and demand 3 holds of the longer list. Ruled out: a step of another kind; a buffer altered that this kind of step leaves alone;
+// a committed transaction that found another value than it finds in replay.
+pub fn step(
+    images: &mut [u8],
+    records: &mut [u8],
+    pool: &mut [u8],
+    own: &mut [u8],
+    settings: &mut [u8],
+    list: &[u8],
+    o: Order,
+) -> Answer
+    ensures { λ r. ⌜ r ≡ toldOf
+        (lent (now (images .entry)) (now (records .entry)) (now (pool .entry)) (now (own .entry)) (now (settings .entry))) (callOf o (now (list .entry))) ⌝ }
+    ensures { λ r. ⌜ lent (now (images .exit)) (now (records .exit)) (now (pool .exit)) (now (own .exit)) (now (settings .exit)) ≡ leftOf
+        (lent (now (images .entry)) (now (records .entry)) (now (pool .entry)) (now (own .entry)) (now (settings .entry))) (callOf o (now (list .entry))) ⌝ }
+    ensures { λ r. ⌜ Claimed (lent (now (images .entry)) (now (records .entry)) (now (pool .entry)) (now (own .entry)) (now (settings .entry)))
+        (callOf o (now (list .entry))) r
+        (lent (now (images .exit)) (now (records .exit)) (now (pool .exit)) (now (own .exit)) (now (settings .exit))) ⌝ }
+{
+    let kind = o.kind;
+    if is_host(kind) {
+        return host_step(records, own, settings, list, o);
+    }
+    other_step(images, records, pool, own, o)
 }

@@ -67,7 +67,8 @@ module _ (o : Origin) (r : Rested o) where
       st : Station
       st = reached o cs
 
-      no-refusal : (step st (delivery 0 false) .number ≡ 0) ⊎ Crowded st 0 false → step st (delivery 0 false) .number ≡ 0
+      no-refusal : (step st (delivery 0 false) .number ≡ 0)
+          ⊎ Crowded (st .pool) false (step st (delivery 0 false) .number) (step st (delivery 0 false) .put) → step st (delivery 0 false) .number ≡ 0
       no-refusal (inl z) = z
       no-refusal (inr z) = let k = z .is-kept in absurd (clash (cc))
 

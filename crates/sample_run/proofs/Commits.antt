@@ -18,7 +18,7 @@ use Rattle.protocol.specs.State.{Tx, Tx-discrete}
 use Rattle.protocol.specs.Proof.Tables.{on}
 use Rattle.history.specs.Ledger.{Ledger, in?}
 use Rattle.history.specs.Origin.{ledgerOf, Rested}
-use Rattle.history.specs.Claims.{Settled, reached, Demand3}
+use Rattle.history.specs.Claims.{Settled, reached, account, Demand3}
 use Rattle.history.proofs.Claimed.{demand-3}
 use Rattle.history.proofs.Origins.{blank-rested}
 use Rattle.history.proofs.Resting.{rests}
@@ -87,7 +87,7 @@ computed-commits = record {
 pub sample-commits : Commits tells left
 sample-commits = subst (λ (b : Both). Commits (b .ledger) (b .station)) (sym (last-agrees .same)) computed-commits
 
-pub sample-claims : Demand3 blank sample
+pub sample-claims : Demand3 (account blank) sample
 sample-claims = demand-3 blank β sample (last-agrees .typed)
 
 -- and what it leaves is an origin, which carries the transaction

@@ -3,35 +3,43 @@ use mathlib.Core.Path.{_≡_, sym, ap, _∙_}
 use mathlib.Core.Logic.{_≢_}
 use mathlib.Core.List.{List}
 use Prim.Native.Nat.{ℕ}
-use borrow.Author.Tests.{eq-eqb, ne-eqb}
-use Rattle.report.specs.Page.{Page, page, inks, behind}
-use Rattle.buffers.specs.Buffers.{Buffers}
+use borrow.Author.Tests.{ne-eqb}
+use Rattle.report.specs.Page.{Page, inks, behind}
+use Rattle.service.specs.Lent.{Lent}
 use Rattle.script.specs.declared.Parsed.{Parsed}
-use Rattle.script.specs.Parse.{parsed}
 use Rattle.scenario.specs.declared.Reader.{Reader}
-use Rattle.scenario.specs.Lines.{byWhat, endedTexts, lineReader, lineBuffers, lineSheet, lineTexts, lastTexts}
+use Rattle.scenario.specs.Lines.{Ways, pick, endedTexts, lineReader, lineBuffers, lineSheet, lineTexts, lastTexts}
 
-module _ {A : Type 0} (r : Reader) (p : Parsed) (e : p ≡ parsed (r .said)) (x y z : Parsed → A) where
-  -- by what the line says
-  abbrev chosen : A
-  chosen = byWhat (parsed (r .said) .what) (x (parsed (r .said))) (y (parsed (r .said))) (z (parsed (r .said)))
+-- by what the line says: q, as it was found p
+module _ {A : Type 0} (w : Ways A) (p q : Parsed) (e : p ≡ q) where
+  pub by-blank : p .what ≡ 2 → w .blank p ≡ pick w q
+  unfolding pick
+  by-blank f = sym (simp f) ∙ ap (pick w) e
 
-  pub by-blank : p .what ≡ 2 → x p ≡ chosen
-  by-blank f = ap x e ∙ sym (simp (eq-eqb _ _ (sym (ap (λ (q : Parsed). q .what) e) ∙ f)))
+  pub by-step : p .what ≡ 3 → w .step p ≡ pick w q
+  unfolding pick
+  by-step f = sym (simp f) ∙ ap (pick w) e
 
-  pub by-step : p .what ≢ 2 → p .what ≡ 3 → y p ≡ chosen
-  by-step f g =
-      let w = ap (λ (q : Parsed). q .what) e in
-      ap y e ∙ sym (simp (ne-eqb _ _ (λ h. f (w ∙ h)), eq-eqb _ _ (sym w ∙ g)))
+  pub by-clock : p .what ≡ 4 → w .clock p ≡ pick w q
+  unfolding pick
+  by-clock f = sym (simp f) ∙ ap (pick w) e
 
-  pub by-other : p .what ≢ 2 → p .what ≢ 3 → z p ≡ chosen
-  by-other f g =
-      let w = ap (λ (q : Parsed). q .what) e in
-      ap z e ∙ sym (simp (ne-eqb _ _ (λ h. f (w ∙ h)), ne-eqb _ _ (λ h. g (w ∙ h))))
+  pub by-list : p .what ≡ 5 → w .list p ≡ pick w q
+  unfolding pick
+  by-list f = sym (simp f) ∙ ap (pick w) e
+
+  pub by-hours : p .what ≡ 6 → w .hours p ≡ pick w q
+  unfolding pick
+  by-hours f = sym (simp f) ∙ ap (pick w) e
+
+  pub by-other : p .what ≢ 2 → p .what ≢ 3 → p .what ≢ 4 → p .what ≢ 5 → p .what ≢ 6 → w .other ≡ pick w q
+  unfolding pick
+  by-other f g h i j = sym (simp (ne-eqb _ _ f, ne-eqb _ _ g, ne-eqb _ _ h, ne-eqb _ _ i, ne-eqb _ _ j)) ∙ ap (pick w) e
 
 -- the last line, and the end of the scenario that then runs
-pub last-texts : (r s : Reader) (b d : Buffers) (l m : List ℕ) (p q u : Page) → s ≡ lineReader r → d ≡ lineBuffers r b → m ≡ lineSheet r b l
-    → q ≡ inks p (lineTexts r b l) → u ≡ inks q (endedTexts (s .going) (d .images) (d .records) m) → u ≡ inks p (lastTexts r b l)
+pub last-texts : (r s : Reader) (list : List ℕ) (b d : Lent) (l m : List ℕ) (p q u : Page) → s ≡ lineReader r list → d ≡ lineBuffers r list b
+    → m ≡ lineSheet r list b l → q ≡ inks p (lineTexts r list b l) → u ≡ inks q (endedTexts (s .going) (d .station .images) (d .station .records) m)
+    → u ≡ inks p (lastTexts r list b l)
 unfolding lastTexts
-last-texts r s b d l m p q u e f g x y =
-    behind p q u (lineTexts r b l) _ x (y ∙ (λ i. inks q (endedTexts (e i .going) (f i .images) (f i .records) (g i))))
+last-texts r s list b d l m p q u e f g x y =
+    behind p q u (lineTexts r list b l) _ x (y ∙ (λ i. inks q (endedTexts (e i .going) (f i .station .images) (f i .station .records) (g i))))

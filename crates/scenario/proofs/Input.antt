@@ -3,7 +3,6 @@ use mathlib.Core.Path.{_≡_, refl, sym, ap, subst, _∙_}
 use mathlib.Core.Bool.{Bool, true, false, cond}
 use mathlib.Core.List.{List, [], _∷_}
 use Prim.Native.Nat.{ℕ, _+_, _≤_}
-use native.Mathlib.Omega.{arith}
 use lib.Dec.{eqb, ltb}
 use lib.ListN.{length, set}
 use borrow.Author.Tests.{eq-eqb, le-ltb, ltb-false}
@@ -11,63 +10,75 @@ use Rattle.numbers.specs.Sizes.{everyNode}
 use Rattle.pool.proofs.Numbers.{fine}
 use Rattle.replay.specs.Layout.{size as sheetSize}
 use Rattle.replay.specs.Sheet.{blankAfter as sheetBlank}
-use Rattle.steps.specs.Run.{trace}
-use Rattle.buffers.specs.Buffers.{Buffers, all, Whole}
-use Rattle.station_calls.specs.Calls.{blankNumber, blankAfter}
-use Rattle.history.specs.Running.{sheet, keptFrom}
-use Rattle.history.specs.Origin.{blankOrigin}
+use Rattle.buffers.specs.Buffers.{all}
+use Rattle.station_calls.specs.Calls.{blankNumber as stationNumber}
+use Rattle.service.specs.Service.{Call}
+use Rattle.service.specs.Lent.{Lent, Whole, blankNumber, blankAfter}
+use Rattle.numbers.specs.Refusal.{lower}
+use Rattle.history.specs.Running.{sheet, sheetKeeper, keptFrom}
+use Rattle.history.specs.Origin.{ledgerOf}
 use Rattle.history.proofs.Running.{blank-starts, always-reads}
-use Rattle.orders.specs.declared.Order.{Order}
+use Rattle.accounts.specs.Accounts.{blankOrigin}
+use Rattle.accounts.proofs.Expand.{expand, expand-typed}
+use Rattle.accounts.proofs.Same.{same-kept}
+use Rattle.holding.proofs.Kept.{own-is}
 use Rattle.runs.specs.Order.{callOf}
 use Rattle.runs.specs.Left.{leftOf}
-use Rattle.runs.specs.Held.{Holds}
-use Rattle.runs.proofs.Kept.{own-is}
 use Rattle.runs.proofs.Demand.{claimed, begun}
+use Rattle.script.specs.declared.Parsed.{Parsed}
 use Rattle.script.specs.Said.{step, bad}
 use Rattle.script.specs.Parse.{parsed}
 use Rattle.scenario.specs.declared.Reader.{Reader}
-use Rattle.scenario.specs.Reading.{fresh, noted, next}
+use Rattle.scenario.specs.Reading.{fresh, noted, next, kept, clocked, relisted, timed}
 use Rattle.scenario.specs.Steps.{stepSheet}
-use Rattle.scenario.specs.Lines.{byWhat, maskOf, anewReader, anewBuffers, anewSheet, lineReader, lineBuffers, lineSheet, readerAfter, buffersAfter}
-use Rattle.scenario.specs.Lines.{sheetAfter}
-use Rattle.scenario.specs.Desk.{Desk, onto, after, Story, lineStory, storyAfter, Faithful, Start, noSteps}
+use Rattle.scenario.specs.Lines.{Ways, pick, maskOf, anewReader, anewBuffers, anewSheet, listReader, listedAfter, isTable, tableOf, hoursReader}
+use Rattle.scenario.specs.Lines.{hoursBuffers, hoursSheet, readerWays, buffersWays, listWays, sheetWays, lineReader, lineBuffers, lineList, lineSheet}
+use Rattle.scenario.specs.Lines.{readerAfter, buffersAfter, listAfter, sheetAfter}
+use Rattle.scenario.specs.Desk.{Desk, onto, after, Story, longer, storyWays, lineStory, storyAfter, Faithful, Start, noSteps}
+use Rattle.lists.specs.Lists.{hasRoom, appended}
 use Rattle.scenario.proofs.Meaning.{sheet-is}
 use Rattle.scenario.proofs.Typed.{Fit, fit-fresh, fit-bad, fit-step, typed}
 
-abbrev desk : Reader → Buffers → List ℕ → Desk
-desk r b l = record { reader = r; buffers = b; sheet = l }
+abbrev desk : Reader → Lent → List ℕ → List ℕ → Desk
+desk r b list l = record { reader = r; buffers = b; list = list; sheet = l }
 
 pub record Inv (d : Desk) (s : Story) : Type 0 where
   pub fit : Fit (d .reader .said)
   pub faithful : Faithful d s
 
 -- ---- a `blank` finds buffers of their lengths
-blank-goes : (I R P O : List ℕ) (mask : ℕ) → Whole (all I R P O) → mask ≤ everyNode → blankNumber (all I R P O) mask ≡ 0
-unfolding blankNumber
-blank-goes I R P O mask w h =
+station-goes : (b : Lent) (mask : ℕ) → Whole b → mask ≤ everyNode → stationNumber (b .station) mask ≡ 0
+unfolding stationNumber
+station-goes b mask w h =
+    let z = b .station in
     simp (
-      eq-eqb _ _ (w .images-long),
-      eq-eqb _ _ (w .records-long),
-      eq-eqb _ _ (fine P (w .pool-fine) .long),
-      eq-eqb _ _ (own-is I R P O w .size),
+      eq-eqb _ _ (w .station .images-long),
+      eq-eqb _ _ (w .station .records-long),
+      eq-eqb _ _ (fine (z .pool) (w .station .pool-fine) .long),
+      eq-eqb _ _ (own-is (z .images) (z .records) (z .pool) (z .own) (w .station) .size),
       le-ltb everyNode mask h,
     )
 
+blank-goes : (b : Lent) (mask : ℕ) → Whole b → mask ≤ everyNode → blankNumber b mask ≡ 0
+unfolding blankNumber lower
+blank-goes b mask w h = simp (station-goes b mask w h, eq-eqb _ _ (w .settings-long))
+
 -- the sheet has its length all along
 sheet-long : (d : Desk) (s : Story) → Faithful d s → length (d .sheet) ≡ sheetSize
-sheet-long d s f = ap length (f .told)
-    ∙ always-reads (blankOrigin (s .up)) (f .holds .rested) 0 _ (blank-starts (s .up) (f .blank) (f .size)) (s .steps) (f .holds .typed) .long
+sheet-long d s f =
+    let o = blankOrigin (s .up) in
+    ap length (f .told ∙ same-kept o sheetKeeper (ledgerOf (o .machine)) (sheetBlank (f .blank)) (s .steps))
+    ∙ always-reads (o .machine) (f .holds .rested) 0 _ (blank-starts (s .up) (f .blank) (f .size)) (expand o (s .steps))
+    (expand-typed o (s .steps) (f .holds .typed)) .long
 
-begins : (r : Reader) (d : Desk) (s : Story) (mask : ℕ) → Fit (r .said) → Inv d s → mask ≤ everyNode
-    → Inv (desk r (blankAfter (d .buffers) mask) (sheetBlank (d .sheet))) (record { up = mask; steps = [] })
+begins : (r : Reader) (list : List ℕ) (d : Desk) (s : Story) (mask : ℕ) → Fit (r .said) → Inv d s → mask ≤ everyNode
+    → Inv (desk r (blankAfter (d .buffers) mask) list (sheetBlank (d .sheet))) (record { up = mask; steps = [] })
 unfolding keptFrom
-begins r d s mask f i h =
-    let b = d .buffers in
-    let w = i .faithful .holds .whole in
+begins r list d s mask f i h =
     record {
       fit = f;
       faithful = record {
-        holds = begun b mask (blank-goes (b .images) (b .records) (b .pool) (b .own) mask w h);
+        holds = begun (d .buffers) mask (blank-goes (d .buffers) mask (i .faithful .holds .whole) h);
         blank = d .sheet;
         size = sheet-long d s (i .faithful);
         told = refl;
@@ -75,28 +86,29 @@ begins r d s mask f i h =
     }
 
 -- ---- a step makes the scenario longer
-goes-on : (r : Reader) (d : Desk) (s : Story) → Fit (r .said) → Inv d s
-    → Inv (desk r (leftOf (d .buffers) (callOf (parsed (d .reader .said) .order))) (stepSheet (d .buffers) (parsed (d .reader .said) .order) (d .sheet)))
-    (record { up = s .up; steps = callOf (parsed (d .reader .said) .order) ∷ s .steps })
-goes-on r d s f i =
+goes-on : (r : Reader) (list : List ℕ) (d : Desk) (s : Story) (table : List ℕ) → Fit (r .said) → Inv d s
+    → Inv (desk r (leftOf (d .buffers) (callOf (timed (d .reader) (parsed (d .reader .said) .order)) table)) list
+    (stepSheet (d .buffers) (timed (d .reader) (parsed (d .reader .said) .order)) table (d .sheet)))
+    (longer s (callOf (timed (d .reader) (parsed (d .reader .said) .order)) table))
+goes-on r list d s table f i =
     let b = d .buffers in
-    let o = parsed (d .reader .said) .order in
-    let t = typed (d .reader .said) (i .fit) in
+    let o = timed (d .reader) (parsed (d .reader .said) .order) in
+    let t = typed (d .reader) (d .reader .said) table (i .fit) in
     let h = i .faithful .holds in
     record {
       fit = f;
       faithful = record {
-        holds = claimed (b .images) (b .records) (b .pool) (b .own) (callOf o) t (blankOrigin (s .up)) (s .steps) h .holds;
+        holds = claimed b (callOf o table) t (blankOrigin (s .up)) (s .steps) h .holds;
         blank = i .faithful .blank;
         size = i .faithful .size;
-        told = ap (stepSheet b o) (i .faithful .told) ∙ sheet-is (blankOrigin (s .up)) (h .rested) (s .steps) o (b .images) (b .records) (b .pool) (b .own) t h
-            (sheetBlank (i .faithful .blank));
+        told = ap (stepSheet b o table) (i .faithful .told)
+            ∙ sheet-is (blankOrigin (s .up)) (h .rested) (s .steps) o table b t h (sheetBlank (i .faithful .blank));
       };
     }
 
--- another reader of the same
-read-on : (r : Reader) (d : Desk) (s : Story) → Fit (r .said) → Inv d s → Inv (desk r (d .buffers) (d .sheet)) s
-read-on r d s f i = record {
+-- another reader, and another list, of the same
+read-on : (r : Reader) (list : List ℕ) (d : Desk) (s : Story) → Fit (r .said) → Inv d s → Inv (desk r (d .buffers) list (d .sheet)) s
+read-on r list d s f i = record {
   fit = f;
   faithful = record {
     holds = i .faithful .holds;
@@ -112,76 +124,117 @@ fit-next r going = fit-fresh
 
 -- ---- a line
 line-inv : (d : Desk) (s : Story) → Inv d s
-    → Inv (desk (lineReader (d .reader)) (lineBuffers (d .reader) (d .buffers)) (lineSheet (d .reader) (d .buffers) (d .sheet))) (lineStory (d .reader) s)
-unfolding lineReader lineBuffers lineSheet lineStory anewReader anewBuffers anewSheet
-line-inv d s i = by (eqb what 2) (eqb what 3)
+    → Inv (desk (lineReader (d .reader) (d .list)) (lineBuffers (d .reader) (d .list) (d .buffers)) (lineList (d .reader) (d .list))
+    (lineSheet (d .reader) (d .list) (d .buffers) (d .sheet))) (lineStory (d .reader) (d .list) s)
+unfolding lineReader lineBuffers lineList lineSheet lineStory pick anewReader anewBuffers anewSheet listReader hoursReader hoursBuffers hoursSheet
+line-inv d s i = by (eqb (p .what) 2) (eqb (p .what) 3) (eqb (p .what) 4) (eqb (p .what) 5) (eqb (p .what) 6)
   where
     r : Reader
     r = d .reader
 
-    b : Buffers
+    b : Lent
     b = d .buffers
 
-    o : Order
-    o = parsed (r .said) .order
+    l : List ℕ
+    l = d .list
 
-    what : ℕ
-    what = parsed (r .said) .what
+    p : Parsed
+    p = parsed (r .said)
 
-    anew : (t : Bool) → ltb everyNode (maskOf r) ≡ t
-        → Inv (desk (cond t (next r (r .going)) (next r true)) (cond t b (blankAfter b (maskOf r))) (cond t (d .sheet) (sheetBlank (d .sheet))))
-        (cond t s (record { up = maskOf r; steps = [] }))
-    anew true t = read-on (next r (r .going)) d s (fit-next r (r .going)) i
-    anew false t = begins (next r true) d s (maskOf r) (fit-next r true) i (ltb-false everyNode (maskOf r) t)
+    c : Call
+    c = callOf (timed r (p .order)) (tableOf r l)
 
-    by : (x y : Bool)
-        → Inv (desk (cond x (anewReader r (maskOf r)) (cond y (next r true) (next r (r .going))))
-        (cond x (anewBuffers b (maskOf r)) (cond y (leftOf b (callOf o)) b))
-        (cond x (anewSheet (d .sheet) (maskOf r)) (cond y (stepSheet b o (d .sheet)) (d .sheet))))
-        (cond x (cond (ltb everyNode (maskOf r)) s (record { up = maskOf r; steps = [] })) (cond y (record { up = s .up; steps = callOf o ∷ s .steps }) s))
-    by true y = anew (ltb everyNode (maskOf r)) refl
-    by false true = goes-on (next r true) d s (fit-next r true) i
-    by false false = read-on (next r (r .going)) d s (fit-next r (r .going)) i
+    anew : (t : Bool) → ltb everyNode (maskOf p) ≡ t
+        → Inv (desk (cond t (next r (r .going)) (next (kept r 0 0 0) true)) (cond t b (blankAfter b (maskOf p))) l (cond t (d .sheet) (sheetBlank (d .sheet))))
+        (cond t s (record { up = maskOf p; steps = [] }))
+    anew true t = read-on (next r (r .going)) l d s (fit-next r (r .going)) i
+    anew false t = begins (next (kept r 0 0 0) true) l d s (maskOf p) (fit-next (kept r 0 0 0) true) i (ltb-false everyNode (maskOf p) t)
+
+    listing : (t : Bool)
+        → Inv (desk (cond t (next (relisted r (listedAfter (r .listed) (p .count))) (r .going)) (next r (r .going))) b
+        (appended l (r .listed) (p .numbers) (p .count)) (d .sheet)) s
+    listing true = read-on _ (appended l (r .listed) (p .numbers) (p .count)) d s (fit-next _ (r .going)) i
+    listing false = read-on _ (appended l (r .listed) (p .numbers) (p .count)) d s (fit-next r (r .going)) i
+
+    loading : (t : Bool)
+        → Inv (desk (cond t (next (relisted r 0) true) (next r (r .going))) (cond t (leftOf b c) b) l
+        (cond t (stepSheet b (timed r (p .order)) (tableOf r l) (d .sheet)) (d .sheet))) (cond t (longer s c) s)
+    loading true = goes-on (next (relisted r 0) true) l d s (tableOf r l) (fit-next (relisted r 0) true) i
+    loading false = read-on (next r (r .going)) l d s (fit-next r (r .going)) i
+
+    choose : {A : Type 0} → Bool → Bool → Bool → Bool → Bool → Ways A → A
+    choose x y z u v w = cond x (w .blank p) (cond y (w .step p) (cond z (w .clock p) (cond u (w .list p) (cond v (w .hours p) (w .other)))))
+
+    by : (x y z u v : Bool)
+        → Inv (desk (choose x y z u v (readerWays r l)) (choose x y z u v (buffersWays r l b)) (choose x y z u v (listWays r l))
+        (choose x y z u v (sheetWays r l b (d .sheet)))) (choose x y z u v (storyWays r l s))
+    by true y z u v = anew (ltb everyNode (maskOf p)) refl
+    by false true z u v = goes-on (next r true) l d s [] (fit-next r true) i
+    by false false true u v = read-on _ l d s (fit-next (clocked r (p .order .day) (p .order .minute)) (r .going)) i
+    by false false false true v = listing (hasRoom l (r .listed) (p .count))
+    by false false false false true = loading (isTable r l)
+    by false false false false false = read-on (next r (r .going)) l d s (fit-next r (r .going)) i
 
 fit-noted : (r : Reader) (byte : ℕ) → Fit (r .said) → Fit (noted r byte .said)
 unfolding noted
 fit-noted r byte f = by (ltb (r .long) 160)
   where
-    longer : Reader
-    longer = record { said = step (r .said) byte; text = set (r .text) (r .long) byte; long = r .long + 1; line = r .line; going = r .going }
+    read : Reader
+    read = record {
+      said = step (r .said) byte;
+      text = set (r .text) (r .long) byte;
+      long = r .long + 1;
+      line = r .line;
+      going = r .going;
+      day = r .day;
+      minute = r .minute;
+      listed = r .listed;
+    }
 
     too-long : Reader
-    too-long = record { said = bad (r .said); text = r .text; long = r .long; line = r .line; going = r .going }
+    too-long = record {
+      said = bad (r .said);
+      text = r .text;
+      long = r .long;
+      line = r .line;
+      going = r .going;
+      day = r .day;
+      minute = r .minute;
+      listed = r .listed;
+    }
 
-    by : (t : Bool) → Fit (cond t longer too-long .said)
+    by : (t : Bool) → Fit (cond t read too-long .said)
     by true = fit-step (r .said) byte f
     by false = fit-bad (r .said) f
 
 -- ---- a byte, and all bytes
-byte-inv : (d : Desk) (s : Story) (byte : ℕ) → Inv d s → Inv (onto d byte) (cond (eqb byte 10) (lineStory (d .reader) s) s)
-unfolding onto readerAfter buffersAfter sheetAfter
+byte-inv : (d : Desk) (s : Story) (byte : ℕ) → Inv d s → Inv (onto d byte) (cond (eqb byte 10) (lineStory (d .reader) (d .list) s) s)
+unfolding onto readerAfter buffersAfter listAfter sheetAfter
 byte-inv d s byte i = by (eqb byte 10)
   where
     r : Reader
     r = d .reader
 
-    by : (t : Bool)
-        → Inv (desk (cond t (lineReader r) (noted r byte)) (cond t (lineBuffers r (d .buffers)) (d .buffers))
-        (cond t (lineSheet r (d .buffers) (d .sheet)) (d .sheet))) (cond t (lineStory r s) s)
-    by true = line-inv d s i
-    by false = read-on (noted r byte) d s (fit-noted r byte (i .fit)) i
+    l : List ℕ
+    l = d .list
 
-bytes-inv : (bytes : List ℕ) (d : Desk) (s : Story) → Inv d s → Inv (after d bytes) (storyAfter (d .reader) s bytes)
+    by : (t : Bool)
+        → Inv (desk (cond t (lineReader r l) (noted r byte)) (cond t (lineBuffers r l (d .buffers)) (d .buffers)) (cond t (lineList r l) l)
+        (cond t (lineSheet r l (d .buffers) (d .sheet)) (d .sheet))) (cond t (lineStory r l s) s)
+    by true = line-inv d s i
+    by false = read-on (noted r byte) l d s (fit-noted r byte (i .fit)) i
+
+bytes-inv : (bytes : List ℕ) (d : Desk) (s : Story) → Inv d s → Inv (after d bytes) (storyAfter (d .reader) (d .list) s bytes)
 unfolding after storyAfter onto
 bytes-inv [] d s i = i
-bytes-inv (byte ∷ bytes) d s i = bytes-inv bytes (onto d byte) (cond (eqb byte 10) (lineStory (d .reader) s) s) (byte-inv d s byte i)
+bytes-inv (byte ∷ bytes) d s i = bytes-inv bytes (onto d byte) (cond (eqb byte 10) (lineStory (d .reader) (d .list) s) s) (byte-inv d s byte i)
 
 start-fit : Fit (fresh .said)
 unfolding fresh
 start-fit = fit-fresh
 
 -- THE THEOREM: from the start, after any bytes
-pub input-faithful : (bytes : List ℕ) (d : Desk) → Start d → Faithful (after d bytes) (storyAfter fresh noSteps bytes)
+pub input-faithful : (bytes : List ℕ) (d : Desk) → Start d → Faithful (after d bytes) (storyAfter fresh (d .list) noSteps bytes)
 unfolding keptFrom
 input-faithful bytes d z =
     let e = z .reader in
@@ -189,4 +242,4 @@ input-faithful bytes d z =
       fit = subst (λ (r : Reader). Fit (r .said)) (sym e) start-fit;
       faithful = record { holds = z .buffers; blank = z .blank; size = z .size; told = z .sheet-blank };
     } in
-    subst (λ (r : Reader). Faithful (after d bytes) (storyAfter r noSteps bytes)) e (bytes-inv bytes d noSteps i .faithful)
+    subst (λ (r : Reader). Faithful (after d bytes) (storyAfter r (d .list) noSteps bytes)) e (bytes-inv bytes d noSteps i .faithful)

@@ -4,7 +4,7 @@ use mathlib.Core.List.{List}
 use Prim.Native.Nat.{ℕ}
 use Rattle.pool.specs.Pool.{count}
 use Rattle.buffers.specs.declared.Answer.{Answer}
-use Rattle.buffers.specs.Buffers.{Buffers}
+use Rattle.service.specs.Lent.{Lent}
 use Rattle.orders.specs.declared.Order.{Order}
 use Rattle.runs.specs.Order.{callOf}
 use Rattle.runs.specs.Left.{toldOf, leftOf}
@@ -14,16 +14,16 @@ use Rattle.results.specs.Told.{seen, messageLine, putsText, ownerSeen, namedTex
 use Rattle.scenario.specs.Steps.{stepTexts, stepSheet}
 
 -- a step, by the answer, the pool that it left, how many waited before it and the owner of the message that it names
-module _ (b : Buffers) (o : Order) (a : Answer) (n w : ℕ) (P : List ℕ) (e : a ≡ toldOf b (callOf o)) (f : P ≡ leftOf b (callOf o) .pool)
-    (g : n ≡ count (b .pool)) where
-  pub step-sheet : w ≡ ownerSeen (seen (b .pool) (o .place)) → (l : List ℕ) → sheetBy o a w (putBy o a n P) l ≡ stepSheet b o l
+module _ (b : Lent) (o : Order) (list : List ℕ) (a : Answer) (n w : ℕ) (P : List ℕ) (e : a ≡ toldOf b (callOf o list))
+    (f : P ≡ leftOf b (callOf o list) .station .pool) (g : n ≡ count (b .station .pool)) where
+  pub step-sheet : w ≡ ownerSeen (seen (b .station .pool) (o .place)) → (l : List ℕ) → sheetBy o a w (putBy o a n P) l ≡ stepSheet b o list l
   unfolding stepSheet
   step-sheet h l = λ i. sheetBy o (e i) (h i) (putBy o (e i) (g i) (f i)) l
 
-  pub step-texts : (p q r s : Page) → q ≡ inks p (namedTexts (o .kind) (b .pool) (o .place)) → r ≡ inks q (resultTexts (o .kind) a)
-      → s ≡ inks r (messageLine putsText (putBy o a n P)) → s ≡ inks p (stepTexts b o)
+  pub step-texts : (p q r s : Page) → q ≡ inks p (namedTexts (o .kind) (b .station .pool) (o .place)) → r ≡ inks q (resultTexts (o .kind) a)
+      → s ≡ inks r (messageLine putsText (putBy o a n P)) → s ≡ inks p (stepTexts b o list)
   unfolding stepTexts
   step-texts p q r s x y z =
-      behind p q s (namedTexts (o .kind) (b .pool) (o .place)) _ x
-      (behind q r s (resultTexts (o .kind) (toldOf b (callOf o))) _ (y ∙ ap (λ (t : Answer). inks q (resultTexts (o .kind) t)) e)
+      behind p q s (namedTexts (o .kind) (b .station .pool) (o .place)) _ x
+      (behind q r s (resultTexts (o .kind) (toldOf b (callOf o list))) _ (y ∙ ap (λ (t : Answer). inks q (resultTexts (o .kind) t)) e)
       (z ∙ (λ i. inks r (messageLine putsText (putBy o (e i) (g i) (f i))))))

@@ -3,35 +3,33 @@ use mathlib.Core.Path.{_≡_, refl, sym, ap, subst, _∙_}
 use mathlib.Core.Logic.{by-cases, _⊎_, inl, inr}
 use mathlib.Core.Bool.{Bool, true, false, cond}
 use mathlib.Core.List.{List, [], _∷_}
-use Prim.Native.Nat.{ℕ, zero, suc, _+_, _-_, _*_, _%_, _^_, _<_, _≤_}
+use Prim.Native.Nat.{ℕ, zero, suc, _+_, _-_, _*_, _^_, _<_, _≤_}
 use native.Mathlib.Omega.{arith}
 use native.Mathlib.Decide.{ℕ-discrete}
 use native.Mathlib.Nat.{mod-lt}
 use lib.Dec.{eqb, ltb, lit<}
-use lib.ListN.{length, getD, set, replicate, length-set}
+use lib.ListN.{length, getD, set, replicate}
 use lib.Seq.{getD-set-same, getD-set-other, set-out}
 use borrow.Author.Tests.{ltb-false, eqb-false}
 use Rattle.numbers.specs.Sizes.{nodes}
 use Rattle.octets.proofs.Laws.{lt-or-le}
-use Rattle.steps.specs.Step.{Call}
-use Rattle.history.specs.Claims.{Typed, Distances}
+use Rattle.accounts.specs.Accounts.{Typed}
 use Rattle.orders.specs.declared.Kind.{Kind}
-use Rattle.orders.specs.declared.Kind.the-variants.{Begin, OpenRead, OpenWrite, SetValue, Found, Reselect, RequestCommit, Abort, Send, Deliver, Drop, Switch}
-use Rattle.orders.specs.declared.Order.{Order}
+use Rattle.orders.specs.declared.Kind.the-variants.{Begin, OpenRead, OpenWrite, SetValue, Found, Reselect, RequestCommit, Abort, LoadHours}
+use Rattle.orders.specs.declared.Kind.the-variants.{Send, Deliver, Drop, Switch}
 use Rattle.runs.specs.Order.{callBy, callOf}
 use Rattle.script.specs.declared.Said.{Said}
-use Rattle.script.specs.Words.{reselectWord}
-use Rattle.script.specs.Said.{inWord, between, behindMinus, inComment, spoilt}
-use Rattle.script.specs.Said.{inNumber, inNegative, inPart, bad, letter, withLetter, most, digit, withDigit, negated, bits, head, withNumber, withDistance}
-use Rattle.script.specs.Said.{distance, complete, space, silenced, minus, sign, letterOrNone, step}
+use Rattle.script.specs.Said.{inWord, between, behindMinus, inComment, spoilt, mostNumbers}
+use Rattle.script.specs.Said.{inNumber, inNegative, inPart, bad, letter, withLetter, most, digit, withDigit, negated, bits, withNumber}
+use Rattle.script.specs.Said.{complete, space, silenced, minus, sign, letterOrNone, step}
 use Rattle.script.specs.Said.{fresh as nothingSaid}
-use Rattle.script.specs.Parse.{orderOf, parsed}
+use Rattle.script.specs.Parse.{arity, fillFrom, distancesOf, withOf, orderOf, parsed}
+use Rattle.scenario.specs.declared.Reader.{Reader}
+use Rattle.scenario.specs.Reading.{timed}
 
 pub record Fit (s : Said) : Type 0 where
   pub value : s .value < 2 ^ 64
   pub numbers : (i : ℕ) → getD (s .numbers) i 0 < 2 ^ 64
-  pub long : length (s .distances) ≡ nodes
-  pub distances : (i : ℕ) → getD (s .distances) i 0 < 2 ^ 16
 
 -- a number stored where all are below m
 stored : (m : ℕ) (l : List ℕ) (k v : ℕ) → v < m → ((i : ℕ) → getD l i 0 < m) → (i : ℕ) → getD (set l k v) i 0 < m
@@ -53,12 +51,7 @@ alike m (suc n) a d (suc i) h g = alike m n a d i h g
 -- a line of which nothing is read
 pub fit-fresh : Fit nothingSaid
 unfolding nothingSaid
-fit-fresh = record {
-  value = lit< tt;
-  numbers = λ i. alike (2 ^ 64) 3 0 0 i (lit< tt) (lit< tt);
-  long = refl;
-  distances = λ i. alike (2 ^ 16) nodes 1 0 i (lit< tt) (lit< tt);
-}
+fit-fresh = record { value = lit< tt; numbers = λ i. alike (2 ^ 64) mostNumbers 0 0 i (lit< tt) (lit< tt) }
 
 -- ---- by tests
 choice : (b : Bool) (x y : Said) → (b ≡ true → Fit x) → (b ≡ false → Fit y) → Fit (cond b x y)
@@ -67,7 +60,7 @@ choice false x y f g = g refl
 
 fit-part : (s : Said) (p : ℕ) → Fit s → Fit (inPart s p)
 unfolding inPart
-fit-part s p f = record { value = f .value; numbers = f .numbers; long = f .long; distances = f .distances }
+fit-part s p f = record { value = f .value; numbers = f .numbers }
 
 fit-letter : (s : Said) (b : ℕ) → Fit s → Fit (letter s b)
 unfolding letter withLetter
@@ -76,7 +69,7 @@ fit-letter s b f =
     (λ e. choice (ltb 72057594037927935 (s .word)) (bad s) (withLetter s b) (λ g. fit-part s spoilt f) (λ g. with-letter))
   where
     with-letter : Fit (withLetter s b)
-    with-letter = record { value = f .value; numbers = f .numbers; long = f .long; distances = f .distances }
+    with-letter = record { value = f .value; numbers = f .numbers }
 
 most-small : (p : ℕ) → most p ≤ 9223372036854775808
 unfolding most
@@ -97,12 +90,7 @@ fit-digit s d f =
     v = s .value * 10 + d
 
     with-digit : ltb (most (s .part)) v ≡ false → Fit (withDigit s v)
-    with-digit h = record {
-      value = omega (arith, ltb-false (most (s .part)) v h, most-small (s .part));
-      numbers = f .numbers;
-      long = f .long;
-      distances = f .distances;
-    }
+    with-digit h = record { value = omega (arith, ltb-false (most (s .part)) v h, most-small (s .part)); numbers = f .numbers }
 
 -- a complete number
 bits-small : (p v : ℕ) → v < 2 ^ 64 → bits p v < 2 ^ 64
@@ -116,34 +104,14 @@ bits-small p v h = go (eqb p 5) (eqb v 0) refl
 
 fit-number : (s : Said) (v : ℕ) → v < 2 ^ 64 → Fit s → Fit (withNumber s v)
 unfolding withNumber
-fit-number s v h f = record {
-  value = lit< tt;
-  numbers = stored (2 ^ 64) (s .numbers) (s .count) v h (f .numbers);
-  long = f .long;
-  distances = f .distances;
-}
-
-fit-distance : (s : Said) (i v : ℕ) → Fit s → Fit (distance s i v)
-unfolding distance withDistance
-fit-distance s i v f =
-    choice (ltb 12 i) (bad s) _ (λ e. fit-part s spoilt f)
-    (λ e. choice (ltb 65535 v) (bad s) (withDistance s i v) (λ g. fit-part s spoilt f) (λ g. with-distance g))
-  where
-    with-distance : ltb 65535 v ≡ false → Fit (withDistance s i v)
-    with-distance g = record {
-      value = lit< tt;
-      numbers = f .numbers;
-      long = length-set (s .distances) i v ∙ f .long;
-      distances = stored (2 ^ 16) (s .distances) i v (omega (arith, ltb-false 65535 v g)) (f .distances);
-    }
+fit-number s v h f = record { value = lit< tt; numbers = stored (2 ^ 64) (s .numbers) (s .count) v h (f .numbers) }
 
 fit-complete : (s : Said) → Fit s → Fit (complete s)
 unfolding complete
 fit-complete s f =
     let v = bits (s .part) (s .value) in
-    let h = bits-small (s .part) (s .value) (f .value) in
-    choice (ltb (s .count) (head (s .word))) (withNumber s v) (distance s (s .count - head (s .word)) v)
-    (λ e. fit-number s v h f) (λ e. fit-distance s (s .count - head (s .word)) v f)
+    choice (ltb (s .count) mostNumbers) (withNumber s v) (bad s) (λ e. fit-number s v (bits-small (s .part) (s .value) (f .value)) f)
+    (λ e. fit-part s spoilt f)
 
 pub fit-space : (s : Said) → Fit s → Fit (space s)
 unfolding space
@@ -185,22 +153,45 @@ fit-step s b f =
     (λ e. choice (ltb b 48) (sign s b) _ (λ g. fit-sign s b f)
     (λ g. choice (ltb 57 b) (letterOrNone s b) (digit s (b - 48)) (λ h. fit-letter-or-none s b f) (λ h. fit-digit s (b - 48) f)))
 
--- ---- so the step that a line names has arguments of their types
-typed-by : (k : Kind) (s : Said) → Fit s → Typed (callBy k (orderOf s))
-unfolding callBy orderOf
-typed-by Begin s f = (omega arith, (f .long, f .distances))
-typed-by OpenRead s f = tt
-typed-by OpenWrite s f = tt
-typed-by SetValue s f = f .numbers 2
-typed-by Found s f = tt
-typed-by Reselect s f = (f .long, f .distances)
-typed-by RequestCommit s f = tt
-typed-by Abort s f = tt
-typed-by Send s f = tt
-typed-by Deliver s f = tt
-typed-by Drop s f = tt
-typed-by Switch s f = tt
+-- ---- so the step that a line names has arguments of their types: the distances are thirteen, of 16 bits each
+fill-long : (k i : ℕ) (l : List ℕ) → length (fillFrom k i l) ≡ k
+unfolding fillFrom
+fill-long zero i l = refl
+fill-long (suc k) i l = ap suc (fill-long k (i + 1) l)
 
-pub typed : (s : Said) → Fit s → Typed (callOf (parsed s .order))
+fill-small : (k i : ℕ) (l : List ℕ) (j : ℕ) → getD (fillFrom k i l) j 0 < 2 ^ 16
+unfolding fillFrom
+fill-small zero i l j = lit< tt
+fill-small (suc k) i l zero = mod-lt (getD l i 0) (lit< tt)
+fill-small (suc k) i l (suc j) = fill-small k (i + 1) l j
+
+abbrev Thirteen : List ℕ → Type 0
+Thirteen d = (length d ≡ nodes) × ((i : ℕ) → getD d i 0 < 2 ^ 16)
+
+thirteen : (s : Said) → Thirteen (distancesOf s)
+unfolding distancesOf
+thirteen s = go (eqb (s .count) (arity (s .word)))
+  where
+    go : (b : Bool) → Thirteen (cond b (replicate nodes 1) (fillFrom nodes (arity (s .word)) (s .numbers)))
+    go true = (refl, λ i. alike (2 ^ 16) nodes 1 0 i (lit< tt) (lit< tt))
+    go false = (fill-long nodes (arity (s .word)) (s .numbers), fill-small nodes (arity (s .word)) (s .numbers))
+
+typed-by : (k : Kind) (r : Reader) (s : Said) (list : List ℕ) → Fit s → Typed (callBy k (timed r (orderOf s)) list)
+unfolding callBy timed orderOf withOf
+typed-by Begin r s list f = (omega arith, thirteen s)
+typed-by OpenRead r s list f = tt
+typed-by OpenWrite r s list f = tt
+typed-by SetValue r s list f = f .numbers 2
+typed-by Found r s list f = tt
+typed-by Reselect r s list f = thirteen s
+typed-by RequestCommit r s list f = tt
+typed-by Abort r s list f = tt
+typed-by LoadHours r s list f = tt
+typed-by Send r s list f = tt
+typed-by Deliver r s list f = tt
+typed-by Drop r s list f = tt
+typed-by Switch r s list f = tt
+
+pub typed : (r : Reader) (s : Said) (list : List ℕ) → Fit s → Typed (callOf (timed r (parsed s .order)) list)
 unfolding parsed
-typed s f = typed-by (orderOf (space s) .kind) (space s) (fit-space s f)
+typed r s list f = typed-by (timed r (orderOf (space s)) .kind) r (space s) list (fit-space s f)

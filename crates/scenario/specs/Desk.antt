@@ -1,4 +1,4 @@
--- A whole input, byte by byte: the reader, the buffers and replay's sheet after it; and, from the input alone, the scenario that runs at its end.
+-- A whole input, byte by byte: the reader, the buffers, the list and replay's sheet after it; and, from the input alone, the scenario that runs at its end.
 use Prim.Native.Nat.{ℕ}
 use mathlib.Core.Bool.{Bool, cond}
 use mathlib.Core.List.{List, [], _∷_}
@@ -6,33 +6,35 @@ use mathlib.Core.Path.{_≡_}
 use lib.Dec.{eqb, ltb}
 use lib.ListN.{length}
 use Rattle.numbers.specs.Sizes.{everyNode}
-use Rattle.steps.specs.Step.{Call}
-use Rattle.steps.specs.Run.{trace}
-use Rattle.buffers.specs.Buffers.{Buffers}
+use Rattle.service.specs.Service.{Call}
+use Rattle.service.specs.Lent.{Lent}
 use Rattle.replay.specs.Layout.{size as sheetSize}
 use Rattle.replay.specs.Sheet.{blankAfter as sheetBlank}
-use Rattle.history.specs.Origin.{ledgerOf, blankOrigin}
+use Rattle.history.specs.Origin.{ledgerOf}
 use Rattle.history.specs.Running.{sheet}
+use Rattle.accounts.specs.Accounts.{blankOrigin, origin, trace}
 use Rattle.runs.specs.Order.{callOf}
 use Rattle.runs.specs.Held.{Holds}
 use Rattle.script.specs.Parse.{parsed}
 use Rattle.scenario.specs.declared.Reader.{Reader}
-use Rattle.scenario.specs.Reading.{fresh}
-use Rattle.scenario.specs.Lines.{byWhat, maskOf, readerAfter, buffersAfter, sheetAfter}
+use Rattle.scenario.specs.Reading.{fresh, timed}
+use Rattle.scenario.specs.Lines.{Ways, pick, maskOf, isTable, tableOf, readerAfter, buffersAfter, listAfter, sheetAfter}
 
 -- ---- what stands there
 pub record Desk : Type 0 where
   pub reader : Reader
-  pub buffers : Buffers
+  pub buffers : Lent
+  pub list : List ℕ
   pub sheet : List ℕ
 
 -- after one byte more, as `take` leaves it; after several
 unfoldable pub onto : Desk → ℕ → Desk
 onto d byte =
     record {
-      reader = readerAfter (d .reader) byte;
-      buffers = buffersAfter (d .reader) byte (d .buffers);
-      sheet = sheetAfter (d .reader) byte (d .buffers) (d .sheet);
+      reader = readerAfter (d .reader) byte (d .list);
+      buffers = buffersAfter (d .reader) byte (d .list) (d .buffers);
+      list = listAfter (d .reader) byte (d .list);
+      sheet = sheetAfter (d .reader) byte (d .list) (d .buffers) (d .sheet);
     }
 
 unfoldable pub after : Desk → List ℕ → Desk
@@ -44,15 +46,28 @@ pub record Story : Type 0 where
   pub up : ℕ
   pub steps : List Call
 
--- a `blank` begins another; a step makes it longer; any other line leaves it
-unfoldable pub lineStory : Reader → Story → Story
-lineStory r s =
-    byWhat (parsed (r .said) .what) (cond (ltb everyNode (maskOf r)) s (record { up = maskOf r; steps = [] }))
-    (record { up = s .up; steps = callOf (parsed (r .said) .order) ∷ s .steps }) s
+abbrev pub longer : Story → Call → Story
+longer s c = record { up = s .up; steps = c ∷ s .steps }
 
-unfoldable pub storyAfter : Reader → Story → List ℕ → Story
-storyAfter r s [] = s
-storyAfter r s (byte ∷ bytes) = storyAfter (readerAfter r byte) (cond (eqb byte 10) (lineStory r s) s) bytes
+-- a `blank` begins another; a step makes it longer; any other line leaves it
+abbrev pub storyWays : Reader → List ℕ → Story → Ways Story
+storyWays r list s =
+    record {
+      blank = λ p. cond (ltb everyNode (maskOf p)) s (record { up = maskOf p; steps = [] });
+      step = λ p. longer s (callOf (timed r (p .order)) []);
+      clock = λ p. s;
+      list = λ p. s;
+      hours = λ p. cond (isTable r list) (longer s (callOf (timed r (p .order)) (tableOf r list))) s;
+      other = s;
+    }
+
+unfoldable pub lineStory : Reader → List ℕ → Story → Story
+lineStory r list s = pick (storyWays r list s) (parsed (r .said))
+
+unfoldable pub storyAfter : Reader → List ℕ → Story → List ℕ → Story
+storyAfter r list s [] = s
+storyAfter r list s (byte ∷ bytes) =
+    storyAfter (readerAfter r byte list) (listAfter r byte list) (cond (eqb byte 10) (lineStory r list s) s) bytes
 
 -- ---- what is claimed of every input: the buffers hold what the steps of the running scenario left (so demand 3 holds of them: crate runs), and the
 -- sheet is the one that they tell replay
@@ -60,7 +75,7 @@ pub record Faithful (d : Desk) (s : Story) : Type 0 where
   pub holds : Holds (blankOrigin (s .up)) (s .steps) (d .buffers)
   pub blank : List ℕ
   pub size : length blank ≡ sheetSize
-  pub told : d .sheet ≡ sheet (ledgerOf (blankOrigin (s .up))) (sheetBlank blank) (trace (blankOrigin (s .up) .station) (s .steps))
+  pub told : d .sheet ≡ sheet (ledgerOf (blankOrigin (s .up) .machine)) (sheetBlank blank) (trace (origin (blankOrigin (s .up))) (s .steps))
 
 -- the start: nothing read, and a blank station whose nodes are all on
 pub record Start (d : Desk) : Type 0 where

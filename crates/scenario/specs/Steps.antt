@@ -3,7 +3,7 @@ use Prim.Native.Nat.{ℕ}
 use mathlib.Core.List.{List, _++_}
 use mathlib.Core.Option.{Option}
 use Rattle.pool.specs.Pool.{count}
-use Rattle.buffers.specs.Buffers.{Buffers}
+use Rattle.service.specs.Lent.{Lent}
 use Rattle.orders.specs.declared.Order.{Order}
 use Rattle.runs.specs.Order.{callOf}
 use Rattle.runs.specs.Left.{toldOf, leftOf}
@@ -11,14 +11,15 @@ use Rattle.report.specs.Texts.{Text}
 use Rattle.results.specs.Results.{resultTexts}
 use Rattle.results.specs.Told.{putsText, seen, messageLine, ownerSeen, namedTexts, putBy, sheetBy}
 
--- ---- a step: the message that it puts, what is printed for it, and replay's sheet after it
-abbrev pub putOf : Buffers → Order → Option (List ℕ)
-putOf b o = putBy o (toldOf b (callOf o)) (count (b .pool)) (leftOf b (callOf o) .pool)
+-- ---- a step, with the bytes that are lent beside it: the message that it puts, what is printed for it, and replay's sheet after it
+abbrev pub putOf : Lent → Order → List ℕ → Option (List ℕ)
+putOf b o list = putBy o (toldOf b (callOf o list)) (count (b .station .pool)) (leftOf b (callOf o list) .station .pool)
 
-unfoldable pub stepTexts : Buffers → Order → List Text
-stepTexts b o =
-    namedTexts (o .kind) (b .pool) (o .place)
-    ++ (resultTexts (o .kind) (toldOf b (callOf o)) ++ messageLine putsText (putOf b o))
+unfoldable pub stepTexts : Lent → Order → List ℕ → List Text
+stepTexts b o list =
+    namedTexts (o .kind) (b .station .pool) (o .place)
+    ++ (resultTexts (o .kind) (toldOf b (callOf o list)) ++ messageLine putsText (putOf b o list))
 
-unfoldable pub stepSheet : Buffers → Order → List ℕ → List ℕ
-stepSheet b o sheet = sheetBy o (toldOf b (callOf o)) (ownerSeen (seen (b .pool) (o .place))) (putOf b o) sheet
+unfoldable pub stepSheet : Lent → Order → List ℕ → List ℕ → List ℕ
+stepSheet b o list sheet =
+    sheetBy o (toldOf b (callOf o list)) (ownerSeen (seen (b .station .pool) (o .place))) (putOf b o list) sheet

@@ -1,16 +1,29 @@
 // A byte of the input, and its end: a line that is complete is taken, and what comes of it is printed.
 ghost use mathlib.Core.Path.{_≡_};
+ghost use mathlib.Core.Bool.{true};
+ghost use mathlib.Core.List.{_++_};
 ghost use Rattle.report.specs.Page.{page, inks};
-ghost use Rattle.buffers.specs.Buffers.{all};
-ghost use Rattle.scenario.specs.Lines.{frontTexts, echoTexts, complaintTexts, endedTexts, startedTexts, anewTexts, anewReader, anewBuffers};
-ghost use Rattle.scenario.specs.Lines.{anewSheet, lineReader, lineBuffers, lineSheet, lineTexts, readerAfter, buffersAfter, sheetAfter};
-ghost use Rattle.scenario.specs.Lines.{textsAfter, lastTexts};
+ghost use Rattle.service.specs.Lent.{lent};
+ghost use Rattle.runs.specs.Order.{callOf};
+ghost use Rattle.runs.specs.Left.{leftOf};
+ghost use Rattle.scenario.specs.Reading.{next};
+ghost use Rattle.scenario.specs.Steps.{stepTexts, stepSheet};
+ghost use Rattle.scenario.specs.Lines.{echoTexts, endedTexts, startedTexts, anewTexts, anewReader, anewBuffers, anewSheet};
+ghost use Rattle.scenario.specs.Lines.{hoursReader, hoursBuffers, hoursSheet, hoursTexts, lineReader, lineBuffers, lineList, lineSheet, lineTexts};
+ghost use Rattle.scenario.specs.Lines.{readerAfter, buffersAfter, listAfter, sheetAfter, textsAfter, lastTexts};
 use crate::Reader;
 use crate::Taken;
+use crate::notes::echo;
+use crate::notes::heard;
+use crate::notes::listing;
+use crate::notes::passed;
+use crate::reading::kept;
 use crate::reading::next;
 use crate::reading::noted;
+use crate::reading::timed;
 use crate::step::perform;
 use numbers::EVERY_NODE;
+use orders::Order;
 use results::refusal;
 
 const NEWLINE: u8 = 10;
@@ -22,37 +35,11 @@ const BLANK: u8 = 2;
 
 const STEP: u8 = 3;
 
-// The front of some bytes.
-fn front(out: &mut [u8], at: usize, text: &[u8], long: usize) -> usize
-    ensures { λ r. ⌜ page (now (out .exit)) r ≡ inks (page (now (out .entry)) at) (frontTexts (now (text .entry)) long) ⌝ }
-{
-    if text.len() < long {
-        return at;
-    }
-    report::text(out, at, &text[..long])
-}
+const CLOCK: u8 = 4;
 
-// The line itself, with its number.
-fn echo(out: &mut [u8], at: usize, r: Reader) -> usize
-    ensures { λ q. ⌜ page (now (out .exit)) q ≡ inks (page (now (out .entry)) at) (echoTexts r) ⌝ }
-{
-    let a = report::number(out, at, b"", r.line);
-    let b = report::text(out, a, b" ");
-    let text = r.text;
-    let c = front(out, b, &text, r.long);
-    report::text(out, c, b"\n")
-}
+const LIST: u8 = 5;
 
-// A line that is no step.
-fn complaint(out: &mut [u8], what: u8, line: u64) -> usize
-    ensures { λ r. ⌜ page (now (out .exit)) r ≡ inks (page (now (out .entry)) 0) (complaintTexts what line) ⌝ }
-{
-    if what == BAD {
-        let a = report::number(out, 0, b"line ", line);
-        return report::text(out, a, b": no such step, nothing done\n");
-    }
-    0
-}
+const HOURS: u8 = 6;
 
 // The end of the scenario that runs.
 fn ended(
@@ -89,17 +76,19 @@ fn anew(
     records: &mut [u8],
     pool: &mut [u8],
     own: &mut [u8],
+    settings: &mut [u8],
     sheet: &mut [u64],
     out: &mut [u8],
     mask: u16,
 ) -> Taken
     ensures reader { λ t. ⌜ t .reader ≡ anewReader r mask ⌝ }
-    ensures buffers { λ t. ⌜ all (now (images .exit)) (now (records .exit)) (now (pool .exit)) (now (own .exit))
-        ≡ anewBuffers (all (now (images .entry)) (now (records .entry)) (now (pool .entry)) (now (own .entry))) mask ⌝ }
+    ensures buffers { λ t. ⌜ lent (now (images .exit)) (now (records .exit)) (now (pool .exit)) (now (own .exit)) (now (settings .exit))
+        ≡ anewBuffers (lent (now (images .entry)) (now (records .entry)) (now (pool .entry)) (now (own .entry)) (now (settings .entry))) mask ⌝ }
     ensures sheet { λ t. ⌜ now (sheet .exit) ≡ anewSheet (now (sheet .entry)) mask ⌝ }
     ensures output { λ t. ⌜ page (now (out .exit)) (t .written)
         ≡ inks (page (now (out .entry)) 0)
-        (anewTexts r (all (now (images .entry)) (now (records .entry)) (now (pool .entry)) (now (own .entry))) (now (sheet .entry)) mask) ⌝ }
+        (anewTexts r (lent (now (images .entry)) (now (records .entry)) (now (pool .entry)) (now (own .entry)) (now (settings .entry)))
+        (now (sheet .entry)) mask) ⌝ }
 {
     if EVERY_NODE < mask {
         let a = echo(out, 0, r);
@@ -111,15 +100,98 @@ fn anew(
         };
     }
     let x = ended(images, records, sheet, out, 0, r.going);
-    let number = runs::start(images, records, pool, own, mask);
+    let number = runs::start(images, records, pool, own, settings, mask);
     replay::blank(sheet);
     let y = echo(out, x, r);
     let z = started(out, y, number);
-    let t = next(r, true);
+    let then = kept(r, 0, 0, 0);
+    let t = next(then, true);
     Taken {
         reader: t,
         written: z,
     }
+}
+
+// A step, printed behind its line, with the bytes that are lent beside it; `then` is the reader that goes on.
+fn stepped(
+    r: Reader,
+    then: Reader,
+    images: &mut [u8],
+    records: &mut [u8],
+    pool: &mut [u8],
+    own: &mut [u8],
+    settings: &mut [u8],
+    list: &[u8],
+    sheet: &mut [u64],
+    out: &mut [u8],
+    o: Order,
+) -> Taken
+    ensures reader { λ t. ⌜ t .reader ≡ next then true ⌝ }
+    ensures buffers { λ t. ⌜ lent (now (images .exit)) (now (records .exit)) (now (pool .exit)) (now (own .exit)) (now (settings .exit))
+        ≡ leftOf (lent (now (images .entry)) (now (records .entry)) (now (pool .entry)) (now (own .entry)) (now (settings .entry)))
+        (callOf o (now (list .entry))) ⌝ }
+    ensures sheet { λ t. ⌜ now (sheet .exit)
+        ≡ stepSheet (lent (now (images .entry)) (now (records .entry)) (now (pool .entry)) (now (own .entry)) (now (settings .entry))) o
+        (now (list .entry)) (now (sheet .entry)) ⌝ }
+    ensures output { λ t. ⌜ page (now (out .exit)) (t .written)
+        ≡ inks (page (now (out .entry)) 0)
+        (echoTexts r ++ stepTexts (lent (now (images .entry)) (now (records .entry)) (now (pool .entry)) (now (own .entry)) (now (settings .entry))) o
+        (now (list .entry))) ⌝ }
+{
+    let a = echo(out, 0, r);
+    let b = perform(images, records, pool, own, settings, list, sheet, out, a, o);
+    let t = next(then, true);
+    Taken {
+        reader: t,
+        written: b,
+    }
+}
+
+// An `hours`: what is listed is laid as a table, and the step takes it.
+fn hours(
+    r: Reader,
+    images: &mut [u8],
+    records: &mut [u8],
+    pool: &mut [u8],
+    own: &mut [u8],
+    settings: &mut [u8],
+    list: &[u64],
+    sheet: &mut [u64],
+    out: &mut [u8],
+    o: Order,
+) -> Taken
+    ensures reader { λ t. ⌜ t .reader ≡ hoursReader r (now (list .entry)) ⌝ }
+    ensures buffers { λ t. ⌜ lent (now (images .exit)) (now (records .exit)) (now (pool .exit)) (now (own .exit)) (now (settings .exit))
+        ≡ hoursBuffers r (now (list .entry))
+        (lent (now (images .entry)) (now (records .entry)) (now (pool .entry)) (now (own .entry)) (now (settings .entry))) o ⌝ }
+    ensures sheet { λ t. ⌜ now (sheet .exit)
+        ≡ hoursSheet r (now (list .entry))
+        (lent (now (images .entry)) (now (records .entry)) (now (pool .entry)) (now (own .entry)) (now (settings .entry))) (now (sheet .entry)) o ⌝ }
+    ensures output { λ t. ⌜ page (now (out .exit)) (t .written)
+        ≡ inks (page (now (out .entry)) 0)
+        (hoursTexts r (now (list .entry))
+        (lent (now (images .entry)) (now (records .entry)) (now (pool .entry)) (now (own .entry)) (now (settings .entry))) o) ⌝ }
+{
+    let mut bytes = [0u8; lists::SIZE];
+    let laid = lists::lay(list, r.listed, &mut bytes);
+    if !laid.fits {
+        return passed(r, out, BAD);
+    }
+    let long = laid.long;
+    let then = kept(r, r.day, r.minute, 0);
+    stepped(
+        r,
+        then,
+        images,
+        records,
+        pool,
+        own,
+        settings,
+        &bytes[..long],
+        sheet,
+        out,
+        o,
+    )
 }
 
 // A line that ended.
@@ -129,40 +201,59 @@ fn line(
     records: &mut [u8],
     pool: &mut [u8],
     own: &mut [u8],
+    settings: &mut [u8],
+    list: &mut [u64],
     sheet: &mut [u64],
     out: &mut [u8],
 ) -> Taken
-    ensures reader { λ t. ⌜ t .reader ≡ lineReader r ⌝ }
-    ensures buffers { λ t. ⌜ all (now (images .exit)) (now (records .exit)) (now (pool .exit)) (now (own .exit))
-        ≡ lineBuffers r (all (now (images .entry)) (now (records .entry)) (now (pool .entry)) (now (own .entry))) ⌝ }
-    ensures sheet { λ t. ⌜ now (sheet .exit) ≡ lineSheet r (all (now (images .entry)) (now (records .entry)) (now (pool .entry)) (now (own .entry)))
-        (now (sheet .entry)) ⌝ }
+    ensures reader { λ t. ⌜ t .reader ≡ lineReader r (now (list .entry)) ⌝ }
+    ensures buffers { λ t. ⌜ lent (now (images .exit)) (now (records .exit)) (now (pool .exit)) (now (own .exit)) (now (settings .exit))
+        ≡ lineBuffers r (now (list .entry))
+        (lent (now (images .entry)) (now (records .entry)) (now (pool .entry)) (now (own .entry)) (now (settings .entry))) ⌝ }
+    ensures list { λ t. ⌜ now (list .exit) ≡ lineList r (now (list .entry)) ⌝ }
+    ensures sheet { λ t. ⌜ now (sheet .exit)
+        ≡ lineSheet r (now (list .entry))
+        (lent (now (images .entry)) (now (records .entry)) (now (pool .entry)) (now (own .entry)) (now (settings .entry))) (now (sheet .entry)) ⌝ }
     ensures output { λ t. ⌜ page (now (out .exit)) (t .written)
         ≡ inks (page (now (out .entry)) 0)
-        (lineTexts r (all (now (images .entry)) (now (records .entry)) (now (pool .entry)) (now (own .entry))) (now (sheet .entry))) ⌝ }
+        (lineTexts r (now (list .entry))
+        (lent (now (images .entry)) (now (records .entry)) (now (pool .entry)) (now (own .entry)) (now (settings .entry))) (now (sheet .entry))) ⌝ }
 {
     let said = r.said;
     let p = script::parse(said);
-    let o = p.order;
+    let q = p.order;
+    let o = timed(r, q);
     if p.what == BLANK {
-        let mask = o.with.live;
-        return anew(r, images, records, pool, own, sheet, out, mask);
+        let mask = q.with.live;
+        return anew(r, images, records, pool, own, settings, sheet, out, mask);
     }
     if p.what == STEP {
-        let a = echo(out, 0, r);
-        let b = perform(images, records, pool, own, sheet, out, a, o);
-        let t = next(r, true);
-        return Taken {
-            reader: t,
-            written: b,
-        };
+        return stepped(
+            r,
+            r,
+            images,
+            records,
+            pool,
+            own,
+            settings,
+            b"",
+            sheet,
+            out,
+            o,
+        );
     }
-    let c = complaint(out, p.what, r.line);
-    let t = next(r, r.going);
-    Taken {
-        reader: t,
-        written: c,
+    if p.what == CLOCK {
+        let then = kept(r, q.day, q.minute, r.listed);
+        return heard(r, then, out);
     }
+    if p.what == LIST {
+        let numbers = p.numbers;
+        return listing(r, list, out, numbers, p.count);
+    }
+    if p.what == HOURS {
+        return hours(r, images, records, pool, own, settings, list, sheet, out, o);
+    }
+    passed(r, out, p.what)
 }
 
 // One byte of the input. Ruled out: a step taken before its line has ended; a bad line that does something.
@@ -173,20 +264,26 @@ pub fn take(
     records: &mut [u8],
     pool: &mut [u8],
     own: &mut [u8],
+    settings: &mut [u8],
+    list: &mut [u64],
     sheet: &mut [u64],
     out: &mut [u8],
 ) -> Taken
-    ensures reader { λ t. ⌜ t .reader ≡ readerAfter r b ⌝ }
-    ensures buffers { λ t. ⌜ all (now (images .exit)) (now (records .exit)) (now (pool .exit)) (now (own .exit))
-        ≡ buffersAfter r b (all (now (images .entry)) (now (records .entry)) (now (pool .entry)) (now (own .entry))) ⌝ }
-    ensures sheet { λ t. ⌜ now (sheet .exit) ≡ sheetAfter r b
-        (all (now (images .entry)) (now (records .entry)) (now (pool .entry)) (now (own .entry))) (now (sheet .entry)) ⌝ }
+    ensures reader { λ t. ⌜ t .reader ≡ readerAfter r b (now (list .entry)) ⌝ }
+    ensures buffers { λ t. ⌜ lent (now (images .exit)) (now (records .exit)) (now (pool .exit)) (now (own .exit)) (now (settings .exit))
+        ≡ buffersAfter r b (now (list .entry))
+        (lent (now (images .entry)) (now (records .entry)) (now (pool .entry)) (now (own .entry)) (now (settings .entry))) ⌝ }
+    ensures list { λ t. ⌜ now (list .exit) ≡ listAfter r b (now (list .entry)) ⌝ }
+    ensures sheet { λ t. ⌜ now (sheet .exit)
+        ≡ sheetAfter r b (now (list .entry))
+        (lent (now (images .entry)) (now (records .entry)) (now (pool .entry)) (now (own .entry)) (now (settings .entry))) (now (sheet .entry)) ⌝ }
     ensures output { λ t. ⌜ page (now (out .exit)) (t .written)
         ≡ inks (page (now (out .entry)) 0)
-        (textsAfter r b (all (now (images .entry)) (now (records .entry)) (now (pool .entry)) (now (own .entry))) (now (sheet .entry))) ⌝ }
+        (textsAfter r b (now (list .entry))
+        (lent (now (images .entry)) (now (records .entry)) (now (pool .entry)) (now (own .entry)) (now (settings .entry))) (now (sheet .entry))) ⌝ }
 {
     if b == NEWLINE {
-        return line(r, images, records, pool, own, sheet, out);
+        return line(r, images, records, pool, own, settings, list, sheet, out);
     }
     let t = noted(r, b);
     Taken {
@@ -203,18 +300,24 @@ pub fn finish(
     records: &mut [u8],
     pool: &mut [u8],
     own: &mut [u8],
+    settings: &mut [u8],
+    list: &mut [u64],
     sheet: &mut [u64],
     out: &mut [u8],
 ) -> usize
-    ensures buffers { λ q. ⌜ all (now (images .exit)) (now (records .exit)) (now (pool .exit)) (now (own .exit))
-        ≡ lineBuffers r (all (now (images .entry)) (now (records .entry)) (now (pool .entry)) (now (own .entry))) ⌝ }
-    ensures sheet { λ q. ⌜ now (sheet .exit) ≡ lineSheet r
-        (all (now (images .entry)) (now (records .entry)) (now (pool .entry)) (now (own .entry))) (now (sheet .entry)) ⌝ }
+    ensures buffers { λ q. ⌜ lent (now (images .exit)) (now (records .exit)) (now (pool .exit)) (now (own .exit)) (now (settings .exit))
+        ≡ lineBuffers r (now (list .entry))
+        (lent (now (images .entry)) (now (records .entry)) (now (pool .entry)) (now (own .entry)) (now (settings .entry))) ⌝ }
+    ensures list { λ q. ⌜ now (list .exit) ≡ lineList r (now (list .entry)) ⌝ }
+    ensures sheet { λ q. ⌜ now (sheet .exit)
+        ≡ lineSheet r (now (list .entry))
+        (lent (now (images .entry)) (now (records .entry)) (now (pool .entry)) (now (own .entry)) (now (settings .entry))) (now (sheet .entry)) ⌝ }
     ensures output { λ q. ⌜ page (now (out .exit)) q
         ≡ inks (page (now (out .entry)) 0)
-        (lastTexts r (all (now (images .entry)) (now (records .entry)) (now (pool .entry)) (now (own .entry))) (now (sheet .entry))) ⌝ }
+        (lastTexts r (now (list .entry))
+        (lent (now (images .entry)) (now (records .entry)) (now (pool .entry)) (now (own .entry)) (now (settings .entry))) (now (sheet .entry))) ⌝ }
 {
-    let t = line(r, images, records, pool, own, sheet, out);
+    let t = line(r, images, records, pool, own, settings, list, sheet, out);
     let s = t.reader;
     ended(images, records, sheet, out, t.written, s.going)
 }

@@ -1,8 +1,9 @@
-// A line that is being read, with its bytes.
+// A line that is being read, with its bytes, and what is kept from line to line.
 ghost use mathlib.Core.Path.{_≡_};
-ghost use Rattle.scenario.specs.Reading.{fresh, noted, next};
+ghost use Rattle.scenario.specs.Reading.{fresh, noted, next, kept, timed};
 use crate::LONGEST_LINE;
 use crate::Reader;
+use orders::Order;
 
 // The part of a line that is bad, whatever comes.
 const SPOILT: u8 = 7;
@@ -18,6 +19,9 @@ pub fn fresh() -> Reader
         long: 0,
         line: 1,
         going: false,
+        day: 0,
+        minute: 0,
+        listed: 0,
     }
 }
 
@@ -50,5 +54,26 @@ pub(crate) fn next(r: Reader, going: bool) -> Reader
     t.long = 0;
     t.line = if n < 18446744073709551615 { n + 1 } else { n };
     t.going = going;
+    t
+}
+
+// Another clock, and another count of what is listed.
+pub(crate) fn kept(r: Reader, day: u32, minute: u16, listed: usize) -> Reader
+    ensures { λ t. ⌜ t ≡ kept r day minute listed ⌝ }
+{
+    let mut t = r;
+    t.day = day;
+    t.minute = minute;
+    t.listed = listed;
+    t
+}
+
+// An order with the clock.
+pub(crate) fn timed(r: Reader, o: Order) -> Order
+    ensures { λ t. ⌜ t ≡ timed r o ⌝ }
+{
+    let mut t = o;
+    t.day = r.day;
+    t.minute = r.minute;
     t
 }

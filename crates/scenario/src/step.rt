@@ -1,7 +1,7 @@
 // A step taken at the station: the message that it names, what it answered and the message that it put are printed, and replay is told of it.
 ghost use mathlib.Core.Path.{_≡_};
 ghost use Rattle.report.specs.Page.{page, inks};
-ghost use Rattle.buffers.specs.Buffers.{all};
+ghost use Rattle.service.specs.Lent.{lent};
 ghost use Rattle.runs.specs.Order.{callOf};
 ghost use Rattle.runs.specs.Left.{leftOf};
 ghost use Rattle.scenario.specs.Steps.{stepTexts, stepSheet};
@@ -18,23 +18,29 @@ pub(crate) fn perform(
     records: &mut [u8],
     pool: &mut [u8],
     own: &mut [u8],
+    settings: &mut [u8],
+    list: &[u8],
     sheet: &mut [u64],
     out: &mut [u8],
     at: usize,
     o: Order,
 ) -> usize
-    ensures buffers { λ r. ⌜ all (now (images .exit)) (now (records .exit)) (now (pool .exit)) (now (own .exit))
-        ≡ leftOf (all (now (images .entry)) (now (records .entry)) (now (pool .entry)) (now (own .entry))) (callOf o) ⌝ }
+    ensures buffers { λ r. ⌜ lent (now (images .exit)) (now (records .exit)) (now (pool .exit)) (now (own .exit)) (now (settings .exit))
+        ≡ leftOf (lent (now (images .entry)) (now (records .entry)) (now (pool .entry)) (now (own .entry)) (now (settings .entry)))
+        (callOf o (now (list .entry))) ⌝ }
     ensures sheet { λ r. ⌜ now (sheet .exit)
-        ≡ stepSheet (all (now (images .entry)) (now (records .entry)) (now (pool .entry)) (now (own .entry))) o (now (sheet .entry)) ⌝ }
+        ≡ stepSheet (lent (now (images .entry)) (now (records .entry)) (now (pool .entry)) (now (own .entry)) (now (settings .entry))) o
+        (now (list .entry)) (now (sheet .entry)) ⌝ }
     ensures output { λ r. ⌜ page (now (out .exit)) r
-        ≡ inks (page (now (out .entry)) at) (stepTexts (all (now (images .entry)) (now (records .entry)) (now (pool .entry)) (now (own .entry))) o) ⌝ }
+        ≡ inks (page (now (out .entry)) at)
+        (stepTexts (lent (now (images .entry)) (now (records .entry)) (now (pool .entry)) (now (own .entry)) (now (settings .entry))) o
+        (now (list .entry))) ⌝ }
 {
     let before = count(pool);
     let owner = owner_of(pool, o.place);
     let kind = o.kind;
     let x = named(out, at, pool, kind, o.place);
-    let a = runs::step(images, records, pool, own, o);
+    let a = runs::step(images, records, pool, own, settings, list, o);
     let y = result(out, x, kind, a);
     conclude(pool, sheet, out, y, o, a, before, owner)
 }

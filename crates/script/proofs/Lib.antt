@@ -1,2 +1,3 @@
--- The words by their letters (Words).
+-- The words by their letters (Words), and the laws of the loops over a line's numbers (Laws).
 pub mod Words
+pub mod Laws

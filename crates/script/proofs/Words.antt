@@ -3,7 +3,7 @@ use mathlib.Core.Path.{_≡_, refl}
 use mathlib.Core.List.{[], _∷_}
 use Rattle.script.specs.Words.{packed, packedFrom}
 use Rattle.script.specs.Words.{blankWord, beginWord, reselectWord, readWord, writeWord, setWord, foundWord, askWord, abortWord}
-use Rattle.script.specs.Words.{sendWord, deliverWord, keepWord, dropWord, onWord, offWord}
+use Rattle.script.specs.Words.{sendWord, deliverWord, keepWord, dropWord, onWord, offWord, clockWord, listWord, hoursWord}
 
 -- `blank`
 pub blank-word : blankWord ≡ packed (98 ∷ 108 ∷ 97 ∷ 110 ∷ 107 ∷ [])
@@ -79,3 +79,18 @@ on-word = refl
 pub off-word : offWord ≡ packed (111 ∷ 102 ∷ 102 ∷ [])
 unfolding packed packedFrom
 off-word = refl
+
+-- `clock`
+pub clock-word : clockWord ≡ packed (99 ∷ 108 ∷ 111 ∷ 99 ∷ 107 ∷ [])
+unfolding packed packedFrom
+clock-word = refl
+
+-- `list`
+pub list-word : listWord ≡ packed (108 ∷ 105 ∷ 115 ∷ 116 ∷ [])
+unfolding packed packedFrom
+list-word = refl
+
+-- `hours`
+pub hours-word : hoursWord ≡ packed (104 ∷ 111 ∷ 117 ∷ 114 ∷ 115 ∷ [])
+unfolding packed packedFrom
+hours-word = refl

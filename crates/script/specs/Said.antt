@@ -5,9 +5,7 @@ use mathlib.Core.Bool.{Bool, cond}
 use mathlib.Core.List.{List, [], _∷_}
 use lib.Dec.{ltb, eqb}
 use lib.ListN.{set, replicate}
-use Rattle.numbers.specs.Sizes.{nodes}
 use Rattle.script.specs.declared.Said.{Said}
-use Rattle.script.specs.Words.{reselectWord}
 
 -- ---- in which part of a line the next byte is
 abbrev pub beforeWord : ℕ
@@ -36,13 +34,17 @@ inComment = 6
 abbrev pub spoilt : ℕ
 spoilt = 7
 
--- ---- a line of which nothing is read. Where no distances are given, all are 1
+-- the most numbers of a line
+abbrev pub mostNumbers : ℕ
+mostNumbers = 16
+
+-- ---- a line of which nothing is read
 unfoldable pub fresh : Said
-fresh = record { part = beforeWord; word = 0; count = 0; value = 0; numbers = replicate 3 0; distances = replicate nodes 1 }
+fresh = record { part = beforeWord; word = 0; count = 0; value = 0; numbers = replicate mostNumbers 0 }
 
 -- the same in another part
 unfoldable pub inPart : Said → ℕ → Said
-inPart s p = record { part = p; word = s .word; count = s .count; value = s .value; numbers = s .numbers; distances = s .distances }
+inPart s p = record { part = p; word = s .word; count = s .count; value = s .value; numbers = s .numbers }
 
 abbrev pub bad : Said → Said
 bad s = inPart s spoilt
@@ -50,7 +52,7 @@ bad s = inPart s spoilt
 -- ---- a letter: words come first, and have at most eight letters
 unfoldable pub withLetter : Said → ℕ → Said
 withLetter s b =
-    record { part = inWord; word = s .word * 256 + b; count = s .count; value = s .value; numbers = s .numbers; distances = s .distances }
+    record { part = inWord; word = s .word * 256 + b; count = s .count; value = s .value; numbers = s .numbers }
 
 unfoldable pub letter : Said → ℕ → Said
 letter s b = cond (ltb inWord (s .part)) (bad s) (cond (ltb 72057594037927935 (s .word)) (bad s) (withLetter s b))
@@ -64,7 +66,7 @@ digitsPart part = cond (ltb part behindMinus) inNumber inNegative
 
 unfoldable pub withDigit : Said → ℕ → Said
 withDigit s v =
-    record { part = digitsPart (s .part); word = s .word; count = s .count; value = v; numbers = s .numbers; distances = s .distances }
+    record { part = digitsPart (s .part); word = s .word; count = s .count; value = v; numbers = s .numbers }
 
 unfoldable pub digit : Said → ℕ → Said
 digit s d =
@@ -78,26 +80,12 @@ negated v = cond (eqb v 0) 0 (18446744073709551615 - v + 1)
 unfoldable pub bits : ℕ → ℕ → ℕ
 bits part v = cond (eqb part inNegative) (negated v) v
 
--- how many numbers come before the distances
-unfoldable pub head : ℕ → ℕ
-head w = cond (eqb w reselectWord) 2 3
-
+-- a line with more numbers than the most is bad
 unfoldable pub withNumber : Said → ℕ → Said
-withNumber s v =
-    record { part = between; word = s .word; count = s .count + 1; value = 0; numbers = set (s .numbers) (s .count) v; distances = s .distances }
-
-unfoldable pub withDistance : Said → ℕ → ℕ → Said
-withDistance s i v =
-    record { part = between; word = s .word; count = s .count + 1; value = 0; numbers = s .numbers; distances = set (s .distances) i v }
-
--- thirteen distances at most, each below 65,536
-unfoldable pub distance : Said → ℕ → ℕ → Said
-distance s i v = cond (ltb 12 i) (bad s) (cond (ltb 65535 v) (bad s) (withDistance s i v))
+withNumber s v = record { part = between; word = s .word; count = s .count + 1; value = 0; numbers = set (s .numbers) (s .count) v }
 
 unfoldable pub complete : Said → Said
-complete s =
-    cond (ltb (s .count) (head (s .word))) (withNumber s (bits (s .part) (s .value)))
-    (distance s (s .count - head (s .word)) (bits (s .part) (s .value)))
+complete s = cond (ltb (s .count) mostNumbers) (withNumber s (bits (s .part) (s .value))) (bad s)
 
 -- ---- a space ends what stands before it
 unfoldable pub space : Said → Said

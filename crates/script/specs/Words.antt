@@ -54,3 +54,12 @@ onWord = 28526
 
 abbrev pub offWord : ℕ
 offWord = 7300710
+
+abbrev pub clockWord : ℕ
+clockWord = 427021001579
+
+abbrev pub listWord : ℕ
+listWord = 1818850164
+
+abbrev pub hoursWord : ℕ
+hoursWord = 448546566771

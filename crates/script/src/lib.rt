@@ -5,8 +5,10 @@ mod naming;
 pub use line::fresh;
 pub use line::step;
 pub use naming::parse;
-use numbers::NODES;
 use orders::Order;
+
+// The most numbers of a line.
+pub const MOST_NUMBERS: usize = 16;
 
 // What the bytes of a line say so far.
 pub struct Said {
@@ -17,13 +19,15 @@ pub struct Said {
     pub count: usize,
     // The number that is being read.
     pub value: u64,
-    // The complete numbers: up to three, then the distances.
-    pub numbers: [u64; 3],
-    pub distances: [u16; NODES],
+    // The complete numbers, and zeros behind them.
+    pub numbers: [u64; MOST_NUMBERS],
 }
 
-// What a line is: 0 it says nothing, 1 it is bad, 2 `blank` with its mask as the order's live mask, 3 a step.
+// What a line is: 0 it says nothing, 1 it is bad, 2 `blank` with its mask as the order's live mask, 3 a step, 4 `clock` with its day and its minute as the
+// order's, 5 `list` with its numbers, 6 `hours`, a step that takes what is listed.
 pub struct Parsed {
     pub what: u8,
     pub order: Order,
+    pub count: usize,
+    pub numbers: [u64; MOST_NUMBERS],
 }

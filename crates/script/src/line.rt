@@ -1,12 +1,11 @@
 // What the bytes of a line say, one after another.
 ghost use mathlib.Core.Path.{_≡_};
-ghost use mathlib.Core.Bool.{cond};
-ghost use Prim.Native.Nat.{_+_, _≤_, _<_};
-ghost use Rattle.script.specs.Said.{fresh, inPart, bad, letter, most, digitsPart, digit, negated, bits, head};
-ghost use Rattle.script.specs.Said.{withNumber, distance, complete, space, silenced, minus, sign, letterOrNone};
+ghost use Prim.Native.Nat.{_+_, _<_};
+ghost use Rattle.script.specs.Said.{fresh, inPart, bad, letter, most, digitsPart, digit, negated, bits};
+ghost use Rattle.script.specs.Said.{withNumber, complete, space, silenced, minus, sign, letterOrNone};
 ghost use Rattle.script.specs.Said.{step as stepSaid};
+use crate::MOST_NUMBERS;
 use crate::Said;
-use numbers::NODES;
 
 // The parts of a line.
 const BEFORE_WORD: u8 = 0;
@@ -25,8 +24,6 @@ const IN_COMMENT: u8 = 6;
 
 const SPOILT: u8 = 7;
 
-const RESELECT: u64 = 8243121572419036020;
-
 // The largest number that another digit may be put behind, and the largest word that another letter may.
 const SHORT_NUMBER: u64 = 922337203685477580;
 
@@ -41,8 +38,7 @@ pub fn fresh() -> Said
         word: 0,
         count: 0,
         value: 0,
-        numbers: [0; 3],
-        distances: [1; NODES],
+        numbers: [0; MOST_NUMBERS],
     }
 }
 
@@ -130,16 +126,9 @@ fn bits(part: u8, v: u64) -> u64
     if part == IN_NEGATIVE { negated(v) } else { v }
 }
 
-// How many numbers come before the distances.
-fn head(word: u64) -> usize
-    ensures { λ r. ⌜ (r ≡ head word) × (r ≤ 3) ⌝ }
-{
-    if word == RESELECT { 2 } else { 3 }
-}
-
-// One of the numbers before the distances.
+// One more number.
 fn number(s: Said, v: u64) -> Said
-    requires { ⌜ s .count < 3 ⌝ }
+    requires { ⌜ s .count < 16 ⌝ }
     ensures { λ r. ⌜ r ≡ withNumber s v ⌝ }
 {
     let mut t = s;
@@ -151,35 +140,14 @@ fn number(s: Said, v: u64) -> Said
     t
 }
 
-// A distance.
-fn distance(s: Said, i: usize, v: u64) -> Said
-    requires { ⌜ s .count ≤ i + 3 ⌝ }
-    ensures { λ r. ⌜ r ≡ distance s i v ⌝ }
-{
-    if 12 < i {
-        return in_part(s, SPOILT);
-    }
-    if 65535 < v {
-        return in_part(s, SPOILT);
-    }
-    let mut t = s;
-    t.part = BETWEEN;
-    t.count = s.count + 1;
-    t.value = 0;
-    t.distances[i] = v as u16;
-    t
-}
-
-// The number that was read is complete.
+// The number that was read is complete; a line with too many is bad.
 fn complete(s: Said) -> Said
     ensures { λ r. ⌜ r ≡ complete s ⌝ }
 {
-    let v = bits(s.part, s.value);
-    let h = head(s.word);
-    if s.count < h {
-        return number(s, v);
+    if s.count < MOST_NUMBERS {
+        return number(s, bits(s.part, s.value));
     }
-    distance(s, s.count - h, v)
+    in_part(s, SPOILT)
 }
 
 // A space.

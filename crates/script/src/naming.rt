@@ -1,13 +1,15 @@
 // The step that a line names.
 ghost use mathlib.Core.Path.{_≡_};
 ghost use mathlib.Core.Bool.{cond};
-ghost use Prim.Native.Nat.{_+_, _%_};
-ghost use Rattle.script.specs.Parse.{arity, mayMeasure, full, firstMost, secondMost, thirdMost, countFits, numbersFit, isStep, kindOf, orderOf};
-ghost use Rattle.script.specs.Parse.{whatOf, parsed};
+ghost use Prim.Native.Nat.{_+_, _%_, _≤_};
+ghost use Rattle.script.specs.Parse.{arity, mayMeasure, firstMost, secondMost, thirdMost, mostAt, countFits, fitFrom, isGood, kindOf, distancesOf};
+ghost use Rattle.script.specs.Parse.{withOf, orderOf, lineOf, whatOf, parsed};
+use crate::MOST_NUMBERS;
 use crate::Parsed;
 use crate::Said;
 use crate::line::space;
 use coordinator::BeginWith;
+use numbers::NODES;
 use numbers::both;
 use numbers::either;
 use orders::Kind;
@@ -43,6 +45,12 @@ const ON: u64 = 28526;
 
 const OFF: u64 = 7300710;
 
+const CLOCK: u64 = 427021001579;
+
+const LIST: u64 = 1818850164;
+
+const HOURS: u64 = 448546566771;
+
 const SPOILT: u8 = 7;
 
 // One of two numbers.
@@ -73,16 +81,19 @@ fn low32(x: u64) -> u32
 
 // How many numbers follow a word.
 fn arity(w: u64) -> u64
-    ensures { λ r. ⌜ r ≡ arity w ⌝ }
+    ensures { λ r. ⌜ (r ≡ arity w) × (r ≤ 3) ⌝ }
 {
     let three = either(w == BEGIN, either(w == SET, w == SEND));
     let two = either(
         w == READ,
-        either(w == WRITE, either(w == FOUND, w == RESELECT)),
+        either(
+            w == WRITE,
+            either(w == FOUND, either(w == RESELECT, w == CLOCK)),
+        ),
     );
     let place = either(
         w == DELIVER,
-        either(w == KEEP, either(w == DROP, w == BLANK)),
+        either(w == KEEP, either(w == DROP, either(w == BLANK, w == HOURS))),
     );
     let one = either(
         w == ASK,
@@ -97,24 +108,18 @@ fn may_measure(w: u64) -> bool
     either(w == BEGIN, w == RESELECT)
 }
 
-// How many follow with them.
-fn full(w: u64) -> u64
-    ensures { λ r. ⌜ r ≡ full w ⌝ }
-{
-    choose(w == BEGIN, 16, 15)
-}
-
 // How large each number may be.
 fn first_most(w: u64) -> u64
     ensures { λ r. ⌜ r ≡ firstMost w ⌝ }
 {
-    choose(w == BLANK, 65535, 255)
+    choose(w == BLANK, 65535, choose(w == CLOCK, 4294967295, 255))
 }
 
 fn second_most(w: u64) -> u64
     ensures { λ r. ⌜ r ≡ secondMost w ⌝ }
 {
-    choose(w == BEGIN, 4294967295, choose(w == RESELECT, 65535, 255))
+    let short = either(w == RESELECT, w == CLOCK);
+    choose(w == BEGIN, 4294967295, choose(short, 65535, 255))
 }
 
 fn third_most(w: u64) -> u64
@@ -127,34 +132,41 @@ fn third_most(w: u64) -> u64
     )
 }
 
+fn most_at(w: u64, i: u64) -> u64
+    ensures { λ r. ⌜ r ≡ mostAt w i ⌝ }
+{
+    let distance = both(may_measure(w), arity(w) <= i);
+    let later = choose(i == 1, second_most(w), third_most(w));
+    let named = choose(i == 0, first_most(w), later);
+    choose(w == LIST, 4294967295, choose(distance, 65535, named))
+}
+
 // Whether the numbers are as the word wants them.
 fn count_fits(w: u64, n: u64) -> bool
     ensures { λ r. ⌜ r ≡ countFits w n ⌝ }
 {
     let k = arity(w);
-    let more = both(may_measure(w), n == full(w));
-    both(k != 0, either(n == k, more))
+    let more = both(may_measure(w), n == k + NODES as u64);
+    either(w == LIST, both(k != 0, either(n == k, more)))
 }
 
-fn numbers_fit(w: u64, a: u64, b: u64, c: u64) -> bool
-    ensures { λ r. ⌜ r ≡ numbersFit w a b c ⌝ }
+fn numbers_fit(s: Said) -> bool
+    ensures { λ r. ⌜ r ≡ fitFrom (s .word) 0 (s .numbers) ⌝ }
 {
-    both(
-        a <= first_most(w),
-        both(b <= second_most(w), c <= third_most(w)),
-    )
+    let mut i: usize = 0;
+    while i < MOST_NUMBERS {
+        if most_at(s.word, i as u64) < s.numbers[i] {
+            return false;
+        }
+        i += 1;
+    }
+    true
 }
 
-fn is_step(s: Said) -> bool
-    ensures { λ r. ⌜ r ≡ isStep s ⌝ }
+fn is_good(s: Said) -> bool
+    ensures { λ r. ⌜ r ≡ isGood s ⌝ }
 {
-    let a = s.numbers[0];
-    let b = s.numbers[1];
-    let c = s.numbers[2];
-    both(
-        count_fits(s.word, s.count as u64),
-        numbers_fit(s.word, a, b, c),
-    )
+    both(count_fits(s.word, s.count as u64), numbers_fit(s))
 }
 
 // The kind of a step.
@@ -191,10 +203,48 @@ fn kind_of(w: u64) -> Kind
     if w == DROP {
         return Kind::Drop;
     }
+    if w == HOURS {
+        return Kind::LoadHours;
+    }
     if either(w == DELIVER, w == KEEP) {
         return Kind::Deliver;
     }
     Kind::Switch
+}
+
+// The distances: the numbers behind the others.
+fn distances_of(s: Said) -> [u16; NODES]
+    ensures { λ r. ⌜ r ≡ distancesOf s ⌝ }
+{
+    let mut d = [1u16; NODES];
+    let h = arity(s.word) as usize;
+    if s.count == h {
+        return d;
+    }
+    let mut i: usize = 0;
+    while i < NODES {
+        let j = h + i;
+        d[i] = low16(s.numbers[j]);
+        i += 1;
+    }
+    d
+}
+
+// What a begin or a reselect needs.
+fn with_of(s: Said) -> BeginWith
+    ensures { λ r. ⌜ r ≡ withOf s ⌝ }
+{
+    let w = s.word;
+    let a = s.numbers[0];
+    let b = s.numbers[1];
+    let c = s.numbers[2];
+    let distances = distances_of(s);
+    let live = choose(w == BEGIN, c, choose(w == RESELECT, b, a));
+    BeginWith {
+        live: low16(live),
+        distances,
+        timestamp: low32(b),
+    }
 }
 
 // The step.
@@ -205,28 +255,41 @@ fn order_of(s: Said) -> Order
     let a = s.numbers[0];
     let b = s.numbers[1];
     let c = s.numbers[2];
-    let distances = s.distances;
     let kind = kind_of(w);
-    let object = choose(w == SEND, c, b);
-    let live = choose(w == BEGIN, c, choose(w == RESELECT, b, a));
-    let with = BeginWith {
-        live: low16(live),
-        distances,
-        timestamp: low32(b),
-    };
+    let with = with_of(s);
     Order {
         kind,
         node: low8(a),
         to: low8(b),
-        object: low8(object),
+        object: low8(choose(w == SEND, c, b)),
         place: low8(a),
         flag: either(w == KEEP, w == ON),
         value: c,
+        day: low32(choose(w == CLOCK, a, 0)),
+        minute: low16(choose(w == CLOCK, b, 0)),
         with,
     }
 }
 
 // What a line is.
+fn line_of(w: u64) -> u8
+    ensures { λ r. ⌜ r ≡ lineOf w ⌝ }
+{
+    if w == BLANK {
+        return 2;
+    }
+    if w == CLOCK {
+        return 4;
+    }
+    if w == LIST {
+        return 5;
+    }
+    if w == HOURS {
+        return 6;
+    }
+    3
+}
+
 fn what_of(s: Said) -> u8
     ensures { λ r. ⌜ r ≡ whatOf s ⌝ }
 {
@@ -236,11 +299,8 @@ fn what_of(s: Said) -> u8
     if s.word == 0 {
         return 0;
     }
-    if is_step(s) {
-        if s.word == BLANK {
-            return 2;
-        }
-        return 3;
+    if is_good(s) {
+        return line_of(s.word);
     }
     1
 }
@@ -252,8 +312,11 @@ pub fn parse(s: Said) -> Parsed
 {
     let t = space(s);
     let order = order_of(t);
+    let numbers = t.numbers;
     Parsed {
         what: what_of(t),
         order,
+        count: t.count,
+        numbers,
     }
 }

@@ -9,6 +9,7 @@ use lib.Dec.{eqb, ltb}
 use lib.ListN.{length, getD}
 use borrow.Author.Tests.{eq-eqb, ne-eqb, eqb-true, eqb-false, lt-ltb, le-ltb, ltb-true, ltb-false}
 use Rattle.numbers.specs.Sizes.{nodes}
+use Rattle.numbers.specs.Refusal.{lower}
 use Rattle.mask.specs.Mask.{contains}
 use Rattle.wire.specs.Formed.{countsOk, namesOk, wellFormed}
 use Rattle.wire.specs.Encode.{sizeOf}
@@ -24,10 +25,10 @@ use Rattle.steps.specs.Station.{Station, putAt}
 use Rattle.steps.specs.Step.{delivery, Outcome, refusedWith, atReplica, atCoordinator, arriving, deliveryOf, step}
 use Rattle.buffers.specs.Buffers.{Buffers, wrong, ownNumber, onOf, recordDamaged, recordFirst, stationOf}
 use Rattle.buffers.specs.Buffers.{answerWith, told, recordsAfter, all, withImageAt, imagesSize, recordsSize}
-use Rattle.station.specs.Messages.{lower, lengthsNumber, buffersNumber, messageIn, reaches, deliveryFirst, deliveryTold, imagesAfter, deliveryImages}
+use Rattle.station.specs.Messages.{lengthsNumber, buffersNumber, messageIn, reaches, deliveryFirst, deliveryTold, imagesAfter, deliveryImages}
 use Rattle.station.specs.Messages.{deliveryRecords, leaving, exchanged, putInto, deliveryPool}
 use Rattle.buffers.proofs.First.{long}
-use Rattle.station.proofs.Lower.{lower-none}
+use Rattle.numbers.proofs.Laws.{lower-none}
 use Rattle.station.proofs.Delivering.{image-in, image-same, Leaves, images-first}
 
 -- ---- what the numbers of the buffers and of the message tell

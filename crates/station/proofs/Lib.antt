@@ -1,5 +1,4 @@
--- What sends (Sending), drops (Dropping) and deliveries (Waiting, Delivering, Arriving) tell and leave; of two numbers neither refuses (Lower).
-pub mod Lower
+-- What sends (Sending), drops (Dropping) and deliveries (Waiting, Delivering, Arriving) tell and leave.
 pub mod Sending
 pub mod Dropping
 pub mod Waiting

@@ -11,7 +11,7 @@ use lib.Seq.{take-append-seam}
 use borrow.Author.Tests.{eq-eqb, ne-eqb, eqb-true, eqb-false, lt-ltb, le-ltb, ltb-true, not-false}
 use Rattle.numbers.specs.Sizes.{nodes, objects, longestMessage, mostWaiting}
 use Rattle.mask.specs.Mask.{contains}
-use Rattle.numbers.specs.Refusal.{firstOf}
+use Rattle.numbers.specs.Refusal.{firstOf, lower}
 use Rattle.letters.specs.declared.Written.{Written}
 use Rattle.wire.specs.Message.{Message}
 use Rattle.wire.specs.Formed.{wellFormed}
@@ -34,7 +34,7 @@ use Rattle.steps.specs.Station.{Station}
 use Rattle.steps.specs.Step.{Outcome, whenOff, sendNumber, sendOf, step}
 use Rattle.buffers.specs.Buffers.{onOf, recordAt, recordIn, recordDamaged, wrong, ownDamaged}
 use Rattle.buffers.specs.Buffers.{stationOf, answerWith, told, hostFirst, endsFirst, recordsSize, ownSize}
-use Rattle.station.specs.Messages.{lower, poolAfter, putInto, sending, sendFirst, sendTold, sendPool, owedAt, owedInto}
+use Rattle.station.specs.Messages.{poolAfter, putInto, sending, sendFirst, sendTold, sendPool, owedAt, owedInto}
 use Rattle.buffers.proofs.Records.{damaged-two, damaged-is}
 use Rattle.steps.proofs.Nodes.{off-number}
 

@@ -7,7 +7,7 @@ use lib.Dec.{eqb, ltb}
 use lib.ListN.{length, getD}
 use Rattle.numbers.specs.Sizes.{longestMessage, mostWaiting}
 use Rattle.numbers.specs.Numbers.{wrongLength, damaged}
-use Rattle.numbers.specs.Refusal.{refuse, firstOf}
+use Rattle.numbers.specs.Refusal.{refuse, firstOf, lower}
 use Rattle.mask.specs.Mask.{contains}
 use Rattle.wire.specs.Decode.{kindOf, toOf, checkOf}
 use Rattle.replica.specs.Receive.{Delivered, deliver, spoken}
@@ -26,10 +26,6 @@ use Rattle.buffers.specs.Buffers.{Buffers, imagesSize, recordsSize, imageAt, wi
 use Rattle.buffers.specs.Buffers.{recordFirst, ownNumber, hostFirst, told, goes, recordsAfter}
 
 -- ---- a send reads a record and who is on, and puts a message at the pool's end
--- of two numbers the lower that is not 0
-unfoldable pub lower : ℕ → ℕ → ℕ
-lower m n = cond (eqb m 0) n (cond (eqb n 0) m (cond (ltb m n) m n))
-
 unfoldable pub putInto : Option (List ℕ) → List ℕ → List ℕ
 putInto none l = l
 putInto (some m) l = added l m

@@ -3,7 +3,7 @@ ghost use mathlib.Core.Path.{_≡_};
 ghost use lib.ListN.{length};
 ghost use Rattle.buffers.specs.Buffers.{recordsSize};
 ghost use Rattle.numbers.specs.Sizes.{longestMessage};
-ghost use Rattle.station.specs.Messages.{owedAt, owedInto, lower, sending, sendTold, sendPool, dropping, dropTold, dropPool};
+ghost use Rattle.station.specs.Messages.{owedAt, owedInto, sending, sendTold, sendPool, dropping, dropTold, dropPool};
 use crate::wide;
 use buffers::Answer;
 use buffers::ends_number;
@@ -13,19 +13,7 @@ use buffers::when_off;
 use letters::Written;
 use numbers::LONGEST_MESSAGE;
 use numbers::NODES_END;
-
-// Of two numbers the lower that is not 0.
-pub(crate) fn lower(m: u8, n: u8) -> u8
-    ensures { λ r. ⌜ r ≡ lower m n ⌝ }
-{
-    if m == 0 {
-        return n;
-    }
-    if n == 0 {
-        return m;
-    }
-    if m < n { m } else { n }
-}
+use numbers::lower;
 
 // Writes what is due where the node's record stands, 2 where that is damaged; 4 for what is no node.
 fn write_at(records: &[u8], node: u8, to: u8, object: u8, out: &mut [u8]) -> Written

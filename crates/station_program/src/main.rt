@@ -54,6 +54,8 @@ fn turn(
     records: &mut [u8],
     pool: &mut [u8],
     own: &mut [u8],
+    settings: &mut [u8],
+    list: &mut [u64],
     sheet: &mut [u64],
     out: &mut [u8],
 ) -> Went {
@@ -64,7 +66,18 @@ fn turn(
             on: false,
         };
     }
-    let t = scenario::take(r, got.byte, images, records, pool, own, sheet, out);
+    let t = scenario::take(
+        r,
+        got.byte,
+        images,
+        records,
+        pool,
+        own,
+        settings,
+        list,
+        sheet,
+        out,
+    );
     let written = t.written;
     let next = t.reader;
     let on = put(out, written);
@@ -79,13 +92,26 @@ fn all(
     records: &mut [u8],
     pool: &mut [u8],
     own: &mut [u8],
+    settings: &mut [u8],
+    list: &mut [u64],
     sheet: &mut [u64],
     out: &mut [u8],
 ) -> Reader {
     let mut r = scenario::fresh();
     let mut turns = u64::MAX;
     while turns > 0 {
-        let went = turn(r, input, images, records, pool, own, sheet, out);
+        let went = turn(
+            r,
+            input,
+            images,
+            records,
+            pool,
+            own,
+            settings,
+            list,
+            sheet,
+            out,
+        );
         r = went.reader;
         if !went.on {
             return r;
@@ -101,9 +127,18 @@ fn main() {
     let mut records = [0u8; buffers::RECORDS];
     let mut pool = [0u8; pool::SIZE];
     let mut own = [0u8; buffers::OWN];
+    let mut settings = [0u8; service::SETTINGS];
+    let mut list = [0u64; lists::MOST];
     let mut sheet = [0u64; replay::SIZE];
     let mut out = [0u8; 16384];
-    runs::start(&mut images, &mut records, &mut pool, &mut own, EVERY_NODE);
+    runs::start(
+        &mut images,
+        &mut records,
+        &mut pool,
+        &mut own,
+        &mut settings,
+        EVERY_NODE,
+    );
     replay::blank(&mut sheet);
     let r = all(
         &mut input,
@@ -111,6 +146,8 @@ fn main() {
         &mut records,
         &mut pool,
         &mut own,
+        &mut settings,
+        &mut list,
         &mut sheet,
         &mut out,
     );
@@ -120,6 +157,8 @@ fn main() {
         &mut records,
         &mut pool,
         &mut own,
+        &mut settings,
+        &mut list,
         &mut sheet,
         &mut out,
     );

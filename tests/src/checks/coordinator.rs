@@ -1,7 +1,7 @@
 //! The coordinator on the bytes of its record: each call compared with the model in number, answer, record and buffer.
 
 mod damages;
-mod records;
+pub mod records;
 mod runs;
 mod seen;
 
@@ -9,14 +9,15 @@ use crate::checks::message::records::{change, some_byte, some_node};
 use crate::checks::station::{self, ends::Ends};
 use crate::ffi::coordinator as ffi;
 use crate::model::coordinator::Call;
+use crate::model::hours::settings_of;
 use crate::model::message::{self, LONGEST};
 use crate::model::record::{self, Clause, Record, RECORD};
 use crate::model::{number, quorum::NODES};
 use crate::random::Random;
 use crate::runner::{ensure, in_four_threads, Runner, Verdict};
 use damages::DAMAGES;
-use records::{some_call, some_message, some_object, some_record};
-use seen::{Case, Seen, Try};
+use records::{lent_settings, some_call, some_message, some_object, some_record};
+use seen::{Case, Seen, Try, What};
 use std::collections::BTreeSet;
 
 pub fn run(runner: &mut Runner) {
@@ -34,7 +35,7 @@ pub fn run(runner: &mut Runner) {
 }
 
 /// The compiled coordinator's calls.
-const LIBRARY: Ends = Ends { host: ffi::host_call, receive: ffi::receive, due: ffi::due };
+const LIBRARY: Ends = Ends { host: ffi::host_call, load: ffi::load_hours, receive: ffi::receive, due: ffi::due };
 
 /// One call of each sort that meets a record, with the node itself most often, or another, or a stranger.
 fn some_try(random: &mut Random, record: &Record, bytes: &[u8], me: u8, seen: &mut Seen) -> Result<Vec<u8>, String> {
@@ -45,8 +46,9 @@ fn some_try(random: &mut Random, record: &Record, bytes: &[u8], me: u8, seen: &m
     };
     match random.below(8) {
         0..=2 => {
-            let call = some_call(random, record);
-            seen.compare(random, bytes, caller, Try::Host(&call))
+            let settings = lent_settings(random);
+            let call = some_call(random, record, &settings);
+            seen.compare(random, bytes, caller, Try::Host(&call, &settings))
         }
         3..=5 => {
             let to = if random.once_in(20) { some_node(random) } else { me };
@@ -79,9 +81,11 @@ fn one_call(random: &mut Random, rounds: usize) -> Verdict {
             ensure!(ffi::check_record(&after) == number::OK, "a call on {record:?} left a damaged record");
         }
     }
-    let (case, least) = seen.rarest(|case| !matches!(case, Case::Number(_, 1..=3)));
+    // The records are sound: a call is 2 for damaged settings alone, and those are lent to begin.
+    let (case, least) = seen.rarest(|case| matches!(case, Case::Number(What::Begin, 2 | 3)) || !matches!(case, Case::Number(_, 1..=3)));
     let counted = format!("{}; the rarest case ({case:?}) {least} times", seen.words());
-    ensure!(least > 20 * rounds && seen.numbers[2] == 0, "too poor: {counted}");
+    let damaged = seen.of(Case::Number(What::Begin, 2));
+    ensure!(least > 20 * rounds && seen.numbers[2] == damaged, "too poor: {counted}");
     Ok(counted)
 }
 
@@ -111,7 +115,7 @@ fn every_call(random: &mut Random, record: &Record, bytes: &[u8], me: u8, size: 
     let distances = vec![1; 26];
     let object = some_object(random, record);
     let calls = [
-        Call::Begin { live: 8191, distances: distances.clone(), timestamp: record.timestamp.saturating_add(1) },
+        Call::Begin { live: 8191, distances: distances.clone(), timestamp: record.timestamp.saturating_add(1), day: 0, minute: 0 },
         Call::Open { object, mode: 0 },
         Call::Open { object, mode: 1 },
         Call::SetValue { object, value: random.next() as i64 },
@@ -121,7 +125,7 @@ fn every_call(random: &mut Random, record: &Record, bytes: &[u8], me: u8, size: 
         Call::Abort,
     ];
     for call in &calls {
-        seen.compare(random, bytes, me, Try::Host(call))?;
+        seen.compare(random, bytes, me, Try::Host(call, &settings_of(None)))?;
     }
     let message = message::encode(&some_message(random, record, me));
     seen.compare(random, bytes, me, Try::Receive(&message))?;
@@ -190,8 +194,11 @@ fn every_length(random: &mut Random, rounds: usize) -> Verdict {
         message.resize(length.min(300), 0);
         for _ in 0..rounds {
             let distances = vec![0; length];
-            seen.compare(random, &bytes, me, Try::Host(&Call::Reselect { live: 8191, distances: distances.clone() }))?;
-            seen.compare(random, &bytes, me, Try::Host(&Call::Begin { live: 8191, distances, timestamp: 7 }))?;
+            let (blank, settings) = (settings_of(None), vec![0; length]);
+            seen.compare(random, &bytes, me, Try::Host(&Call::Reselect { live: 8191, distances: distances.clone() }, &blank))?;
+            let begin = |distances| Call::Begin { live: 8191, distances, timestamp: 7, day: 0, minute: 0 };
+            seen.compare(random, &bytes, me, Try::Host(&begin(distances), &blank))?;
+            seen.compare(random, &bytes, me, Try::Host(&begin(vec![0; 26]), &settings))?;
             seen.compare(random, &bytes, me, Try::Receive(&message))?;
             seen.compare(random, &bytes, me, Try::Due { node: 0, object: 0, size: length })?;
         }
@@ -221,12 +228,13 @@ fn several_numbers(random: &mut Random, rounds: usize) -> Verdict {
                 message[8..12].fill(0);
             }
             message.truncate(if wrong(4) { random.below(15) } else { LONGEST });
-            let mut call = some_call(random, &sane);
+            let settings = lent_settings(random);
+            let mut call = some_call(random, &sane, &settings);
             if let (Call::Begin { distances, .. } | Call::Reselect { distances, .. }, true) = (&mut call, wrong(5)) {
                 distances.truncate(random.below(26));
             }
             seen.compare(random, &bytes, caller, Try::Receive(&message))?;
-            seen.compare(random, &bytes, caller, Try::Host(&call))?;
+            seen.compare(random, &bytes, caller, Try::Host(&call, &settings))?;
             let (node, object) = (if wrong(3) { some_byte(random) } else { some_node(random) }, some_object(random, &sane));
             let size = if wrong(5) { random.below(LONGEST) } else { LONGEST };
             if node != caller {
@@ -264,15 +272,16 @@ fn known_bytes() -> Verdict {
     ensure!(ffi::check_record(&bytes) == number::OK, "all zeros are refused");
     // Node 3 begins its first transaction at 0x0102, all live and every distance 256 times its node: the root is nearest.
     let distances: Vec<u8> = (0..13).flat_map(|node| [0, node]).collect();
-    let got = ffi::host_call(&mut bytes, 3, &Call::Begin { live: 8191, distances: distances.clone(), timestamp: 0x0102 });
+    let (blank, call) = (settings_of(None), Call::Begin { live: 8191, distances: distances.clone(), timestamp: 0x0102, day: 9, minute: 9 });
+    let got = ffi::host_call(&mut bytes, &blank, 3, &call);
     let mut expected = vec![0; RECORD];
     (expected[0], expected[4], expected[5], expected[9]) = (1, 2, 1, 1);
     (expected[10], expected[11], expected[38]) = (255, 31, 1);
     expected[12..38].copy_from_slice(&distances);
     ensure!(got == (0, 1) && bytes == expected, "begin: {got:?}, {bytes:?}");
     // It opens object 63 to write, and sets -2.
-    let opened = ffi::host_call(&mut bytes, 3, &Call::Open { object: 63, mode: 1 });
-    let set = ffi::host_call(&mut bytes, 3, &Call::SetValue { object: 63, value: -2 });
+    let opened = ffi::host_call(&mut bytes, &blank, 3, &Call::Open { object: 63, mode: 1 });
+    let set = ffi::host_call(&mut bytes, &blank, 3, &Call::SetValue { object: 63, value: -2 });
     (expected[40], expected[42], expected[43], expected[44], expected[59]) = (1, 1, 63, 1, 1);
     expected[60..68].copy_from_slice(&[254, 255, 255, 255, 255, 255, 255, 255]);
     ensure!(opened == (0, 0) && set == (0, 0) && bytes == expected, "open and set: {opened:?}, {set:?}, {bytes:?}");
@@ -280,11 +289,11 @@ fn known_bytes() -> Verdict {
     let own = message::Transaction { owner: 3, serial: 1, stamp: 0x0102 };
     let copy = message::copy(0, own, message::Entry { object: 63, mode: 1, version: 3, value: 256 });
     let ready = ffi::receive(&mut bytes, 3, &message::encode(&copy));
-    let found = ffi::host_call(&mut bytes, 3, &Call::Found { object: 63 });
+    let found = ffi::host_call(&mut bytes, &blank, 3, &Call::Found { object: 63 });
     (expected[45], expected[47], expected[52]) = (1, 3, 1);
     ensure!(ready == (0, 3) && found == (0, 256) && bytes == expected, "copy: {ready:?}, {found:?}, {bytes:?}");
     // Votes are asked for: nodes 0, 1, 2, 4, 5, 7 and 8. Node 8 says yes and names owner 12's transaction 513 as a rival.
-    let asked = ffi::host_call(&mut bytes, 3, &Call::RequestCommit);
+    let asked = ffi::host_call(&mut bytes, &blank, 3, &Call::RequestCommit);
     let vote = message::vote(8, own, vec![message::Rival { owner: 12, serial: 513 }], message::YES);
     let nothing = ffi::receive(&mut bytes, 3, &message::encode(&vote));
     (expected[9], expected[243], expected[244], expected[246], expected[297], expected[298]) = (2, 183, 1, 1, 1, 2);

@@ -1,6 +1,7 @@
 //! Random scenarios at a station: the model's own, with faults that the check of demand 3 must notice, and the library's beside the model's.
 
 mod bad;
+mod closing_time;
 mod compiled;
 pub mod ends;
 pub mod scenario;
@@ -30,6 +31,7 @@ pub fn run(runner: &mut Runner) {
     runner.check("station model: each part of demand 3 can fail", |random, _| tampering::tampering(random));
     runner.check("station library: scenarios", library_scenarios);
     runner.check("station library: bad buffers", bad::bad_buffers);
+    runner.check("station library: closing time at every moment", |_, _| closing_time::at_every_moment());
     runner.check("station library: blank", |random, _| compiled::blanks(random));
     runner.check("station library: every bit is compared", |random, _| compiled::noticed(random));
     for slip in SLIPS {
@@ -228,11 +230,13 @@ fn library_scenarios(random: &mut Random, rounds: usize) -> Verdict {
     }
     let (case, least) = seen.rarest();
     let (committed, [called, voted, yielded], used_up) = (seen.of(Case::Committed), seen.aborts(), seen.numbers[0][9]);
+    let (closed, loaded) = (seen.numbers[0][usize::from(number::CLOSED)], seen.numbers[5][0]);
     let counted = format!(
         "{}; {committed} committed; aborted: {called} by a call, {voted} by a no, {yielded} by a yield; the rarest ({case}) {least} times",
         seen.words()
     );
     let rich = [(seen.steps(), 1_000_000), (committed, 2000), (called, 2000), (voted, 2000), (yielded, 200), (used_up, 200), (least, 10)];
+    let rich = [&rich[..], &[(closed, 400), (loaded, 4000)]].concat();
     ensure!(rich.iter().all(|&(count, floor)| count >= floor * rounds), "too poor: {counted}");
     Ok(counted)
 }

@@ -4,11 +4,11 @@ mod texts;
 
 use crate::checks::program::child::{Child, Feed};
 use crate::checks::station::scenario::{closing_step, next_step, some_style, Style};
-use crate::checks::station::seen::{Case, Seen};
+use crate::checks::station::seen::{Case, Seen, STEPS};
 use crate::model::coordinator::Call;
 use crate::model::program::lines;
 use crate::model::quorum::ALL;
-use crate::model::script::{output, read_line, Line, Program, Taken, LONGEST};
+use crate::model::script::{laid, output, read_line, Line, Program, Taken, LINE_NUMBERS, LIST_NUMBERS, LONGEST};
 use crate::model::station::Step;
 use crate::random::Random;
 use crate::runner::{ensure, Runner, Verdict};
@@ -25,6 +25,7 @@ const SAMPLE: [&str; 2] = ["crates/station_program/stdin", "crates/station_progr
 pub fn run(runner: &mut Runner, path: &Path) {
     let child = Child::new(path);
     runner.check("station program: known texts", |_, _| known_texts(&child));
+    runner.check("station program: clocks, lists and hours", |_, _| known_hours(&child));
     runner.check("station program: stored scenarios", |_, _| stored(&child));
     runner.check("station program: its sample", |_, _| sample(&child));
     runner.check("station program: every byte at every place", |_, _| every_byte(&child));
@@ -50,10 +51,23 @@ fn same(child: &Child, text: &[u8], feed: Feed, expected: &[u8]) -> Result<(), S
 /// The end of a scenario in which nothing was written.
 const END: &str = "end\n  at rest yes\n  settled yes\n";
 
+/// What is printed for a bad line.
+fn bad(line: usize) -> String {
+    format!("line {line}: no such step, nothing done\n")
+}
+
+/// The program prints this for a text, fed in either way, and so does the model.
+fn known(child: &Child, text: &str, expected: &str) -> Result<(), String> {
+    for feed in [Feed::Pipe, Feed::File] {
+        same(child, text.as_bytes(), feed, expected.as_bytes()).map_err(|wrong| format!("{text:?}: {wrong}"))?;
+    }
+    ensure!(output(text.as_bytes())? == expected.as_bytes(), "{text:?}: the model itself prints another text");
+    Ok(())
+}
+
 /// Texts whose output is written out here.
 fn known_texts(child: &Child) -> Verdict {
-    let bad = |line: usize| format!("line {line}: no such step, nothing done\n");
-    let known = [
+    let texts = [
         (String::new(), String::new()),
         (String::from("\n"), String::new()),
         (String::from("# nothing\n   \n#"), String::new()),
@@ -74,13 +88,101 @@ fn known_texts(child: &Child) -> Verdict {
         (format!("on 4{}\n", " ".repeat(LONGEST - 4)), format!("1 on 4{}\n  ok\n{END}", " ".repeat(LONGEST - 4))),
         (format!("on 4{}\n", " ".repeat(LONGEST - 3)), bad(1)),
     ];
-    for (text, expected) in &known {
-        for feed in [Feed::Pipe, Feed::File] {
-            same(child, text.as_bytes(), feed, expected.as_bytes()).map_err(|wrong| format!("{text:?}: {wrong}"))?;
-        }
-        ensure!(output(text.as_bytes())? == expected.as_bytes(), "{text:?}: the model itself prints another text");
+    texts.iter().try_for_each(|(text, expected)| known(child, text, expected))?;
+    Ok(format!("{} texts", texts.len()))
+}
+
+/// A text's lines, each with what is printed below it; a line without anything is printed alone, and one of `bad` in its place.
+fn printed(lines: &[(&str, &str)], end: &str) -> (String, String) {
+    let text = lines.iter().map(|(line, _)| format!("{line}\n")).collect();
+    let below = |at: usize, line: &str, below: &str| match below {
+        "bad" => bad(at),
+        "" => format!("{at} {line}\n"),
+        _ => format!("{at} {line}\n  {below}\n"),
+    };
+    let shown: String = (1..).zip(lines).map(|(at, (line, told))| below(at, line, told)).collect();
+    (text, shown + end)
+}
+
+/// The words `clock`, `list` and `hours`, in texts whose output is written out here.
+fn known_hours(child: &Child) -> Verdict {
+    let begin = "begin 4 1 8191";
+    let texts: &[(&[(&str, &str)], &str)] = &[
+        // Neither a clock nor a list makes a scenario.
+        (&[("clock 4294967295 65535", ""), (" list  # none", ""), ("list 1 2", ""), ("list -0 007", "")], ""),
+        (&[("clock 1", "bad"), ("clock 4294967296 0", "bad"), ("clock 0 65536", "bad"), ("clock -1 0", "bad"), ("clock 1 2 3", "bad")], ""),
+        (&[("list 4294967295", ""), ("list 4294967296", "bad"), ("list -1", "bad"), ("list 1 x", "bad"), ("hours 4", "bad")], ""),
+        (&[("hours", "bad"), ("hours 256", "bad"), ("hours 4 5", "bad"), ("hours -4", "bad")], ""),
+        // The table's numbers, the lowest first: 1, 2, 4, 5. The step empties the list each time.
+        (&[("hours 4", "1 length"), ("list 0", ""), ("hours 13", "1 length"), ("list 1 5 5 0", ""), ("hours 13", "2 damaged")], END),
+        (&[("list 0 0", ""), ("hours 13", "4 stranger"), ("hours 4", "1 length"), ("list 0 0", ""), ("hours 255", "4 stranger")], END),
+        (&[("off 4", "ok"), ("list 0 0", ""), ("hours 4", "5 out of turn"), ("on 4", "ok"), ("hours 4", "1 length")], END),
+        (&[("list 1 0 10080 0 7", ""), ("hours 4", "1 length"), ("list 1 0 10080", ""), ("hours 4", "1 length")], END),
+        (&[("list 1 0 10081 0", ""), ("hours 4", "2 damaged"), ("list 1 10080 10080 0", ""), ("hours 4", "2 damaged")], END),
+        // Too wide for its place: the list stays, until a `list` alone empties it.
+        (&[("list 256", ""), ("hours 4", "bad"), ("hours 4", "bad"), ("list", ""), ("hours 4", "1 length")], END),
+        (&[("list 1 65536 0", ""), ("hours 4", "bad"), ("list", ""), ("list 0 256", ""), ("hours 4", "bad")], ""),
+        // A list over several lines; all hours are open before a table is loaded, and closed by one without a window.
+        (
+            &[
+                (begin, "ok quorum 1"),
+                ("abort 4", "ok"),
+                ("list 0", ""),
+                ("list 0", ""),
+                ("hours 4", "ok"),
+                ("begin 4 2 8191", "13 closed"),
+            ],
+            END,
+        ),
+        // 3 before any table and before 4, 13 last of all.
+        (&[("clock 0 10080", ""), ("begin 13 0 0", "3 garbled"), ("clock 0 10079", ""), ("begin 13 0 0", "4 stranger")], END),
+        (
+            &[("list 0 0", ""), ("hours 4", "ok"), ("begin 4 1 0", "8 no quorum"), ("begin 4 0 0", "5 out of turn"), (begin, "13 closed")],
+            END,
+        ),
+        // The clock goes with later begins. A `blank` that is accepted sets it back, empties the list and unloads the table; no other does.
+        (
+            &[
+                ("list 1 360 840 1 7", ""),
+                ("hours 4", "ok"),
+                ("clock 8 359", ""),
+                (begin, "13 closed"),
+                ("clock 8 840", ""),
+                (begin, "13 closed"),
+                ("clock 7 400", ""),
+                (begin, "13 closed"),
+                ("clock 8 839", ""),
+                (begin, "ok quorum 1"),
+                ("abort 4", "ok"),
+            ],
+            END,
+        ),
+        (&[("clock 8 10080", ""), ("list 0 0", ""), ("blank 8192", "4 stranger"), (begin, "3 garbled"), ("hours 4", "ok")], END),
+    ];
+    for (lines, end) in texts {
+        let (text, expected) = printed(lines, end);
+        known(child, &text, &expected)?;
     }
-    Ok(format!("{} texts", known.len()))
+    let (before, first) = printed(&[("list 0 0", ""), ("hours 4", "ok"), ("list 0", ""), ("clock 9 10080", "")], END);
+    let behind = "blank 8191\nbegin 4 1 8191\nabort 4\nhours 4\n";
+    known(
+        child,
+        &(before + behind),
+        &format!("{first}5 blank 8191\n6 begin 4 1 8191\n  ok quorum 1\n7 abort 4\n  ok\n8 hours 4\n  1 length\n{END}"),
+    )?;
+    full_list(child)?;
+    Ok(format!("{} texts", texts.len() + 2))
+}
+
+/// A list of 4,097 numbers, and of one more.
+fn full_list(child: &Child) -> Result<(), String> {
+    let sixteen = format!("list{}", " 1".repeat(LINE_NUMBERS));
+    let mut lines = vec![(&sixteen[..], ""); LIST_NUMBERS / LINE_NUMBERS];
+    lines.extend([("list 1 1", "bad"), (&sixteen, "bad"), ("list 1", ""), ("list 1", "bad"), ("list", ""), ("list 1", ""), ("list", "")]);
+    lines.extend(vec![(&sixteen[..], ""); LIST_NUMBERS / LINE_NUMBERS]);
+    lines.extend([("list 1", ""), ("hours 4", "1 length"), (&sixteen, ""), ("list 1 1", "")]);
+    let (text, expected) = printed(&lines, END);
+    known(child, &text, &expected)
 }
 
 /// The stored scenarios: what is stored beside each is what the program prints and what the model prints.
@@ -120,7 +222,7 @@ fn sample(child: &Child) -> Verdict {
 
 /// Lines of each kind, with each of the 256 bytes put in at each place and put in place of each of their bytes.
 fn every_byte(child: &Child) -> Verdict {
-    let good: [&[u8]; 8] = [
+    let good: [&[u8]; 11] = [
         b"begin 4 10 8191",
         b"reselect 12 8191 65535 9 1 1 1 1 1 1 1 1 1 1 1",
         b"set 4 63 -9223372036854775808",
@@ -129,6 +231,9 @@ fn every_byte(child: &Child) -> Verdict {
         b"blank 8191",
         b"write 4 63 # a-1",
         b"off 12",
+        b"hours 4",
+        b"clock 4294967295 10079",
+        b"list 1 360 840 0",
     ];
     let mut text = Vec::new();
     for line in good {
@@ -162,6 +267,10 @@ struct Counts {
     extreme: usize,
     measured: usize,
     unmeasured: usize,
+    clocks: usize,
+    lists: usize,
+    /// Lines of `hours` that are bad because a number of the list is too wide.
+    wide: usize,
     bad: BTreeMap<&'static str, usize>,
     /// Scenarios' ends: at rest or not, settled or not.
     ends: BTreeMap<(bool, bool), usize>,
@@ -188,10 +297,62 @@ impl Writer<'_> {
         self.program.take(line)
     }
 
+    /// A line that must be taken so.
+    fn must(&mut self, random: &mut Random, words: &[String], taken: Taken) -> Result<(), String> {
+        let line = texts::dressed(random, words);
+        ensure!(self.line(&line)? == taken, "the model takes {:?} otherwise than made", String::from_utf8_lossy(&line));
+        Ok(())
+    }
+
+    /// The clock that a begin needs, where it is another, and now and then again.
+    fn clock(&mut self, random: &mut Random, clock: (u32, u16)) -> Result<(), String> {
+        if self.program.clock() == clock && !random.once_in(8) {
+            return Ok(());
+        }
+        self.counts.clocks += 1;
+        self.must(random, &[String::from("clock"), clock.0.to_string(), clock.1.to_string()], Taken::Clock)
+    }
+
+    /// The list that a load needs, in some lines.
+    fn list(&mut self, random: &mut Random, numbers: &[u32]) -> Result<(), String> {
+        if !self.program.list().is_empty() || random.once_in(8) {
+            self.must(random, &[String::from("list")], Taken::List)?;
+        }
+        for words in texts::list_lines(random, numbers) {
+            self.counts.lists += 1;
+            self.must(random, &words, Taken::List)?;
+        }
+        ensure!(self.program.list() == numbers, "the list is another");
+        Ok(())
+    }
+
+    /// A list with a number that is too wide for its place, which no `hours` takes.
+    fn too_wide(&mut self, random: &mut Random) -> Result<(), String> {
+        let (byte, word) = (256 + random.next() as u32 % 1000, 65_536 + random.next() as u32 % 70_000);
+        let lists = [vec![byte], vec![byte, 0, 0], vec![1, word, 9, 0], vec![1, 5, word], vec![0, byte], vec![1, 5, 9, byte, 7]];
+        let list = random.pick(&lists).clone();
+        ensure!(laid(&list).is_none(), "{list:?} is laid");
+        self.list(random, &list)?;
+        for _ in 0..=random.below(2) {
+            self.must(random, &[String::from("hours"), String::from("4")], Taken::Bad)?;
+            self.counts.wide += 1;
+        }
+        ensure!(self.program.list() == list, "the list does not stay");
+        Ok(())
+    }
+
     /// A step in some form; the model must read it as that step.
     fn step(&mut self, random: &mut Random, step: Step) -> Result<(), String> {
         let step = with_extremes(random, step);
         let Some(words) = texts::words_of(random, &step) else { return Ok(()) };
+        match &step {
+            Step::Host { call: Call::Begin { day, minute, .. }, .. } => self.clock(random, (*day, *minute))?,
+            Step::Load { list, .. } => {
+                let Some(numbers) = texts::numbers_of(list) else { return Ok(()) };
+                self.list(random, &numbers)?;
+            }
+            _ => {}
+        }
         let before = self.program.station().clone();
         let line = texts::dressed(random, &words);
         let Taken::Step(event) = self.line(&line)? else {
@@ -223,6 +384,8 @@ impl Writer<'_> {
             let line = texts::dressed(random, &[String::from("blank"), mask.to_string()]);
             ensure!(self.line(&line)? == Taken::Blank(true), "{:?} is taken", String::from_utf8_lossy(&line));
             self.counts.refused_blanks += 1;
+        } else if random.once_in(10) {
+            self.too_wide(random)?;
         } else {
             let style = some_style(random);
             let some = next_step(random, self.program.station(), &style);
@@ -298,10 +461,16 @@ fn crowded(mut style: Style) -> Style {
     style
 }
 
-/// A step whose value is an extreme one, now and then, whose distances are all 1, or that switches a node that is not there.
+/// Tables of packing hours come often, and transactions are begun again and again.
+fn by_the_hour(style: Style) -> Style {
+    Style { load: 12, abort: 2, ..calm(style) }
+}
+
+/// A step whose value is an extreme one, now and then, whose distances are all 1, or that switches or loads at a node that is not there.
 fn with_extremes(random: &mut Random, mut step: Step) -> Step {
-    if let Step::Switch { node, .. } = &mut step {
-        *node = if random.once_in(40) { 13 + random.below(243) as u8 } else { *node };
+    let seldom = if let Step::Load { .. } = step { 12 } else { 40 };
+    if let Step::Switch { node, .. } | Step::Load { node, .. } = &mut step {
+        *node = if random.once_in(seldom) { 13 + random.below(243) as u8 } else { *node };
     }
     let Step::Host { call, .. } = &mut step else { return step };
     let ones: Vec<u8> = [1u16; 13].iter().flat_map(|one| one.to_le_bytes()).collect();
@@ -318,10 +487,11 @@ fn with_extremes(random: &mut Random, mut step: Step) -> Step {
 impl Counts {
     /// The rarest case, number of a step, kind of damage and kind of end.
     fn rarest(&self) -> (String, usize) {
-        let reached: [&[usize]; 5] = [&[0, 4, 5, 6, 7, 8, 10, 11], &[0, 4, 5, 6, 12], &[0, 5, 12], &[0, 5], &[0, 4]];
+        let reached: [&[usize]; 6] =
+            [&[0, 3, 4, 5, 6, 7, 8, 10, 11, 13], &[0, 4, 5, 6, 12], &[0, 5, 12], &[0, 5], &[0, 4], &[0, 1, 2, 4, 5]];
         // A newer copy that comes too late is too rare for a floor; the stored scenario of the slips has one.
         let cases = Case::ALL.into_iter().filter(|case| *case != Case::LateNewer).map(|case| (format!("{case:?}"), self.seen.of(case)));
-        let numbers = (0..5).flat_map(|step| reached[step].iter().map(move |&number| (step, number)));
+        let numbers = (0..STEPS.len()).flat_map(|step| reached[step].iter().map(move |&number| (step, number)));
         let numbers = numbers.map(|(step, number)| (format!("step {step} number {number}"), self.seen.numbers[step][number]));
         let bad = texts::DAMAGES.iter().map(|it| (String::from(it.name), self.bad.get(it.name).copied().unwrap_or(0)));
         // At rest, every done is in: no scenario ends at rest and not settled.
@@ -337,7 +507,7 @@ impl Counts {
         format!(
             "{} scenarios, {} bytes, {} steps, {} committed; aborted: {called} by a call, {voted} by a no, {yielded} by a yield; {}; \
              {bad} bad lines of {} kinds, {} that say nothing, {} refused blanks, {} of 160 bytes; {} negative values, {} extreme; \
-             distances {} times, none {} times; ends (at rest, settled) {:?}; the rarest ({case}) {least} times",
+             distances {} times, none {} times; {} clocks, {} lists, {} too wide; ends (at rest, settled) {:?}; the rarest ({case}) {least} times",
             self.scenarios,
             self.bytes,
             self.seen.steps(),
@@ -351,6 +521,9 @@ impl Counts {
             self.extreme,
             self.measured,
             self.unmeasured,
+            self.clocks,
+            self.lists,
+            self.wide,
             self.ends
         )
     }
@@ -359,10 +532,10 @@ impl Counts {
 /// Random scenarios, many in one text, with bad lines between their steps: conflicts, repeats, losses, switches and refusals.
 fn random_scenarios(child: &Child, random: &mut Random, rounds: usize) -> Verdict {
     let mut counts = Counts::default();
-    for text in 0..36 * rounds {
+    for text in 0..44 * rounds {
         let mut writer = Writer::new(&mut counts);
         for _ in 0..=text % 10 {
-            let point = *random.pick(&[|style| style, late, Style::slow_votes, calm, calm, wide, crowded]);
+            let point = *random.pick(&[|style| style, late, Style::slow_votes, calm, calm, wide, crowded, by_the_hour]);
             let style = point(some_style(random));
             writer.scenario(random, &style)?;
         }
@@ -381,6 +554,9 @@ fn random_scenarios(child: &Child, random: &mut Random, rounds: usize) -> Verdic
         (counts.negative, 500),
         (counts.extreme, 80),
         (counts.measured.min(counts.unmeasured), 200),
+        (counts.clocks, 500),
+        (counts.lists, 200),
+        (counts.wide, 20),
         (counts.rarest().1, 1),
     ];
     ensure!(rich.iter().all(|&(count, floor)| count >= floor * rounds), "too poor: {counted}");

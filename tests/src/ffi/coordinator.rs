@@ -1,4 +1,4 @@
-//! The coordinator's C functions on the bytes of a record.
+//! The coordinator's C functions on the bytes of a record and of settings.
 
 use super::{SennaCalled, SennaWritten};
 use crate::model::coordinator::Call;
@@ -7,14 +7,21 @@ use crate::model::message::READ;
 extern "C" {
     fn senna_check_record(record: *const u8, length: usize) -> u8;
     fn senna_blank_record(record: *mut u8, length: usize) -> u8;
+    fn senna_check_settings(settings: *const u8, length: usize) -> u8;
+    fn senna_blank_settings(settings: *mut u8, length: usize) -> u8;
+    fn senna_load_hours(settings: *mut u8, length: usize, list: *const u8, size: usize) -> u8;
     fn senna_coordinator_begin(
         record: *mut u8,
         length: usize,
+        settings: *const u8,
+        settings_length: usize,
         me: u8,
         live: u16,
         distances: *const u8,
         size: usize,
         timestamp: u32,
+        day: u32,
+        minute: u16,
     ) -> SennaCalled;
     fn senna_coordinator_open_read(record: *mut u8, length: usize, me: u8, object: u8) -> SennaCalled;
     fn senna_coordinator_open_write(record: *mut u8, length: usize, me: u8, object: u8) -> SennaCalled;
@@ -39,15 +46,35 @@ pub fn blank_record(record: &mut [u8]) -> u8 {
     unsafe { senna_blank_record(record.as_mut_ptr(), record.len()) }
 }
 
-/// The library's host call on a record of node `me`: its number and answer.
-pub fn host_call(record: &mut [u8], me: u8, call: &Call) -> (u8, i64) {
+/// The library's number for the bytes of settings.
+pub fn check_settings(settings: &[u8]) -> u8 {
+    // SAFETY: the function reads at most `length` bytes at `settings`, which are lent for the call.
+    unsafe { senna_check_settings(settings.as_ptr(), settings.len()) }
+}
+
+/// The library's blank settings, written to a buffer; its number.
+pub fn blank_settings(settings: &mut [u8]) -> u8 {
+    // SAFETY: the function writes at most `length` bytes at `settings`, which are lent for the call.
+    unsafe { senna_blank_settings(settings.as_mut_ptr(), settings.len()) }
+}
+
+/// The library's loading of a table of packing hours; its number.
+pub fn load_hours(settings: &mut [u8], list: &[u8]) -> u8 {
+    // SAFETY: the function reads and writes at most `length` bytes at `settings` and reads at most `size` bytes at `list`, all lent for the call and
+    // apart from each other.
+    unsafe { senna_load_hours(settings.as_mut_ptr(), settings.len(), list.as_ptr(), list.len()) }
+}
+
+/// The library's host call on a record of node `me`: its number and answer. The settings are lent to begin alone.
+pub fn host_call(record: &mut [u8], settings: &[u8], me: u8, call: &Call) -> (u8, i64) {
     let (at, length) = (record.as_mut_ptr(), record.len());
-    // SAFETY: each function reads and writes at most `length` bytes at `record` and reads at most `size` bytes at `distances`, all lent for
-    // the call and apart from each other.
+    let (hours, hours_length) = (settings.as_ptr(), settings.len());
+    // SAFETY: each function reads and writes at most `length` bytes at `record` and reads at most `size` bytes at `distances` and the given length at
+    // `settings`, all lent for the call and apart from each other.
     let called = unsafe {
         match *call {
-            Call::Begin { live, ref distances, timestamp } => {
-                senna_coordinator_begin(at, length, me, live, distances.as_ptr(), distances.len(), timestamp)
+            Call::Begin { live, distances: ref d, timestamp, day, minute } => {
+                senna_coordinator_begin(at, length, hours, hours_length, me, live, d.as_ptr(), d.len(), timestamp, day, minute)
             }
             Call::Open { object, mode: READ } => senna_coordinator_open_read(at, length, me, object),
             Call::Open { object, .. } => senna_coordinator_open_write(at, length, me, object),

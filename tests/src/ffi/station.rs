@@ -1,4 +1,4 @@
-//! The station's C functions on its four buffers.
+//! The station's C functions on its five buffers.
 
 use super::SennaCalled;
 use crate::model::buffers::Buffers;
@@ -24,6 +24,8 @@ extern "C" {
         pool_length: usize,
         own: *mut u8,
         own_length: usize,
+        settings: *mut u8,
+        settings_length: usize,
         on: u16,
     ) -> u8;
     fn senna_station_begin(
@@ -31,11 +33,24 @@ extern "C" {
         length: usize,
         own: *const u8,
         own_length: usize,
+        settings: *const u8,
+        settings_length: usize,
         node: u8,
         live: u16,
         distances: *const u8,
         size: usize,
         timestamp: u32,
+        day: u32,
+        minute: u16,
+    ) -> SennaCalled;
+    fn senna_station_load_hours(
+        own: *const u8,
+        own_length: usize,
+        settings: *mut u8,
+        settings_length: usize,
+        node: u8,
+        list: *const u8,
+        size: usize,
     ) -> SennaCalled;
     fn senna_station_reselect(
         records: *mut u8,
@@ -90,23 +105,25 @@ extern "C" {
     fn senna_station_message(pool: *const u8, pool_length: usize, k: u8) -> SennaWaiting;
 }
 
-// SAFETY, of each function below: the library reads and writes at most the given lengths at the buffers, and reads the distances; all are
-// lent for the call and apart from each other.
+// SAFETY, of each function below: the library reads and writes at most the given lengths at the buffers, and reads the distances and the list; all
+// are lent for the call and apart from each other.
 
 /// The library's blank station, written to buffers; its number.
 pub fn blank(it: &mut Buffers, on: u16) -> u8 {
-    let Buffers { images, records, pool, own } = it;
-    let (a, b, c, d) = (images.len(), records.len(), pool.len(), own.len());
-    unsafe { senna_station_blank(images.as_mut_ptr(), a, records.as_mut_ptr(), b, pool.as_mut_ptr(), c, own.as_mut_ptr(), d, on) }
+    let Buffers { images, records, pool, own, settings } = it;
+    let (a, b, c, d, e) = (images.len(), records.len(), pool.len(), own.len(), settings.len());
+    let (images, records, pool) = (images.as_mut_ptr(), records.as_mut_ptr(), pool.as_mut_ptr());
+    unsafe { senna_station_blank(images, a, records, b, pool, c, own.as_mut_ptr(), d, settings.as_mut_ptr(), e, on) }
 }
 
 fn host(it: &mut Buffers, node: u8, call: &Call) -> SennaCalled {
     let (at, length) = (it.records.as_mut_ptr(), it.records.len());
     let (own, size) = (it.own.as_ptr(), it.own.len());
+    let (hours, hours_length) = (it.settings.as_ptr(), it.settings.len());
     unsafe {
         match *call {
-            Call::Begin { live, distances: ref d, timestamp } => {
-                senna_station_begin(at, length, own, size, node, live, d.as_ptr(), d.len(), timestamp)
+            Call::Begin { live, distances: ref d, timestamp, day, minute } => {
+                senna_station_begin(at, length, own, size, hours, hours_length, node, live, d.as_ptr(), d.len(), timestamp, day, minute)
             }
             Call::Open { object, mode: READ } => senna_station_open_read(at, length, own, size, node, object),
             Call::Open { object, .. } => senna_station_open_write(at, length, own, size, node, object),
@@ -119,8 +136,14 @@ fn host(it: &mut Buffers, node: u8, call: &Call) -> SennaCalled {
     }
 }
 
+fn load(it: &mut Buffers, node: u8, list: &[u8]) -> SennaCalled {
+    let Buffers { own, settings, .. } = it;
+    let (a, b) = (own.len(), settings.len());
+    unsafe { senna_station_load_hours(own.as_ptr(), a, settings.as_mut_ptr(), b, node, list.as_ptr(), list.len()) }
+}
+
 fn deliver(it: &mut Buffers, at: u8, kept: u8) -> SennaCalled {
-    let Buffers { images, records, pool, own } = it;
+    let Buffers { images, records, pool, own, .. } = it;
     let (a, b, c, d) = (images.len(), records.len(), pool.len(), own.len());
     unsafe { senna_station_deliver(images.as_mut_ptr(), a, records.as_mut_ptr(), b, pool.as_mut_ptr(), c, own.as_ptr(), d, at, kept) }
 }
@@ -139,6 +162,7 @@ pub fn step(it: &mut Buffers, step: &Step) -> (u8, i64) {
     let place = |at: usize| u8::try_from(at).expect("a place of one byte");
     let called = match *step {
         Step::Host { node, ref call } => host(it, node, call),
+        Step::Load { node, ref list } => load(it, node, list),
         Step::Send { node, to, object } => unsafe {
             let (records, pool, own) = (&it.records, &mut it.pool, &it.own);
             let (a, b, c) = (records.len(), pool.len(), own.len());

@@ -1,10 +1,11 @@
-//! The station in its four buffers: what bytes a station has, what a step leaves of them, and a step on buffers of any bytes.
+//! The station in its five buffers: what bytes a station has, what a step leaves of them, and a step on buffers of any bytes.
 //!
 //! "In the station's 15,691 bytes each controller's 1,207 bytes are lent onward from the middle." The pool is a count and 128 slots of a length
 //! and 128 bytes. Removing a message moves the slots behind it one place down, and leaves the last slot's bytes; adding one writes its
 //! length and its bytes to the slot behind the last, and leaves the rest of the slot.
 
-use super::coordinator::first;
+use super::coordinator::{first, Call};
+use super::hours::{self, SETTINGS, STATION_SETTINGS};
 use super::image::{self, IMAGE};
 use super::message::{self, Message, LONGEST};
 use super::quorum::{ALL, NODES};
@@ -21,13 +22,14 @@ pub const RECORDS: usize = NODES * RECORD;
 pub const SLOTS: usize = 1 + POOL * SLOT;
 pub const OWN: usize = 2;
 
-/// The images, the records, the pool, and the mask of the nodes that are on.
+/// The images, the records, the pool, the mask of the nodes that are on, and the settings.
 #[derive(Clone, Debug, PartialEq, Eq)]
 pub struct Buffers {
     pub images: Vec<u8>,
     pub records: Vec<u8>,
     pub pool: Vec<u8>,
     pub own: Vec<u8>,
+    pub settings: Vec<u8>,
 }
 
 /// A station in which no message waits.
@@ -37,6 +39,7 @@ pub fn of(station: &Station) -> Buffers {
         records: station.records.iter().flat_map(record::encode).collect(),
         pool: vec![0; SLOTS],
         own: station.on.to_le_bytes().to_vec(),
+        settings: station.hours.iter().flat_map(|table| hours::settings_of(table.as_ref())).collect(),
     }
 }
 
@@ -47,6 +50,10 @@ impl Buffers {
 
     pub fn record(&self, node: usize) -> &[u8] {
         &self.records[node * RECORD..(node + 1) * RECORD]
+    }
+
+    pub fn settings(&self, node: usize) -> &[u8] {
+        &self.settings[node * SETTINGS..(node + 1) * SETTINGS]
     }
 
     pub fn on(&self) -> u16 {
@@ -70,6 +77,10 @@ impl Buffers {
 
     pub fn put_record(&mut self, node: usize, record: &record::Record) {
         self.records[node * RECORD..(node + 1) * RECORD].copy_from_slice(&record::encode(record));
+    }
+
+    pub fn put_settings(&mut self, node: usize, settings: &[u8]) {
+        self.settings[node * SETTINGS..(node + 1) * SETTINGS].copy_from_slice(settings);
     }
 
     /// Some bytes as the k-th message, whatever they are; they fit into the slot.
@@ -96,16 +107,22 @@ impl Buffers {
         for node in 0..NODES {
             station.images[node] = image::load(self.image(node)).ok()?;
             station.records[node] = record::load(self.record(node)).ok()?;
+            station.hours[node] = hours::load(self.settings(node)).ok()?;
         }
         station.pool = (0..self.waiting()).map(|k| message::receive(self.message(k)).ok()).collect::<Option<Vec<Message>>>()?;
         Some(station)
     }
 
-    /// What a step leaves of the bytes, from the station after it: its node's image or record, the pool, who is on.
+    /// What a step leaves of the bytes, from the station after it: its node's image, record or settings, the pool, who is on.
     pub fn leave(&mut self, event: &Event, after: &Station) {
         let Ok(told) = &event.told else { return };
         match event.step {
             Step::Host { node, .. } => self.put_record(usize::from(node), &after.records[usize::from(node)]),
+            Step::Load { node, .. } => {
+                let at = usize::from(node);
+                let table = after.hours[at].as_ref().expect("a table was loaded");
+                self.put_settings(at, &hours::with_table(self.settings(at), table));
+            }
             Step::Deliver { at, kept } => {
                 let message = message::decode(self.message(at)).expect("a message");
                 let to = usize::from(message.to);
@@ -127,11 +144,13 @@ impl Buffers {
         }
     }
 
-    /// The numbers of the buffers that a step is lent: 1 for a length, 2 for a pool or a mask that is none.
+    /// The numbers of the buffers that a step is lent: 1 for a length, a table's too, 2 for a pool or a mask that is none.
     fn refusals(&self, step: &Step) -> Result<(), u8> {
+        let (begins, loads) = (matches!(step, Step::Host { call: Call::Begin { .. }, .. }), matches!(step, Step::Load { .. }));
+        let table = if let Step::Load { list, .. } = step { hours::read(list).err() } else { None };
         let (host, deliver) = (matches!(step, Step::Host { .. } | Step::Send { .. }), matches!(step, Step::Deliver { .. }));
         let pool = deliver || matches!(step, Step::Send { .. } | Step::Drop { .. });
-        let own = host || deliver || matches!(step, Step::Switch { .. });
+        let own = host || deliver || loads || matches!(step, Step::Switch { .. });
         let misfits = if let Step::Host { call, .. } = step { call.misfits() } else { false };
         first(&[
             (number::LENGTH, misfits),
@@ -139,15 +158,27 @@ impl Buffers {
             (number::LENGTH, (host || deliver) && self.records.len() != RECORDS),
             (number::LENGTH, pool && self.pool.len() != SLOTS),
             (number::LENGTH, own && self.own.len() != OWN),
+            (number::LENGTH, (begins || loads) && self.settings.len() != STATION_SETTINGS),
+            (number::LENGTH, table == Some(number::LENGTH)),
         ])?;
         first(&[(number::DAMAGED, pool && self.waiting() > POOL), (number::DAMAGED, own && self.on() > ALL)])
     }
 
-    /// The part of the station that a step needs: a node's image or record, and so many messages waiting, of which only the k-th matters.
+    /// The part of the station that a step needs: a node's image, record or settings, and so many messages waiting, of which only the k-th matters.
     fn part(&self, step: &Step) -> Result<Station, u8> {
         let mut station = blank(if self.own.len() == OWN { self.on() } else { 0 });
         match *step {
-            Step::Host { node, .. } | Step::Send { node, .. } if usize::from(node) < NODES => {
+            Step::Host { node, ref call } if usize::from(node) < NODES => {
+                let at = usize::from(node);
+                station.records[at] = record::load(self.record(at))?;
+                if let Call::Begin { .. } = call {
+                    station.hours[at] = hours::load(self.settings(at))?;
+                }
+            }
+            Step::Load { node, .. } if usize::from(node) < NODES => {
+                station.hours[usize::from(node)] = hours::load(self.settings(usize::from(node)))?;
+            }
+            Step::Send { node, .. } if usize::from(node) < NODES => {
                 station.records[usize::from(node)] = record::load(self.record(usize::from(node)))?;
             }
             Step::Deliver { at, .. } if at < self.waiting() => {

@@ -1,15 +1,16 @@
 //! A coordinator (document 01: booking end): the host's calls, a message in, what is due. Each sentence of 'Bookings' in its order.
 
+use super::hours::{self, Table, LAST_MINUTE, SETTINGS};
 use super::message::{self, kind, Entry, Message, Rival, Transaction, ABORT, COMMIT, ENTRIES, LAST, LONGEST, NO, SHORTEST, WRITE};
 use super::quorum::{distances_of, inside, nearest, nodes, only, Kind, ALL, DISTANCES, NODES};
 use super::record::{self, decided, phase, Opened, Record, RECORD};
 use super::{number, Fault};
 
 /// A call of the host. Distances are bytes, as they are lent. Document 01 has for the last three: "a fresh live mask and distances may be
-/// given", asking for votes, giving up.
+/// given", asking for votes, giving up. Document 02 at begin: "The host gives day and minute."
 #[derive(Clone, Debug, PartialEq, Eq)]
 pub enum Call {
-    Begin { live: u16, distances: Vec<u8>, timestamp: u32 },
+    Begin { live: u16, distances: Vec<u8>, timestamp: u32, day: u32, minute: u16 },
     Open { object: u8, mode: u8 },
     SetValue { object: u8, value: i64 },
     Found { object: u8 },
@@ -25,6 +26,11 @@ impl Call {
             Call::Begin { distances, .. } | Call::Reselect { distances, .. } => distances.len() != DISTANCES,
             _ => false,
         }
+    }
+
+    /// "A minute above 10,079 gives 3", whatever table there is.
+    pub fn past_week(&self) -> bool {
+        matches!(self, Call::Begin { minute, .. } if *minute > LAST_MINUTE)
     }
 }
 
@@ -65,20 +71,22 @@ fn write_quorum(record: &Record) -> Option<u16> {
     nearest(Kind::Write, record.live, &record.distances).map(|(_, mask)| mask)
 }
 
-/// The numbers of a call with their conditions, in the order in which they are tried.
-fn refusals(record: &Record, at: At, call: &Call) -> Vec<(u8, bool)> {
+/// The numbers of a call with their conditions, in the order in which they are tried; 13 is "given last at begin".
+fn refusals(record: &Record, hours: Option<&Table>, at: At, call: &Call) -> Vec<(u8, bool)> {
     let unsettled = record.count == 0 || !record.objects().iter().all(Opened::settled);
     let writes_last = record.objects().iter().any(|opened| opened.mode == WRITE && opened.version == LAST);
     let stranger = is_stranger(at.me);
     let unless = |fits: bool| (number::OUT_OF_TURN, !at.on || !fits);
     let open = record.phase == phase::OPEN;
     match call {
-        Call::Begin { live, distances, timestamp } => vec![
+        Call::Begin { live, distances, timestamp, day, minute } => vec![
+            (number::GARBLED, call.past_week()),
             (number::STRANGER, stranger || *live > ALL),
             (number::BUSY, record.phase != phase::IDLE),
             unless(*timestamp > record.timestamp),
             (number::NO_QUORUM, choose(Kind::Read, *live, distances).is_none()),
             (number::USED_UP, record.serial == LAST),
+            (number::CLOSED, hours.is_some_and(|table| table.closed(*day, *minute))),
         ],
         Call::Open { object, .. } => vec![
             (number::STRANGER, stranger),
@@ -139,7 +147,7 @@ fn become_idle(record: &mut Record) {
 fn perform(record: &mut Record, call: &Call) -> i64 {
     match *call {
         // "It chooses a read quorum and takes the next serial."
-        Call::Begin { live, ref distances, timestamp } => {
+        Call::Begin { live, ref distances, timestamp, .. } => {
             (record.serial, record.timestamp, record.phase) = (record.serial + 1, timestamp, phase::OPEN);
             i64::from(select(record, live, distances))
         }
@@ -179,9 +187,9 @@ fn perform(record: &mut Record, call: &Call) -> i64 {
     }
 }
 
-/// A call of the host at a node: a number, or its answer.
-pub fn call(record: &mut Record, at: At, call: &Call) -> Result<i64, u8> {
-    first(&refusals(record, at, call))?;
+/// A call of the host at a node: a number, or its answer. The hours are the table that is loaded there, if any.
+pub fn call(record: &mut Record, hours: Option<&Table>, at: At, call: &Call) -> Result<i64, u8> {
+    first(&refusals(record, hours, at, call))?;
     Ok(perform(record, call))
 }
 
@@ -340,11 +348,13 @@ pub struct Left {
     pub record: Vec<u8>,
 }
 
-/// A host call on bytes: 1 for a length, 2 for a damaged record, then the call's own numbers.
-pub fn host_call(bytes: &[u8], me: u8, asked: &Call) -> Result<Left, u8> {
-    first(&[(number::LENGTH, bytes.len() != RECORD || asked.misfits())])?;
+/// A host call on bytes: 1 for a length, 2 for a damaged record, then the call's own numbers. The settings are lent to begin alone.
+pub fn host_call(bytes: &[u8], settings: &[u8], me: u8, asked: &Call) -> Result<Left, u8> {
+    let begins = matches!(asked, Call::Begin { .. });
+    first(&[(number::LENGTH, bytes.len() != RECORD || asked.misfits()), (number::LENGTH, begins && settings.len() != SETTINGS)])?;
     let mut record = record::load(bytes)?;
-    let answer = call(&mut record, At { me, on: true }, asked)?;
+    let hours = if begins { hours::load(settings)? } else { None };
+    let answer = call(&mut record, hours.as_ref(), At { me, on: true }, asked)?;
     Ok(Left { answer, record: record::encode(&record) })
 }
 

@@ -4,6 +4,7 @@
 //! demand 3 speaks of: what a record has found, and the copies in the images.
 
 use super::coordinator::{Brought, Call};
+use super::hours::{self, Table, LAST_MINUTE};
 use super::message::{kind, Entry, Message, COMMIT, WRITE, YES};
 use super::quorum::{inside, is_quorum, nodes, only, Kind, ALL, NODES};
 use super::record::Opened;
@@ -69,6 +70,8 @@ pub struct History {
     log: Vec<Name>,
     /// The committed ones in the order of their decisions.
     pub committed: Vec<Name>,
+    /// The table that each node was told last.
+    hours: [Option<Table>; NODES],
     /// The new values that committed transactions gave each object.
     given: [BTreeSet<i64>; OBJECTS],
     /// Whether it is checked what 'committed' means; the tests of the other parts leave this one out.
@@ -91,8 +94,8 @@ fn read_quorums() -> &'static [u16] {
 
 impl History {
     pub fn new(on: u16, meaning: bool) -> History {
-        let given = std::array::from_fn(|_| BTreeSet::new());
-        History { pool: vec![], on, serials: [0; NODES], stories: BTreeMap::new(), log: vec![], committed: vec![], given, meaning }
+        let (hours, given) = (std::array::from_fn(|_| None), std::array::from_fn(|_| BTreeSet::new()));
+        History { pool: vec![], on, serials: [0; NODES], stories: BTreeMap::new(), log: vec![], committed: vec![], hours, given, meaning }
     }
 
     /// The transaction that an owner began last.
@@ -126,6 +129,11 @@ impl History {
                 self.on = if on { self.on | bit } else { self.on & !bit };
                 None
             }
+            Step::Load { node, ref list } => {
+                let table = hours::read(list).map_err(|number| format!("(hours) node {node} took a table whose number is {number}"))?;
+                self.hours[usize::from(node)] = Some(table);
+                None
+            }
             Step::Send { .. } => None,
         };
         if let Some(message) = &told.put {
@@ -140,7 +148,12 @@ impl History {
     fn hear_host(&mut self, node: u8, call: &Call, told: &Told) -> Result<(), String> {
         let name = self.current(node);
         match *call {
-            Call::Begin { .. } => self.serials[usize::from(node)] += 1,
+            Call::Begin { day, minute, .. } => {
+                // "Bookings begun only in packing hours."
+                let closed = self.hours[usize::from(node)].as_ref().is_some_and(|table| table.closed(day, minute));
+                ensure!(!closed && minute <= LAST_MINUTE, "(hours) node {node} began on day {day} at minute {minute}");
+                self.serials[usize::from(node)] += 1;
+            }
             Call::Open { object, mode } => self.story(name).wanted.push(Wanted { object, mode, new: None }),
             Call::SetValue { object, value } => {
                 let mut wanted = self.story(name).wanted.iter_mut();

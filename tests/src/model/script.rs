@@ -10,6 +10,10 @@ use super::{Fault, OBJECTS};
 /// A line has at most so many bytes.
 pub const LONGEST: usize = 160;
 
+/// A `list` line has at most so many numbers, and the list.
+pub const LINE_NUMBERS: usize = 16;
+pub const LIST_NUMBERS: usize = 4097;
+
 /// What a line says.
 #[derive(Clone, Debug, PartialEq, Eq)]
 pub enum Line {
@@ -17,6 +21,13 @@ pub enum Line {
     Nothing,
     Bad,
     Blank(u16),
+    /// The day and the minute of the begins behind it.
+    Clock(u32, u16),
+    /// Numbers for the list; none empties it.
+    List(Vec<u32>),
+    /// A step that takes the list: a table of packing hours for a node.
+    Hours(u8),
+    /// Any other step. A begin is given the clock's day and minute when it is taken.
     Step(Step),
 }
 
@@ -55,7 +66,9 @@ fn distances(numbers: &[i64]) -> Option<Vec<u8>> {
 fn call(word: &[u8], numbers: &[i64]) -> Option<(u8, Call)> {
     let node = bits(*numbers.first()?)?;
     let call = match (word, &numbers[1..]) {
-        (b"begin", [stamp, live, rest @ ..]) => Call::Begin { live: bits(*live)?, distances: distances(rest)?, timestamp: bits(*stamp)? },
+        (b"begin", [stamp, live, rest @ ..]) => {
+            Call::Begin { live: bits(*live)?, distances: distances(rest)?, timestamp: bits(*stamp)?, day: 0, minute: 0 }
+        }
         (b"read", [object]) => Call::Open { object: bits(*object)?, mode: READ },
         (b"write", [object]) => Call::Open { object: bits(*object)?, mode: WRITE },
         (b"set", [object, value]) => Call::SetValue { object: bits(*object)?, value: *value },
@@ -94,13 +107,35 @@ pub fn read_line(line: &[u8]) -> Line {
     match (word, &numbers[..]) {
         (b"", []) => Line::Nothing,
         (b"blank", [mask]) => bits(*mask).map_or(Line::Bad, Line::Blank),
+        (b"clock", [day, minute]) => bits(*day).zip(bits(*minute)).map_or(Line::Bad, |(day, minute)| Line::Clock(day, minute)),
+        (b"list", list) if list.len() <= LINE_NUMBERS => {
+            list.iter().map(|&number| bits(number)).collect::<Option<Vec<u32>>>().map_or(Line::Bad, Line::List)
+        }
+        (b"hours", [node]) => bits(*node).map_or(Line::Bad, Line::Hours),
         _ => step(word, &numbers).map_or(Line::Bad, Line::Step),
     }
 }
 
-/// Document 01's word of a number.
+/// A list as the bytes of a table of packing hours: its first number n in 1 byte, the 2n behind it in 2 bytes each, then one in 1 byte, and all that
+/// follow in 4 bytes each. None where a number is too wide for its place.
+pub fn laid(list: &[u32]) -> Option<Vec<u8>> {
+    let last_of_windows = 2 * list.first().map_or(0, |&count| count as usize);
+    let mut bytes = Vec::new();
+    for (place, &number) in list.iter().enumerate() {
+        if place == 0 || place == last_of_windows + 1 {
+            bytes.push(u8::try_from(number).ok()?);
+        } else if place <= last_of_windows {
+            bytes.extend(u16::try_from(number).ok()?.to_le_bytes());
+        } else {
+            bytes.extend(number.to_le_bytes());
+        }
+    }
+    Some(bytes)
+}
+
+/// The documents' word of a number.
 fn word_of(number: u8) -> &'static str {
-    const WORDS: [&str; 12] = [
+    const WORDS: [&str; 13] = [
         "length",
         "damaged",
         "garbled",
@@ -113,6 +148,7 @@ fn word_of(number: u8) -> &'static str {
         "busy",
         "not ready",
         "pool full",
+        "closed",
     ];
     WORDS[usize::from(number) - 1]
 }
@@ -166,6 +202,8 @@ pub enum Taken {
     Bad,
     /// A `blank`, and whether it was refused.
     Blank(bool),
+    Clock,
+    List,
     Step(Event),
 }
 
@@ -175,6 +213,9 @@ pub struct Program {
     history: History,
     /// Whether a scenario runs, which then has an end.
     runs: bool,
+    /// The day and the minute of the next begin.
+    clock: (u32, u16),
+    list: Vec<u32>,
     line: usize,
     pub printed: Vec<u8>,
     /// The scenarios that ended: whether at rest, whether settled.
@@ -184,7 +225,8 @@ pub struct Program {
 impl Program {
     /// "Before the first `blank` every node is on."
     pub fn new() -> Program {
-        Program { station: blank(ALL), history: History::new(ALL, true), runs: false, line: 0, printed: vec![], ends: vec![] }
+        let (station, history) = (blank(ALL), History::new(ALL, true));
+        Program { station, history, runs: false, clock: (0, 0), list: vec![], line: 0, printed: vec![], ends: vec![] }
     }
 
     fn print(&mut self, text: &str) {
@@ -231,7 +273,12 @@ impl Program {
         self.ends.push((at_rest, settled));
     }
 
-    /// A `blank`: the scenario that runs ends and a new one starts. A mask of nodes that are not there is refused.
+    fn bad(&mut self) -> Taken {
+        self.print(&format!("line {}: no such step, nothing done", self.line));
+        Taken::Bad
+    }
+
+    /// A `blank`: the scenario that runs ends and a new one starts, with its clock at 0 0 and an empty list. A mask of nodes that are not there is refused.
     fn anew(&mut self, line: &[u8], mask: u16) -> Taken {
         if mask > ALL {
             self.echo(line);
@@ -240,13 +287,44 @@ impl Program {
         }
         self.end();
         (self.station, self.history, self.runs) = (blank(mask), History::new(mask, true), true);
+        (self.clock, self.list) = ((0, 0), vec![]);
         self.echo(line);
         Taken::Blank(false)
     }
 
+    /// A `clock` is no step: it is printed, and later begins carry it. Whether a scenario runs stays as it was.
+    fn set_clock(&mut self, line: &[u8], day: u32, minute: u16) -> Taken {
+        self.echo(line);
+        self.clock = (day, minute);
+        Taken::Clock
+    }
+
+    /// A `list` is no step either. A line that would make the list longer than it may be is bad.
+    fn add_to_list(&mut self, line: &[u8], numbers: &[u32]) -> Taken {
+        if self.list.len() + numbers.len() > LIST_NUMBERS {
+            return self.bad();
+        }
+        self.echo(line);
+        if numbers.is_empty() {
+            self.list.clear();
+        }
+        self.list.extend(numbers);
+        Taken::List
+    }
+
+    /// An `hours` takes the list, whatever its number; where a number is too wide for its place the line is bad, and the list stays.
+    fn take_hours(&mut self, line: &[u8], node: u8) -> Result<Taken, String> {
+        let Some(list) = laid(&self.list) else { return Ok(self.bad()) };
+        self.list.clear();
+        self.take_step(line, Step::Load { node, list })
+    }
+
     /// A step: "`takes` with the message that it names, `ok` with what was answered or the number with its word, `puts` with the message put".
-    fn take_step(&mut self, line: &[u8], step: Step) -> Result<Taken, String> {
+    fn take_step(&mut self, line: &[u8], mut step: Step) -> Result<Taken, String> {
         self.runs = true;
+        if let Step::Host { call: Call::Begin { day, minute, .. }, .. } = &mut step {
+            (*day, *minute) = self.clock;
+        }
         self.echo(line);
         if let Step::Deliver { at, .. } | Step::Drop { at } = step {
             if let Some(message) = self.station.pool.get(at).map(show) {
@@ -272,11 +350,11 @@ impl Program {
         self.line += 1;
         match read_line(line) {
             Line::Nothing => Ok(Taken::Nothing),
-            Line::Bad => {
-                self.print(&format!("line {}: no such step, nothing done", self.line));
-                Ok(Taken::Bad)
-            }
+            Line::Bad => Ok(self.bad()),
             Line::Blank(mask) => Ok(self.anew(line, mask)),
+            Line::Clock(day, minute) => Ok(self.set_clock(line, day, minute)),
+            Line::List(numbers) => Ok(self.add_to_list(line, &numbers)),
+            Line::Hours(node) => self.take_hours(line, node),
             Line::Step(step) => self.take_step(line, step),
         }
     }
@@ -284,6 +362,15 @@ impl Program {
     /// How the station stands, for a test that makes the next step.
     pub fn station(&self) -> &Station {
         &self.station
+    }
+
+    /// What the next begin and the next load would carry.
+    pub fn clock(&self) -> (u32, u16) {
+        self.clock
+    }
+
+    pub fn list(&self) -> &[u32] {
+        &self.list
     }
 }
 

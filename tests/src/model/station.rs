@@ -1,6 +1,7 @@
-//! The station: thirteen replicas and thirteen coordinators, the pool of waiting messages, who is on, and the steps.
+//! The station: thirteen replicas and thirteen coordinators, the pool of waiting messages, who is on, each node's packing hours, and the steps.
 
 use super::coordinator::{self, due, due_refusals, first, is_stranger, At, Call};
+use super::hours::{self, Table};
 use super::image::{self, Image};
 use super::message::{kind, Message};
 use super::quorum::{inside, only, NODES};
@@ -19,13 +20,16 @@ pub struct Station {
     pub pool: Vec<Message>,
     /// The nodes that are on.
     pub on: u16,
+    /// "Each booking end has its own table": the one that was loaded last, if any.
+    pub hours: [Option<Table>; NODES],
 }
 
 /// "The station's steps are a host call, a send of what is due, a delivery of any waiting message (kept or not), a drop, and switching a
-/// controller off or on."
+/// controller off or on." Document 02 has the loading of a table of packing hours, as it is lent.
 #[derive(Clone, Debug, PartialEq, Eq)]
 pub enum Step {
     Host { node: u8, call: Call },
+    Load { node: u8, list: Vec<u8> },
     Send { node: u8, to: u8, object: u8 },
     Deliver { at: usize, kept: bool },
     Drop { at: usize },
@@ -46,9 +50,10 @@ pub struct Event {
     pub told: Result<Told, u8>,
 }
 
-/// "A station is blank when its 13 images are, no message waits, and every booking end is idle with last serial and stamp 0."
+/// "A station is blank when its 13 images are, no message waits, and every booking end is idle with last serial and stamp 0." No table is loaded.
 pub fn blank(on: u16) -> Station {
-    Station { images: std::array::from_fn(|_| image::blank()), records: std::array::from_fn(|_| Record::default()), pool: vec![], on }
+    let (images, records) = (std::array::from_fn(|_| image::blank()), std::array::from_fn(|_| Record::default()));
+    Station { images, records, pool: vec![], on, hours: std::array::from_fn(|_| None) }
 }
 
 /// Whether a message is meant for a replica; otherwise it is for a coordinator.
@@ -68,10 +73,21 @@ impl Station {
 
     /// "A host call .. at one [that is off] is 5."
     fn host(&mut self, node: u8, asked: &Call) -> Result<Told, u8> {
-        first(&[(number::LENGTH, asked.misfits()), (number::STRANGER, is_stranger(node))])?;
+        first(&[(number::LENGTH, asked.misfits()), (number::GARBLED, asked.past_week()), (number::STRANGER, is_stranger(node))])?;
         let at = At { me: node, on: self.is_on(node) };
-        let answer = coordinator::call(&mut self.records[usize::from(node)], at, asked)?;
+        let hours = self.hours[usize::from(node)].as_ref();
+        let answer = coordinator::call(&mut self.records[usize::from(node)], hours, at, asked)?;
         Ok(Told { answer, put: None })
+    }
+
+    /// "A faulty table gives 2 on loading", another length 1. A loading is a host call too: 4 for no such node, 5 for one that is off. It asks for no
+    /// phase, and the table takes the place of the one before.
+    fn load(&mut self, node: u8, list: &[u8]) -> Result<Told, u8> {
+        let table = hours::read(list)?;
+        first(&[(number::STRANGER, is_stranger(node))])?;
+        first(&[(number::OUT_OF_TURN, !self.is_on(node))])?;
+        self.hours[usize::from(node)] = Some(table);
+        Ok(Told { answer: 0, put: None })
     }
 
     /// "What is due to a named controller .. changes no state." 12 with 128 messages waiting, also where nothing is due.
@@ -124,6 +140,7 @@ impl Station {
     pub fn step(&mut self, step: Step, fault: Fault) -> Event {
         let told = match step {
             Step::Host { node, ref call } => self.host(node, call),
+            Step::Load { node, ref list } => self.load(node, list),
             Step::Send { node, to, object } => self.send(node, to, object),
             Step::Deliver { at, kept } => self.deliver(at, kept, fault),
             Step::Drop { at } => self.drop_message(at),

@@ -1,10 +1,9 @@
--- `runs::start`: the station's own maker, whose buffers hold what the empty list left.
-use mathlib.Core.Path.{_≡_, sym, subst, _∙_}
+-- `runs::start`: what the maker of a blank service leaves is what the empty list left.
+use mathlib.Core.Path.{sym, subst, _∙_}
 use mathlib.Core.List.{[]}
 use denote.Ref.{now}
-use Rattle.buffers.specs.Buffers.{Buffers, all}
-use Rattle.station_calls.specs.Calls.{blankAfter}
-use Rattle.history.specs.Origin.{blankOrigin}
+use Rattle.service.specs.Lent.{lent}
+use Rattle.accounts.specs.Accounts.{blankOrigin}
 use Rattle.runs.specs.Held.{Holds}
 use Rattle.runs.proofs.Demand.{begun}
 use borrow.Author.Needs.{needs}
@@ -26,17 +25,27 @@ same-length-3 c = search needs
 same-length-4 : tie.Need-same-length-4
 same-length-4 c = search needs
 
+same-length-5 : tie.Need-same-length-5
+same-length-5 c = search needs
+
 returns : tie.Need-returns
 returns c =
     let c6 = c .before .before .before .before .before .before in
     let c12 = c6 .before .before .before .before .before .before in
-    let x = c12 .before .before .before .before .before .args in
-    let b = all (now (x .images)) (now (x .records)) (now (x .pool)) (now (x .own)) in
-    let e = c6 .before .before .blank .ensures in
-    let l : all _ _ _ _ ≡ blankAfter b (x .on) = λ j. all (e .1 .0 j) (e .1 .1 .0 j) (e .1 .1 .1 .0 j) (e .1 .1 .1 .1 j) in
-    (e .0, (l, (λ z. subst (Holds (blankOrigin (x .on)) []) (sym l) (begun b (x .on) (sym (e .0) ∙ z)))))
+    let c18 = c12 .before .before .before .before .before .before in
+    let x = c18 .before .before .before .args in
+    let b = lent (now (x .images)) (now (x .records)) (now (x .pool)) (now (x .own)) (now (x .settings)) in
+    let e = c6 .before .before .before .before .blank .ensures in
+    (e .0, (e .1, (λ z. subst (Holds (blankOrigin (x .on)) []) (sym (e .1)) (begun b (x .on) (sym (e .0) ∙ z)))))
 
 pub start-spec : {M : Type 1} → statement M
 start-spec =
     tie.close
-    (tie.spec blank-requires same-length same-length-2 same-length-3 same-length-4 returns)
+    (tie.spec
+    blank-requires
+    same-length
+    same-length-2
+    same-length-3
+    same-length-4
+    same-length-5
+    returns)

@@ -1,7 +1,9 @@
 //! Records, calls and messages that meet: valid records of every phase, calls and messages that fit them or miss by one thing.
 
+use crate::checks::hours::tables::{damaged_settings, some_clock, some_settings};
 use crate::checks::message::records::{other_node, some_byte, some_entries, some_node, some_rivals, some_serial, some_value};
 use crate::model::coordinator::Call;
+use crate::model::hours;
 use crate::model::message::{self, kind, Entry, Message, Rival, Transaction, ABORT, COMMIT, ENTRIES, LAST, NO, WRITE, YES};
 use crate::model::quorum::{nodes, smallest, Kind, ALL, DISTANCES, NODES};
 use crate::model::record::{decided, phase, Opened, Record};
@@ -147,13 +149,24 @@ pub fn some_distances(random: &mut Random) -> Vec<u8> {
     random.bytes(length).iter().map(|byte| byte % limit).collect()
 }
 
-/// A host call with arguments that meet a record.
-pub fn some_call(random: &mut Random, record: &Record) -> Call {
+/// Settings, sound ones most often; seldom damaged, or of another length.
+pub fn lent_settings(random: &mut Random) -> Vec<u8> {
+    let mut settings = if random.once_in(20) { damaged_settings(random) } else { some_settings(random) };
+    if random.once_in(40) {
+        let length = random.below(2 * hours::SETTINGS);
+        settings.resize(length, 0);
+    }
+    settings
+}
+
+/// A host call with arguments that meet a record and settings.
+pub fn some_call(random: &mut Random, record: &Record, settings: &[u8]) -> Call {
     let object = some_object(random, record);
     match random.below(10) {
         0 | 1 => {
             let timestamp = some_near(random, record.timestamp);
-            Call::Begin { live: some_live(random), distances: some_distances(random), timestamp }
+            let (day, minute) = some_clock(random, hours::load(settings).ok().flatten().as_ref());
+            Call::Begin { live: some_live(random), distances: some_distances(random), timestamp, day, minute }
         }
         2 | 3 => Call::Open { object, mode: random.below(2) as u8 },
         4 => Call::SetValue { object, value: some_value(random) },

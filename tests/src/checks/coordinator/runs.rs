@@ -2,23 +2,25 @@
 
 use super::records::{some_call, some_distances, some_message, some_object};
 use super::seen::{Case, Seen, Try};
+use crate::checks::hours::tables::{some_clock, some_settings};
 use crate::checks::message::records::{some_node, some_value};
 use crate::ffi::coordinator as ffi;
 use crate::model::coordinator::{Brought, Call};
 use crate::model::message::{self, kind, Message, LONGEST, WRITE};
-use crate::model::number;
 use crate::model::quorum::ALL;
 use crate::model::record::{self, phase, Opened, Record};
+use crate::model::{hours, number};
 use crate::random::Random;
 use crate::runner::{ensure, Verdict};
 
 /// The call that brings a transaction on.
-fn next_call(random: &mut Random, record: &Record) -> Call {
+fn next_call(random: &mut Random, record: &Record, settings: &[u8]) -> Call {
     let unset = record.objects().iter().find(|opened| opened.mode == WRITE && opened.given == 0);
     match (record.phase, unset) {
         (phase::IDLE, _) => {
             let timestamp = record.timestamp.saturating_add(1 + random.below(3) as u32);
-            Call::Begin { live: ALL, distances: some_distances(random), timestamp }
+            let (day, minute) = some_clock(random, hours::load(settings).ok().flatten().as_ref());
+            Call::Begin { live: ALL, distances: some_distances(random), timestamp, day, minute }
         }
         (phase::OPEN, _) if record.count < 2 || random.once_in(12) => {
             Call::Open { object: some_object(random, record), mode: random.below(2) as u8 }
@@ -51,12 +53,15 @@ pub fn long_runs(random: &mut Random, rounds: usize) -> Verdict {
         let me = some_node(random);
         let mut record = Record::default();
         let mut old: Vec<Vec<u8>> = Vec::new();
+        let mut settings = some_settings(random);
         for _ in 0..steps {
             let bytes = record::encode(&record);
             let after = match random.below(12) {
                 wild @ 0..=4 => {
-                    let call = if wild == 0 { some_call(random, &record) } else { next_call(random, &record) };
-                    seen.compare(random, &bytes, me, Try::Host(&call))?
+                    // Other hours now and then, whatever the phase.
+                    settings = if random.once_in(12) { some_settings(random) } else { settings };
+                    let call = if wild == 0 { some_call(random, &record, &settings) } else { next_call(random, &record, &settings) };
+                    seen.compare(random, &bytes, me, Try::Host(&call, &settings))?
                 }
                 5 | 6 => {
                     let (node, object) = (some_node(random), some_object(random, &record));

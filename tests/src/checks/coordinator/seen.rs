@@ -2,6 +2,7 @@
 
 use crate::ffi::coordinator as ffi;
 use crate::model::coordinator::{due_call, host_call, misfits, receive_call, Brought, Call, Left, Misfit};
+use crate::model::hours;
 use crate::model::message::{self, kind, Message, LONGEST, NO, WRITE, YES};
 use crate::model::number;
 use crate::model::quorum::{inside, only};
@@ -30,7 +31,7 @@ pub enum What {
 
 /// Each call with the numbers that it can have.
 const NUMBERS: [(What, &[u8]); 10] = [
-    (What::Begin, &[0, 1, 2, 4, 5, 8, 9, 10]),
+    (What::Begin, &[0, 1, 2, 3, 4, 5, 8, 9, 10, 13]),
     (What::OpenRead, &[0, 1, 2, 4, 5, 6, 7]),
     (What::OpenWrite, &[0, 1, 2, 4, 5, 6, 7]),
     (What::SetValue, &[0, 1, 2, 4, 5, 6]),
@@ -98,22 +99,27 @@ fn cases() -> Vec<Case> {
 /// A call to try on the bytes of a record.
 #[derive(Clone, Copy)]
 pub enum Try<'a> {
-    Host(&'a Call),
+    /// A host call, and the settings, which are lent to begin alone.
+    Host(&'a Call, &'a [u8]),
     Receive(&'a [u8]),
-    Due { node: u8, object: u8, size: usize },
+    Due {
+        node: u8,
+        object: u8,
+        size: usize,
+    },
 }
 
 impl Try<'_> {
     fn what(self) -> What {
         match self {
-            Try::Host(Call::Begin { .. }) => What::Begin,
-            Try::Host(Call::Open { mode: WRITE, .. }) => What::OpenWrite,
-            Try::Host(Call::Open { .. }) => What::OpenRead,
-            Try::Host(Call::SetValue { .. }) => What::SetValue,
-            Try::Host(Call::Found { .. }) => What::Found,
-            Try::Host(Call::Reselect { .. }) => What::Reselect,
-            Try::Host(Call::RequestCommit) => What::RequestCommit,
-            Try::Host(Call::Abort) => What::Abort,
+            Try::Host(Call::Begin { .. }, _) => What::Begin,
+            Try::Host(Call::Open { mode: WRITE, .. }, _) => What::OpenWrite,
+            Try::Host(Call::Open { .. }, _) => What::OpenRead,
+            Try::Host(Call::SetValue { .. }, _) => What::SetValue,
+            Try::Host(Call::Found { .. }, _) => What::Found,
+            Try::Host(Call::Reselect { .. }, _) => What::Reselect,
+            Try::Host(Call::RequestCommit, _) => What::RequestCommit,
+            Try::Host(Call::Abort, _) => What::Abort,
             Try::Receive(_) => What::Receive,
             Try::Due { .. } => What::Due,
         }
@@ -122,7 +128,8 @@ impl Try<'_> {
     /// For the words of a failure.
     fn described(self, me: u8, record: &[u8]) -> String {
         let call = match self {
-            Try::Host(call) => format!("{call:?}"),
+            Try::Host(call @ Call::Begin { .. }, settings) => format!("{call:?}, settings {:?} {settings:?}", hours::load(settings)),
+            Try::Host(call, _) => format!("{call:?}"),
             Try::Receive(bytes) => message::decode(bytes).map_or(format!("{bytes:?}"), |message| format!("{message:?}")),
             Try::Due { node, object, size } => format!("what is due to {node} for object {object} in {size} bytes"),
         };
@@ -143,18 +150,20 @@ fn differ(got: &[u8], expected: &[u8]) -> Option<i64> {
 #[derive(Default)]
 pub struct Seen {
     cases: BTreeMap<Case, usize>,
-    pub numbers: [usize; 13],
+    pub numbers: [usize; number::COUNT],
 }
 
 impl Seen {
     /// The library's call on a record's bytes against the model's: number, answer and every byte lent; the record after.
     pub fn compare(&mut self, random: &mut Random, record: &[u8], me: u8, asked: Try) -> Result<Vec<u8>, String> {
         let (number, after) = match asked {
-            Try::Host(call) => {
-                let lent = call.clone();
-                let expected = host_call(record, me, call);
-                let after = self.changed(random, record, &expected, |record| ffi::host_call(record, me, &lent), asked, me)?;
+            Try::Host(call, settings) => {
+                let (lent, lent_settings) = (call.clone(), settings.to_vec());
+                let expected = host_call(record, settings, me, call);
+                let after =
+                    self.changed(random, record, &expected, |record| ffi::host_call(record, &lent_settings, me, &lent), asked, me)?;
                 ensure!(lent == *call, "{}: the distances became {lent:?}", asked.described(me, record));
+                ensure!(lent_settings == settings, "{}: the settings became {lent_settings:?}", asked.described(me, record));
                 (expected.err().unwrap_or(number::OK), after)
             }
             Try::Receive(message) => {
@@ -242,8 +251,8 @@ impl Seen {
     /// The cases of a call that nothing refused, with the record before it.
     fn count(&mut self, before: &Record, me: u8, asked: Try) {
         match asked {
-            Try::Host(Call::Abort) => self.add_if(before.contacted == 0, Case::AbortAtOnce),
-            Try::Host(_) => {}
+            Try::Host(Call::Abort, _) => self.add_if(before.contacted == 0, Case::AbortAtOnce),
+            Try::Host(..) => {}
             Try::Receive(bytes) => {
                 let left = receive_call(&record::encode(before), me, bytes);
                 if let (Ok(message), Ok(left)) = (message::receive(bytes), left) {

@@ -1,9 +1,10 @@
-//! Buffers that are no station, or no longer one: each length off, an impossible count or mask, a damaged record or image, garbage among the
-//! messages. Every step then has the model's number and leaves the model's bytes; a refused one leaves every byte as it was.
+//! Buffers that are no station, or no longer one: each length off, an impossible count or mask, a damaged record, image or settings, garbage among
+//! the messages. Every step then has the model's number and leaves the model's bytes; a refused one leaves every byte as it was.
 
 use super::ends::answered;
 use super::scenario::{next_step, some_style, wild_step};
-use super::seen::{numbers_in_words, place, STEPS};
+use super::seen::{numbers_in_words, place, Numbers, STEPS};
+use crate::checks::hours::tables::damaged_settings;
 use crate::ffi::station as library;
 use crate::model::buffers::{self, Buffers, SLOTS};
 use crate::model::image::IMAGE;
@@ -25,10 +26,12 @@ enum Wrong {
     RecordsLength,
     PoolLength,
     OwnLength,
+    SettingsLength,
     Count,
     Mask,
     Record,
     Image,
+    Settings,
     /// A message whose bytes are changed, one of any bytes, one of an impossible length.
     Message,
     Bytes,
@@ -39,16 +42,18 @@ enum Wrong {
     Two,
 }
 
-const WRONGS: [Wrong; 14] = [
+const WRONGS: [Wrong; 16] = [
     Wrong::Nothing,
     Wrong::ImagesLength,
     Wrong::RecordsLength,
     Wrong::PoolLength,
     Wrong::OwnLength,
+    Wrong::SettingsLength,
     Wrong::Count,
     Wrong::Mask,
     Wrong::Record,
     Wrong::Image,
+    Wrong::Settings,
     Wrong::Message,
     Wrong::Bytes,
     Wrong::Slot,
@@ -57,8 +62,8 @@ const WRONGS: [Wrong; 14] = [
 ];
 
 /// The numbers that each step has here, each of them often.
-const REACHED: [&[usize]; 5] =
-    [&[0, 1, 2, 4, 5, 6, 8, 10, 11], &[0, 1, 2, 4, 5, 6, 12], &[0, 1, 2, 3, 5, 12], &[0, 1, 2, 5], &[0, 1, 2, 4]];
+const REACHED: [&[usize]; 6] =
+    [&[0, 1, 2, 3, 4, 5, 6, 8, 10, 11, 13], &[0, 1, 2, 4, 5, 6, 12], &[0, 1, 2, 3, 5, 12], &[0, 1, 2, 5], &[0, 1, 2, 4], &[0, 1, 2, 4, 5]];
 
 /// One byte shorter or longer.
 fn misfit(random: &mut Random, buffer: &mut Vec<u8>) {
@@ -98,10 +103,18 @@ fn spoil_as(random: &mut Random, wrong: Wrong, it: &mut Buffers) {
         Wrong::RecordsLength => misfit(random, &mut it.records),
         Wrong::PoolLength => misfit(random, &mut it.pool),
         Wrong::OwnLength => misfit(random, &mut it.own),
+        Wrong::SettingsLength => misfit(random, &mut it.settings),
         Wrong::Count => it.pool[0] = *random.pick(&[129, 130, 200, 255]),
         Wrong::Mask => it.own[1] |= *random.pick(&[0x20, 0x40, 0x80, 0xe0]),
         Wrong::Record => (0..NODES).for_each(|node| spoil(random, &mut it.records[node * RECORD..(node + 1) * RECORD])),
         Wrong::Image => (0..NODES).for_each(|node| spoil(random, &mut it.images[node * IMAGE..(node + 1) * IMAGE])),
+        // Each node's spoilt anywhere, or broken for sure.
+        Wrong::Settings => (0..NODES).for_each(|node| {
+            let mut settings = it.settings(node).to_vec();
+            spoil(random, &mut settings);
+            let broken = damaged_settings(random);
+            it.put_settings(node, if random.once_in(2) { &settings } else { &broken });
+        }),
         Wrong::Message if waits => {
             let mut bytes = it.message(k).to_vec();
             spoil(random, &mut bytes);
@@ -118,7 +131,7 @@ fn spoil_as(random: &mut Random, wrong: Wrong, it: &mut Buffers) {
         }
         Wrong::Two => {
             // A length last, as the others are made within the buffers.
-            let (content, length) = (WRONGS[5 + random.below(8)], WRONGS[1 + random.below(4)]);
+            let (content, length) = (WRONGS[6 + random.below(9)], WRONGS[1 + random.below(5)]);
             spoil_as(random, content, it);
             spoil_as(random, length, it);
         }
@@ -179,7 +192,7 @@ fn looks(is: &Buffers) -> Result<(), String> {
 }
 
 pub fn bad_buffers(random: &mut Random, rounds: usize) -> Verdict {
-    let mut numbers = [[0; 13]; 5];
+    let mut numbers = Numbers::default();
     let mut wrongs: BTreeMap<Wrong, usize> = BTreeMap::new();
     for _ in 0..400 * rounds {
         let (station, sound) = under_way(random);
@@ -196,7 +209,7 @@ pub fn bad_buffers(random: &mut Random, rounds: usize) -> Verdict {
             }
         }
     }
-    let all = (0..5).flat_map(|step| REACHED[step].iter().map(move |&number| (step, number)));
+    let all = (0..STEPS.len()).flat_map(|step| REACHED[step].iter().map(move |&number| (step, number)));
     let rarest = all.min_by_key(|&(step, number)| numbers[step][number]).expect("some number");
     let least = numbers[rarest.0][rarest.1];
     let steps: usize = numbers.iter().flatten().sum();

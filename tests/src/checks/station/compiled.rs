@@ -1,10 +1,11 @@
-//! The library's station, driven through its C functions beside the model's: after every step its number, its answer and every byte of its four
+//! The library's station, driven through its C functions beside the model's: after every step its number, its answer and every byte of its five
 //! buffers are the model's, and the messages that wait are read back through the library.
 
 use super::ends::answered;
 use super::scenario::{next_step, some_style};
 use crate::ffi::station as library;
 use crate::model::buffers::{self, Buffers, IMAGES, OWN, RECORDS, SLOTS};
+use crate::model::hours::STATION_SETTINGS;
 use crate::model::quorum::ALL;
 use crate::model::station::{blank, Event, Station, Step, Told};
 use crate::model::{message, number, record, Fault};
@@ -26,7 +27,9 @@ impl Compiled {
         let expected = buffers::of(station);
         let mut is = expected.clone();
         if *station == blank(station.on) {
-            is = Buffers { images: vec![0xa5; IMAGES], records: vec![0xa5; RECORDS], pool: vec![0xa5; SLOTS], own: vec![0xa5; OWN] };
+            let any = |length: usize| vec![0xa5; length];
+            let (images, records, pool) = (any(IMAGES), any(RECORDS), any(SLOTS));
+            is = Buffers { images, records, pool, own: any(OWN), settings: any(STATION_SETTINGS) };
             library::blank(&mut is, station.on);
         }
         Compiled { is, expected, shown: station.clone() }
@@ -61,6 +64,7 @@ impl Compiled {
         ensure!(is.records == expected.records, "records");
         ensure!(is.pool == expected.pool, "pool");
         ensure!(is.own == expected.own, "mask");
+        ensure!(is.settings == expected.settings, "settings");
         Ok(())
     }
 
@@ -82,7 +86,7 @@ impl Compiled {
             Step::Drop { at } => {
                 self.shown.pool.remove(at);
             }
-            Step::Send { .. } | Step::Switch { .. } => {}
+            Step::Send { .. } | Step::Switch { .. } | Step::Load { .. } => {}
         }
         let left = self.shown.pool.len();
         ensure!(left <= waited && waits >= left && waits <= left + 1, "{waited} waited and {waits} wait");
@@ -123,10 +127,11 @@ pub fn noticed(random: &mut Random) -> Verdict {
             let event = model.step(next_step(random, &model, &style), Fault::None);
             compiled.follow(event, &model)?;
         }
-        let (name, bytes) = match trial % 4 {
+        let (name, bytes) = match trial % 5 {
             0 => ("images", &mut compiled.is.images),
             1 => ("records", &mut compiled.is.records),
             2 => ("pool", &mut compiled.is.pool),
+            3 => ("settings", &mut compiled.is.settings),
             _ => ("mask", &mut compiled.is.own),
         };
         let (at, bit) = (random.below(bytes.len()), 1 << random.below(8));
@@ -148,16 +153,19 @@ pub fn blanks(random: &mut Random) -> Verdict {
         it.pool.fill(random.byte());
         it.records.fill(random.byte());
         it.images.fill(random.byte());
+        it.settings.fill(random.byte());
         let before = it.clone();
         let number = library::blank(&mut it, on);
         let (expected, left) = if on <= ALL { (number::OK, buffers::of(&blank(on))) } else { (number::STRANGER, before) };
         ensure!(number == expected && it == left, "a blank station with {on} on has number {number}");
     }
-    for which in 0..8 {
+    for which in 0..10 {
         let mut it = buffers::of(&blank(ALL));
-        let buffer = [&mut it.images, &mut it.records, &mut it.pool, &mut it.own].into_iter().nth(which / 2).expect("one of four");
+        let all = [&mut it.images, &mut it.records, &mut it.pool, &mut it.own, &mut it.settings];
+        let buffer = all.into_iter().nth(which / 2).expect("one of five");
         buffer.resize(if which % 2 == 0 { buffer.len() - 1 } else { buffer.len() + 1 }, 7);
         it.images.fill(9);
+        it.settings.fill(9);
         let before = it.clone();
         for on in [0, ALL, ALL + 1] {
             let number = library::blank(&mut it, on);

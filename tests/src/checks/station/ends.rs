@@ -1,23 +1,33 @@
-//! A step of the model's station against the calls on bytes that it stands for: a coordinator's on its record, a replica's on its image.
+//! A step of the model's station against the calls on bytes that it stands for: a coordinator's on its record and settings, a replica's on its
+//! image.
 
 use crate::ffi;
 use crate::model::coordinator::{due_call, host_call, receive_call, Call, Left};
+use crate::model::hours::{load_call, settings_of};
 use crate::model::message::{self, Message, LONGEST};
 use crate::model::station::{for_replica, Event, Station, Step, Told, POOL};
 use crate::model::{image, number, record};
 use crate::runner::ensure;
 
-/// A coordinator's calls on the bytes of a record: the model's own, or a library's.
+/// A coordinator's calls on the bytes of a record and of settings: the model's own, or a library's.
 #[derive(Clone, Copy)]
 pub struct Ends {
-    pub host: fn(&mut [u8], u8, &Call) -> (u8, i64),
+    pub host: fn(&mut [u8], &[u8], u8, &Call) -> (u8, i64),
+    pub load: fn(&mut [u8], &[u8]) -> u8,
     pub receive: fn(&mut [u8], u8, &[u8]) -> (u8, i64),
     pub due: fn(&[u8], u8, u8, u8, &mut [u8]) -> (u8, u8),
 }
 
 /// The model's own.
 pub const MODEL: Ends = Ends {
-    host: |record, me, call| leave(record, host_call(record, me, call)),
+    host: |record, settings, me, call| leave(record, host_call(record, settings, me, call)),
+    load: |settings, list| match load_call(settings, list) {
+        Err(number) => number,
+        Ok(bytes) => {
+            settings.copy_from_slice(&bytes);
+            number::OK
+        }
+    },
     receive: |record, me, message| leave(record, receive_call(record, me, message)),
     due: |record, me, node, object, out| match due_call(record, me, node, object, out.len()) {
         Err(number) => (number, 0),
@@ -72,8 +82,14 @@ pub fn same(ends: Ends, before: &Station, event: &Event, after: &Station) -> Res
     let agrees = match event.step {
         Step::Host { node, ref call } if node < 13 && before.is_on(node) => {
             let mut bytes = record::encode(&before.records[usize::from(node)]);
-            let told = (ends.host)(&mut bytes, node, call);
+            let settings = settings_of(before.hours[usize::from(node)].as_ref());
+            let told = (ends.host)(&mut bytes, &settings, node, call);
             told == answered(&event.told) && bytes == record::encode(&after.records[usize::from(node)])
+        }
+        Step::Load { node, ref list } if node < 13 && before.is_on(node) => {
+            let mut settings = settings_of(before.hours[usize::from(node)].as_ref());
+            let number = (ends.load)(&mut settings, list);
+            number == answered(&event.told).0 && settings == settings_of(after.hours[usize::from(node)].as_ref())
         }
         Step::Send { node, to, object } if node < 13 && before.is_on(node) && !full => {
             let mut out = vec![0; LONGEST];

@@ -1,7 +1,9 @@
 //! Random scenarios (document 01: stories): which step comes next, from what the station is in and how rough the scenario is.
 
+use crate::checks::hours::tables::{some_clock, some_list};
 use crate::checks::message::records::some_byte;
 use crate::model::coordinator::{due, known_rivals, Call};
+use crate::model::hours::{encode, Table, Window, LAST_END};
 use crate::model::message::{kind, Message, WRITE};
 use crate::model::quorum::{nodes, ALL, NODES};
 use crate::model::record::{phase, Record};
@@ -34,6 +36,8 @@ pub struct Style {
     pub reselect: usize,
     pub write: usize,
     pub wild: usize,
+    /// A table of packing hours is loaded.
+    pub load: usize,
 }
 
 /// A style; what is wanted is few or many, and what goes wrong rare or frequent, independently of each other.
@@ -62,6 +66,7 @@ pub fn some_style(random: &mut Random) -> Style {
         reselect: *random.pick(&[6, 30, 200][gentle..]),
         write: *random.pick(&[1, 2, 2, 3]),
         wild: *random.pick(&[20, 60, 200][gentle..]),
+        load: *random.pick(&[30, 120, 600][gentle..]),
     }
 }
 
@@ -148,15 +153,26 @@ fn while_finishing(random: &mut Random, record: &Record) -> u8 {
     one_of(random, record.awaited() & !record.done)
 }
 
+/// A table with the whole week in one window.
+fn always_open() -> Vec<u8> {
+    encode(&Table { windows: vec![Window { start: 0, end: LAST_END }], dates: vec![] })
+}
+
 /// What an owner does next: a host call, or a send of what is due.
 fn owner_step(random: &mut Random, station: &Station, style: &Style) -> Step {
     let node = *random.pick(&style.owners);
     let record = &station.records[usize::from(node)];
     match record.phase {
         phase::IDLE => {
+            let hours = station.hours[usize::from(node)].as_ref();
+            // A table without a window closes for good: it is replaced soon.
+            if hours.is_some_and(|table| table.windows.is_empty()) && !random.once_in(4) {
+                return Step::Load { node, list: always_open() };
+            }
             let timestamp = record.timestamp + 1 + random.below(4) as u32;
             let (live, distances) = (some_live(random, station), some_distances(random));
-            Step::Host { node, call: Call::Begin { live, distances, timestamp } }
+            let (day, minute) = some_clock(random, hours);
+            Step::Host { node, call: Call::Begin { live, distances, timestamp, day, minute } }
         }
         phase::OPEN => while_open(random, station, style, node),
         phase::VOTING if random.once_in(style.abort * 4) => Step::Host { node, call: Call::Abort },
@@ -177,9 +193,13 @@ fn wild_distances(random: &mut Random) -> Vec<u8> {
 
 /// A host call with any arguments, fitting or not.
 fn wild_call(random: &mut Random, object: u8) -> Call {
+    let (day, minute) = some_clock(random, None);
     match random.below(8) {
-        0 => Call::Begin { live: random.word(), distances: wild_distances(random), timestamp: random.below(40) as u32 },
-        1 => Call::Begin { live: random.word() & ALL, distances: wild_distances(random), timestamp: random.below(900) as u32 },
+        0 => Call::Begin { live: random.word(), distances: wild_distances(random), timestamp: random.below(40) as u32, day, minute },
+        1 => {
+            let (live, timestamp) = (random.word() & ALL, random.below(900) as u32);
+            Call::Begin { live, distances: wild_distances(random), timestamp, day, minute }
+        }
         2 => Call::Open { object, mode: random.below(2) as u8 },
         3 => Call::SetValue { object, value: random.next() as i64 },
         4 => Call::Found { object },
@@ -195,11 +215,12 @@ pub fn wild_step(random: &mut Random, station: &Station, style: &Style) -> Step 
     let node = *random.pick(&[stranger, style.owners[0]]);
     let object = if random.once_in(6) { some_byte(random) } else { random.below(style.objects.min(OBJECTS)) as u8 };
     let at = if random.once_in(10) { usize::from(random.byte()) } else { random.below(station.pool.len() + 2) };
-    match random.below(12) {
+    match random.below(13) {
         0..=4 => Step::Host { node, call: wild_call(random, object) },
         5..=8 => Step::Send { node, to: if random.once_in(8) { some_byte(random) } else { random.below(NODES) as u8 }, object },
         9 => Step::Deliver { at, kept: random.once_in(2) },
         10 => Step::Drop { at },
+        11 => Step::Load { node: stranger, list: some_list(random, 2) },
         _ => Step::Switch { node: stranger, on: random.once_in(2) },
     }
 }
@@ -226,6 +247,10 @@ pub fn next_step(random: &mut Random, station: &Station, style: &Style) -> Step 
     if random.once_in(style.switch) || (station.on != ALL && random.once_in(12)) {
         let node = if random.once_in(3) { random.below(NODES) as u8 } else { one_of(random, ALL & !station.on) };
         return Step::Switch { node, on: !station.is_on(node) };
+    }
+    if random.once_in(style.load) {
+        let node = if random.once_in(6) { random.below(NODES) as u8 } else { *random.pick(&style.owners) };
+        return Step::Load { node, list: some_list(random, 5) };
     }
     if waiting > 0 && random.once_in(style.lose) {
         return Step::Drop { at: random.below(waiting) };

@@ -3,6 +3,7 @@
 use crate::model::coordinator::{misfits, Brought, Call};
 use crate::model::image::Image;
 use crate::model::message::{kind, Message, NO, WRITE};
+use crate::model::number;
 use crate::model::record::phase;
 use crate::model::replica::{enter, judge, Standing};
 use crate::model::station::{Event, Station, Step};
@@ -12,6 +13,19 @@ use std::collections::BTreeMap;
 #[derive(Clone, Copy, Debug, PartialEq, Eq, PartialOrd, Ord)]
 pub enum Case {
     Begun,
+    /// By a table that is loaded: a begin at a window's first minute, at its last, and outside; one on a closed date alone.
+    BegunFirst,
+    BegunLast,
+    ClosedMinute,
+    ClosedDate,
+    /// A begin refused as closed at a window's end minute, and at the minute before its first.
+    ClosedAtEnd,
+    ClosedBefore,
+    /// A table in place of another; one that is loaded while a transaction is under way.
+    LoadedAgain,
+    LoadedUnderWay,
+    /// A table that is refused where another is loaded.
+    LoadRefused,
     Reselected,
     /// A look again while objects are open that brings nodes that were not contacted yet.
     ReselectedMore,
@@ -45,8 +59,17 @@ pub enum Case {
 }
 
 impl Case {
-    pub const ALL: [Case; 23] = [
+    pub const ALL: [Case; 32] = [
         Case::Begun,
+        Case::BegunFirst,
+        Case::BegunLast,
+        Case::ClosedMinute,
+        Case::ClosedDate,
+        Case::ClosedAtEnd,
+        Case::ClosedBefore,
+        Case::LoadedAgain,
+        Case::LoadedUnderWay,
+        Case::LoadRefused,
         Case::Reselected,
         Case::ReselectedMore,
         Case::Ready,
@@ -73,10 +96,13 @@ impl Case {
 }
 
 /// The steps' names, in the order of their counts.
-pub const STEPS: [&str; 5] = ["host", "send", "deliver", "drop", "switch"];
+pub const STEPS: [&str; 6] = ["host", "send", "deliver", "drop", "switch", "load"];
+
+/// For each step how often it had each number.
+pub type Numbers = [[usize; number::COUNT]; STEPS.len()];
 
 /// The numbers that each step can have in a run from blank.
-const REACHED: [&[usize]; 5] = [&[0, 1, 4, 5, 6, 7, 8, 10, 11], &[0, 4, 5, 6, 12], &[0, 5, 12], &[0, 5], &[0, 4]];
+const REACHED: [&[usize]; 6] = [&[0, 1, 3, 4, 5, 6, 7, 8, 10, 11, 13], &[0, 4, 5, 6, 12], &[0, 5, 12], &[0, 5], &[0, 4], &[0, 1, 2, 4, 5]];
 
 /// Which of the steps it is.
 pub fn place(step: &Step) -> usize {
@@ -86,12 +112,13 @@ pub fn place(step: &Step) -> usize {
         Step::Deliver { .. } => 2,
         Step::Drop { .. } => 3,
         Step::Switch { .. } => 4,
+        Step::Load { .. } => 5,
     }
 }
 
 #[derive(Default)]
 pub struct Seen {
-    pub numbers: [[usize; 13]; 5],
+    pub numbers: Numbers,
     cases: BTreeMap<Case, usize>,
     /// Why a node voted no to a transaction: by owner, serial and node.
     reasons: BTreeMap<(u8, u32, u8), Case>,
@@ -117,6 +144,7 @@ impl Seen {
     pub fn count(&mut self, before: &Station, event: &Event) {
         let number = event.told.as_ref().err().copied().unwrap_or(0);
         self.numbers[place(&event.step)][usize::from(number)] += 1;
+        self.count_hours(before, &event.step, number);
         let Ok(told) = &event.told else { return };
         match &event.step {
             Step::Host { node, call } => self.count_call(before, *node, call),
@@ -132,6 +160,31 @@ impl Seen {
                 self.add_if(told.put.is_none(), Case::SentNothing);
                 self.add_if(told.put.as_ref().is_some_and(|put| put.kind == kind::YIELD), Case::SentYield);
             }
+            _ => {}
+        }
+    }
+
+    /// What packing hours had to do with a step.
+    fn count_hours(&mut self, before: &Station, step: &Step, number: u8) {
+        let (Step::Host { node, .. } | Step::Load { node, .. }) = *step else { return };
+        let Some(Some(table)) = before.hours.get(usize::from(node)) else { return };
+        match *step {
+            Step::Host { call: Call::Begin { minute, .. }, .. } if number == number::OK => {
+                self.add_if(table.windows.iter().any(|window| window.start == minute), Case::BegunFirst);
+                self.add_if(table.windows.iter().any(|window| window.end - 1 == minute), Case::BegunLast);
+            }
+            Step::Host { call: Call::Begin { day, minute, .. }, .. } if number == number::CLOSED => {
+                let open = table.windows.iter().any(|window| window.start <= minute && minute < window.end);
+                self.add(if open { Case::ClosedDate } else { Case::ClosedMinute });
+                let dated = table.dates.contains(&day);
+                self.add_if(!dated && table.windows.iter().any(|window| window.end == minute), Case::ClosedAtEnd);
+                self.add_if(!dated && table.windows.iter().any(|window| window.start == minute + 1), Case::ClosedBefore);
+            }
+            Step::Load { .. } if number == number::OK => {
+                self.add(Case::LoadedAgain);
+                self.add_if(before.records[usize::from(node)].phase != phase::IDLE, Case::LoadedUnderWay);
+            }
+            Step::Load { .. } => self.add(Case::LoadRefused),
             _ => {}
         }
     }
@@ -201,7 +254,7 @@ impl Seen {
     /// The rarest case and the rarest number that a step can have.
     pub fn rarest(&self) -> (String, usize) {
         let cases = Case::ALL.into_iter().map(|case| (format!("{case:?}"), self.of(case)));
-        let numbers = (0..5).flat_map(|step| REACHED[step].iter().map(move |&number| (step, number)));
+        let numbers = (0..STEPS.len()).flat_map(|step| REACHED[step].iter().map(move |&number| (step, number)));
         let numbers = numbers.map(|(step, number)| (format!("{} {number}", STEPS[step]), self.numbers[step][number]));
         cases.chain(numbers).min_by_key(|(_, count)| *count).expect("some case")
     }
@@ -221,14 +274,14 @@ impl Seen {
     }
 }
 
-/// For each step how often it had each number.
-pub fn numbers_in_words(numbers: &[[usize; 13]; 5]) -> String {
+/// The same in words.
+pub fn numbers_in_words(numbers: &Numbers) -> String {
     let words = |step: usize| {
-        let met = (0..13).filter(|&number| numbers[step][number] > 0);
+        let met = (0..number::COUNT).filter(|&number| numbers[step][number] > 0);
         let met: Vec<String> = met.map(|number| format!("{number}: {}", numbers[step][number])).collect();
         format!("{} {{{}}}", STEPS[step], met.join(", "))
     };
-    (0..5).map(words).collect::<Vec<String>>().join(", ")
+    (0..STEPS.len()).map(words).collect::<Vec<String>>().join(", ")
 }
 
 /// Why an ask is voted down, if it is: the first reason that holds.

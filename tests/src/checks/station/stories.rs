@@ -30,7 +30,7 @@ fn deliver(station: &mut Station) -> Result<Told, u8> {
 }
 
 fn begin(station: &mut Station, node: u8, timestamp: u32) -> Result<i64, u8> {
-    host(station, node, Call::Begin { live: 8191, distances: [1, 0].repeat(13), timestamp })
+    host(station, node, Call::Begin { live: 8191, distances: [1, 0].repeat(13), timestamp, day: 0, minute: 0 })
 }
 
 /// A node begins, opens an object, finds it at node 0, and asks for votes; the new value is given where it writes.
@@ -175,7 +175,7 @@ pub fn last_numbers() -> Verdict {
     ensure!(it.records[1].phase == phase::OPEN && it.records[1].serial == LAST, "a refused request changed the phase");
     ensure!(up_to_votes(it, 6, 1, 0, None) == Ok(439), "a read of the last version");
     ensure!(begin(it, 1, LAST) == Err(number::BUSY), "10 comes before 5 at begin");
-    let live = Call::Begin { live: 8190, distances: [1, 0].repeat(13), timestamp: 3 };
+    let live = Call::Begin { live: 8190, distances: [1, 0].repeat(13), timestamp: 3, day: 0, minute: 0 };
     ensure!(host(it, 12, live) == Ok(6), "live 8190 has the read quorum 6");
     taken(host(it, 12, Call::Open { object: 1, mode: READ }))?;
     for to in [1, 2] {

@@ -14,7 +14,7 @@ const OBJECT: u8 = 7;
 /// A node begins a transaction that opens the object, and its copy comes from node 0.
 fn open(run: &mut Run, node: u8, mode: u8) -> Result<(), String> {
     let timestamp = run.station.records[usize::from(node)].timestamp + 1;
-    run.take(Step::Host { node, call: Call::Begin { live: ALL, distances: [1, 0].repeat(13), timestamp } })?;
+    run.take(Step::Host { node, call: Call::Begin { live: ALL, distances: [1, 0].repeat(13), timestamp, day: 0, minute: 0 } })?;
     run.take(Step::Host { node, call: Call::Open { object: OBJECT, mode } })?;
     run.take(Step::Send { node, to: 0, object: OBJECT })?;
     run.take(Step::Deliver { at: 0, kept: false })?;

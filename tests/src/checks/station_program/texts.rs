@@ -3,7 +3,7 @@
 use crate::model::coordinator::Call;
 use crate::model::message::READ;
 use crate::model::quorum::NODES;
-use crate::model::script::LONGEST;
+use crate::model::script::{LINE_NUMBERS, LONGEST};
 use crate::model::station::Step;
 use crate::random::Random;
 
@@ -35,10 +35,11 @@ fn words_of_call(random: &mut Random, node: u8, call: &Call) -> Option<Vec<Strin
     Some(words)
 }
 
-/// The words of a step; none where a line cannot say it.
+/// The words of a step; none where a line cannot say it. A begin's clock and a load's list stand in lines before it.
 pub fn words_of(random: &mut Random, step: &Step) -> Option<Vec<String>> {
     let line = match step {
         Step::Host { node, call } => return words_of_call(random, *node, call),
+        Step::Load { node, .. } => format!("hours {node}"),
         Step::Send { node, to, object } => format!("send {node} {to} {object}"),
         Step::Deliver { at, kept: false } => format!("deliver {at}"),
         Step::Deliver { at, kept: true } => format!("keep {at}"),
@@ -47,6 +48,40 @@ pub fn words_of(random: &mut Random, step: &Step) -> Option<Vec<String>> {
         Step::Switch { node, on: false } => format!("off {node}"),
     };
     Some(line.split(' ').map(String::from).collect())
+}
+
+/// The numbers of a list that are laid as these bytes; none where no list is.
+pub fn numbers_of(bytes: &[u8]) -> Option<Vec<u32>> {
+    let last_of_windows = 2 * bytes.first().map_or(0, |&count| usize::from(count));
+    let (mut numbers, mut rest) = (Vec::new(), bytes);
+    while !rest.is_empty() {
+        let place = numbers.len();
+        let width = match place {
+            0 => 1,
+            _ if place <= last_of_windows => 2,
+            _ if place == last_of_windows + 1 => 1,
+            _ => 4,
+        };
+        let (number, behind) = rest.split_at_checked(width)?;
+        numbers.push(number.iter().rev().fold(0, |sum, &byte| sum << 8 | u32::from(byte)));
+        rest = behind;
+    }
+    Some(numbers)
+}
+
+/// `list` lines, in words, for some numbers: as many to a line as it may have, or fewer.
+pub fn list_lines(random: &mut Random, numbers: &[u32]) -> Vec<Vec<String>> {
+    let mut lines: Vec<Vec<String>> = Vec::new();
+    let most = 1 + random.below(LINE_NUMBERS);
+    for number in numbers {
+        let word = number.to_string();
+        let full = |line: &Vec<String>| line.len() > most || joined(line).len() + 1 + word.len() > LONGEST;
+        if lines.last().is_none_or(full) {
+            lines.push(vec![String::from("list")]);
+        }
+        lines.last_mut().expect("a line").push(word);
+    }
+    lines
 }
 
 /// Any bytes but the newline.
@@ -142,7 +177,8 @@ pub const DAMAGES: &[Damage] = &[
         name: "unknown word",
         make: |random, mut words| {
             let other = ["begi", "beginn", "open", "vote", "commit", "none", "x", "blanks", "re", "lost", "found7", "end", "ok", "takes"];
-            words[0] = String::from(*random.pick(&other));
+            let more = ["clocks", "cloc", "lists", "lis", "hour", "hourss", "table", "time"];
+            words[0] = String::from(*random.pick(&[&other[..], &more[..]].concat()));
             joined(&words)
         },
     },
@@ -210,14 +246,32 @@ pub const DAMAGES: &[Damage] = &[
             let lines = ["on 256", "off 260", "deliver 256", "keep 300", "drop 512", "read 256 1", "read 4 256", "write 4 263", "ask 260"];
             let more =
                 ["abort 65540", "send 4 256 7", "send 4 0 263", "found 4 4294967303", "set 4 263 1", "set 260 7 1", "reselect 260 8191"];
-            instead(random, &[&lines[..], &more[..], &["begin 260 1 8191"]].concat())
+            instead(random, &[&lines[..], &more[..], &["begin 260 1 8191", "hours 256", "hours 260"]].concat())
         },
     },
     Damage {
         name: "above 16 bits",
-        make: |random, _| instead(random, &["blank 65536", "blank 73727", "begin 4 1 65536", "begin 4 1 73727", "reselect 4 73727"]),
+        make: |random, _| {
+            let lines =
+                ["blank 65536", "blank 73727", "begin 4 1 65536", "begin 4 1 73727", "reselect 4 73727", "clock 0 65536", "clock 7 75615"];
+            instead(random, &lines)
+        },
     },
-    Damage { name: "above 32 bits", make: |random, _| instead(random, &["begin 4 4294967296 8191", "begin 4 4294967300 8191"]) },
+    Damage {
+        name: "above 32 bits",
+        make: |random, _| {
+            let begins = ["begin 4 4294967296 8191", "begin 4 4294967300 8191"];
+            instead(random, &[&begins[..], &["clock 4294967296 0", "list 4294967296", "list 0 0 4294967297", "list 8589934592 0"]].concat())
+        },
+    },
+    Damage {
+        name: "seventeen numbers in a list",
+        make: |random, _| format!("list{}", " 7".repeat(LINE_NUMBERS + 1 + random.below(3) * random.below(20))).into_bytes(),
+    },
+    Damage {
+        name: "a clock without its minute",
+        make: |random, _| instead(random, &["clock", "clock 9", "clock 9 600 1", "clock 9 6 0 0"]),
+    },
     Damage {
         name: "above 64 bits with a sign",
         make: |random, _| {
@@ -230,7 +284,7 @@ pub const DAMAGES: &[Damage] = &[
         name: "negative where none may be",
         make: |random, _| {
             let lines = ["ask -1", "on -4", "blank -1", "begin 4 -1 8191", "begin 4 1 -1", "send 4 -1 7", "deliver -1", "set 4 -7 1"];
-            instead(random, &lines)
+            instead(random, &[&lines[..], &["clock -1 0", "clock 0 -1", "list -1", "list 1 0 10080 -1", "hours -4"]].concat())
         },
     },
     Damage {

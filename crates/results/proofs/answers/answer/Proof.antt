@@ -71,6 +71,9 @@ enum-told-11 c = search needs
 enum-told-12 : tie.Need-enum-told-12
 enum-told-12 c = search needs
 
+enum-told-13 : tie.Need-enum-told-13
+enum-told-13 c = search needs
+
 same-length : tie.Need-same-length
 same-length c = search needs
 
@@ -137,6 +140,10 @@ returns-12 : tie.Need-returns-12
 unfolding answerTexts inks
 returns-12 c = simp (c .enum-told12 .given .1)
 
+returns-13 : tie.Need-returns-13
+unfolding answerTexts inks
+returns-13 c = simp (c .enum-told13 .given .1)
+
 pub answer-spec : {M : Type 1} → statement M
 answer-spec =
     tie.close
@@ -163,6 +170,7 @@ answer-spec =
     enum-told-10
     enum-told-11
     enum-told-12
+    enum-told-13
     same-length
     returns
     same-length-2
@@ -180,4 +188,5 @@ answer-spec =
     returns-9
     returns-10
     returns-11
-    returns-12)
+    returns-12
+    returns-13)

@@ -53,6 +53,9 @@ enum-told-11 c = search needs
 enum-told-12 : tie.Need-enum-told-12
 enum-told-12 c = search needs
 
+enum-told-13 : tie.Need-enum-told-13
+enum-told-13 c = search needs
+
 same-length : tie.Need-same-length
 same-length c = search needs
 
@@ -107,6 +110,10 @@ returns-12 : tie.Need-returns-12
 unfolding namedTexts inks
 returns-12 c = simp (c .enum-told12 .given .1)
 
+returns-13 : tie.Need-returns-13
+unfolding namedTexts inks
+returns-13 c = simp (c .enum-told13 .given .1)
+
 pub named-spec : {M : Type 1} → statement M
 named-spec =
     tie.close
@@ -127,6 +134,7 @@ named-spec =
     enum-told-10
     enum-told-11
     enum-told-12
+    enum-told-13
     same-length
     returns
     same-length-2
@@ -140,4 +148,5 @@ named-spec =
     returns-9
     returns-10
     returns-11
-    returns-12)
+    returns-12
+    returns-13)

@@ -44,6 +44,9 @@ enum-told-11 c = search needs
 enum-told-12 : tie.Need-enum-told-12
 enum-told-12 c = search needs
 
+enum-told-13 : tie.Need-enum-told-13
+enum-told-13 c = search needs
+
 returns-2 : tie.Need-returns-2
 unfolding takenOut
 returns-2 c = simp (c .before .enum-told .given .1, c .if1 .left)
@@ -92,6 +95,10 @@ returns-13 : tie.Need-returns-13
 unfolding takenOut
 returns-13 c = simp (c .enum-told12 .given .1)
 
+returns-14 : tie.Need-returns-14
+unfolding takenOut
+returns-14 c = simp (c .enum-told13 .given .1)
+
 pub taken-out-spec : {M : Type 1} → statement M
 taken-out-spec =
     tie.close
@@ -109,6 +116,7 @@ taken-out-spec =
     enum-told-10
     enum-told-11
     enum-told-12
+    enum-told-13
     returns-2
     returns-3
     returns-4
@@ -120,4 +128,5 @@ taken-out-spec =
     returns-10
     returns-11
     returns-12
-    returns-13)
+    returns-13
+    returns-14)

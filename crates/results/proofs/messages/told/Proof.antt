@@ -56,6 +56,9 @@ enum-told-11 c = search needs
 enum-told-12 : tie.Need-enum-told-12
 enum-told-12 c = search needs
 
+enum-told-13 : tie.Need-enum-told-13
+enum-told-13 c = search needs
+
 same-length : tie.Need-same-length
 same-length c = search needs
 
@@ -125,6 +128,10 @@ returns-13 : tie.Need-returns-13
 unfolding sheetTold
 returns-13 c = simp (c .enum-told12 .given .1)
 
+returns-14 : tie.Need-returns-14
+unfolding sheetTold
+returns-14 c = simp (c .enum-told13 .given .1)
+
 pub told-spec : {M : Type 1} → statement M
 told-spec =
     tie.close
@@ -146,6 +153,7 @@ told-spec =
     enum-told-10
     enum-told-11
     enum-told-12
+    enum-told-13
     same-length
     returns
     same-length-2
@@ -163,4 +171,5 @@ told-spec =
     returns-10
     returns-11
     returns-12
-    returns-13)
+    returns-13
+    returns-14)

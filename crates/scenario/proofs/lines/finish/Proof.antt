@@ -1,7 +1,7 @@
 -- `scenario::lines::finish`: the last line, then the end of the scenario that runs.
 use denote.Ref.{now}
 use Rattle.report.specs.Page.{page}
-use Rattle.buffers.specs.Buffers.{all}
+use Rattle.service.specs.Lent.{lent}
 use Rattle.scenario.proofs.Ended.{last-texts}
 use borrow.Author.Needs.{needs}
 use Rattle.scenario.proofs.lines.finish.Statement.{statement}
@@ -31,6 +31,12 @@ same-length-5 c = search needs
 same-length-6 : tie.Need-same-length-6
 same-length-6 c = search needs
 
+same-length-7 : tie.Need-same-length-7
+same-length-7 c = search needs
+
+same-length-8 : tie.Need-same-length-8
+same-length-8 c = search needs
+
 returns : tie.Need-returns
 returns c =
     let c6 = c .before .before .before .before .before .before in
@@ -38,16 +44,21 @@ returns c =
     let c18 = c12 .before .before .before .before .before .before in
     let c24 = c18 .before .before .before .before .before .before in
     let c30 = c24 .before .before .before .before .before .before in
-    let x = c30 .before .before .before .args in
-    let b = all (now (x .images)) (now (x .records)) (now (x .pool)) (now (x .own)) in
-    let a = c18 .before .before .line in
+    let c36 = c30 .before .before .before .before .before .before in
+    let x = c36 .before .before .before .before .before .args in
+    let b = lent (now (x .images)) (now (x .records)) (now (x .pool)) (now (x .own)) (now (x .settings)) in
+    let a = c24 .line in
     let e = a .ensures in
     let d = c .before .before .ended in (
       e .1 .0,
       (
         e .1 .1 .0,
-        last-texts (x .r) (a .result .reader) b _ (now (x .sheet)) _ (page (now (x .out)) 0) (page (a .last .1 .1 .1 .1 .1 .1 .0) (a .result .written))
-            (page (d .last .1 .1 .1 .0) (d .result)) (e .0) (e .1 .0) (e .1 .1 .0) (e .1 .1 .1) (d .ensures),
+        (
+          e .1 .1 .1 .0,
+          last-texts (x .r) (a .result .reader) (now (x .list)) b _ (now (x .sheet)) _ (page (now (x .out)) 0)
+              (page (a .last .1 .1 .1 .1 .1 .1 .1 .1 .0) (a .result .written)) (page (d .last .1 .1 .1 .0) (d .result))
+              (e .0) (e .1 .0) (e .1 .1 .1 .0) (e .1 .1 .1 .1) (d .ensures),
+        ),
       ),
     )
 
@@ -63,4 +74,6 @@ finish-spec =
     same-length-4
     same-length-5
     same-length-6
+    same-length-7
+    same-length-8
     returns)

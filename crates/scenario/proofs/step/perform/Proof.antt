@@ -2,7 +2,7 @@
 use mathlib.Core.Path.{ap, _∙_}
 use denote.Ref.{now}
 use Rattle.report.specs.Page.{page}
-use Rattle.buffers.specs.Buffers.{Buffers, all}
+use Rattle.service.specs.Lent.{Lent, lent}
 use Rattle.scenario.proofs.Taking.{step-sheet, step-texts}
 use borrow.Author.Needs.{needs}
 use Rattle.scenario.proofs.step.perform.Statement.{statement}
@@ -44,6 +44,9 @@ same-length-5 c = search needs
 same-length-6 : tie.Need-same-length-6
 same-length-6 c = search needs
 
+same-length-7 : tie.Need-same-length-7
+same-length-7 c = search needs
+
 returns : tie.Need-returns
 returns c =
     let c6 = c .before .before .before .before .before .before in
@@ -52,20 +55,22 @@ returns c =
     let c24 = c18 .before .before .before .before .before .before in
     let c30 = c24 .before .before .before .before .before .before in
     let c36 = c30 .before .before .before .before .before .before in
-    let x = c36 .before .before .before .before .args in
-    let b = all (now (x .images)) (now (x .records)) (now (x .pool)) (now (x .own)) in
-    let s = c18 .before .before .step in
+    let c42 = c36 .before .before .before .before .before .before in
+    let x = c42 .before .before .before .args in
+    let b = lent (now (x .images)) (now (x .records)) (now (x .pool)) (now (x .own)) (now (x .settings)) in
+    let s = c18 .before .before .before .before .step in
     let d = c .before .before .before .before .conclude in
-    let f = ap (λ (y : Buffers). y .pool) (s .ensures .1 .0) in
-    let g = c30 .before .before .count .ensures in
-    let n = c24 .before .before .before .named in
+    let f = ap (λ (y : Lent). y .station .pool) (s .ensures .1 .0) in
+    let k = c30 .before .before .before .before .before .count in
+    let g = k .ensures in
+    let w = c30 .before .before .before .owner-of in
+    let n = c30 .named in
     let r = c6 .before .before .before .before .result in (
       s .ensures .1 .0,
       (
         d .ensures .0
-            ∙ step-sheet b (x .o) (s .result) (c30 .before .before .count .result) (c30 .owner-of .result) _ (s .ensures .0) f g (c30 .owner-of .ensures)
-            (now (x .sheet)),
-        step-texts b (x .o) (s .result) (c30 .before .before .count .result) (c30 .owner-of .result) _ (s .ensures .0) f g
+            ∙ step-sheet b (x .o) (now (x .list)) (s .result) (k .result) (w .result) _ (s .ensures .0) f g (w .ensures) (now (x .sheet)),
+        step-texts b (x .o) (now (x .list)) (s .result) (k .result) (w .result) _ (s .ensures .0) f g
             (page (now (x .out)) (x .at)) (page (n .last .0) (n .result)) (page (r .last .0) (r .result)) (page (d .last .1 .1 .0) (d .result))
             (n .ensures) (r .ensures) (d .ensures .1),
       ),
@@ -87,4 +92,5 @@ perform-spec =
     same-length-4
     same-length-5
     same-length-6
+    same-length-7
     returns)

@@ -1,5 +1,8 @@
 -- `script::arity`: each way through the tests computes the definition.
-use Rattle.script.specs.Parse.{arity}
+use native.Mathlib.Omega.{arith}
+use mathlib.Core.Path.{_≡_}
+use Rattle.script.specs.Parse.{hasThree, hasTwo, hasOne, arity}
+use Rattle.script.proofs.Laws.{arity-small}
 use borrow.Author.Needs.{needs}
 use Rattle.script.proofs.naming.arity.Statement.{statement}
 use Rattle.script.proofs.naming.arity.Tie as tie
@@ -40,6 +43,12 @@ either-requires-11 c κs = search needs
 either-requires-12 : tie.Need-either-requires-12
 either-requires-12 c κs = search needs
 
+either-requires-13 : tie.Need-either-requires-13
+either-requires-13 c κs = search needs
+
+either-requires-14 : tie.Need-either-requires-14
+either-requires-14 c κs = search needs
+
 choose-requires : tie.Need-choose-requires
 choose-requires c κs = search needs
 
@@ -50,8 +59,13 @@ choose-requires-3 : tie.Need-choose-requires-3
 choose-requires-3 c κs = search needs
 
 returns : tie.Need-returns
-unfolding arity
-returns c = cc
+unfolding arity hasThree hasTwo hasOne
+returns c =
+    let c6 = c .before .before .before .before .before .before in
+    let c12 = c6 .before .before .before .before .before .before in
+    let w = c12 .before .before .before .before .before .args .w in
+    let e : c .choose3 .result ≡ arity w = cc in
+    (e, omega (arith, e, arity-small w))
 
 pub arity-spec : {M : Type 1} → statement M
 arity-spec =
@@ -69,6 +83,8 @@ arity-spec =
     either-requires-10
     either-requires-11
     either-requires-12
+    either-requires-13
+    either-requires-14
     choose-requires
     choose-requires-2
     choose-requires-3

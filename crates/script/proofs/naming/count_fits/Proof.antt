@@ -10,8 +10,8 @@ arity-requires c κs = search needs
 may-measure-requires : tie.Need-may-measure-requires
 may-measure-requires c κs = search needs
 
-full-requires : tie.Need-full-requires
-full-requires c κs = search needs
+add-both : tie.Need-add-both
+add-both c = search needs
 
 both-requires : tie.Need-both-requires
 both-requires c κs = search needs
@@ -21,6 +21,9 @@ either-requires c κs = search needs
 
 both-requires-2 : tie.Need-both-requires-2
 both-requires-2 c κs = search needs
+
+either-requires-2 : tie.Need-either-requires-2
+either-requires-2 c κs = search needs
 
 returns : tie.Need-returns
 unfolding countFits
@@ -32,8 +35,9 @@ count-fits-spec =
     (tie.spec
     arity-requires
     may-measure-requires
-    full-requires
+    add-both
     both-requires
     either-requires
     both-requires-2
+    either-requires-2
     returns)

@@ -102,39 +102,57 @@ returns-10 c = simp (
   ne-eqb _ _ (c .before .before .before .before .before .before .before .before .before .if1 .left),
 )
 
-either-requires : tie.Need-either-requires
-either-requires c κs = search needs
-
 returns-11 : tie.Need-returns-11
 unfolding kindOf
 returns-11 c = simp (
-  ne-eqb _ _ (c .before .before .if10 .left),
-  ne-eqb _ _ (c .before .before .before .if9 .left),
-  ne-eqb _ _ (c .before .before .before .before .if8 .left),
-  ne-eqb _ _ (c .before .before .before .before .before .if7 .left),
-  ne-eqb _ _ (c .before .before .before .before .before .before .if6 .left),
-  ne-eqb _ _ (c .before .before .before .before .before .before .before .if5 .left),
-  ne-eqb _ _ (c .before .before .before .before .before .before .before .before .if4 .left),
-  ne-eqb _ _ (c .before .before .before .before .before .before .before .before .before .if3 .left),
-  ne-eqb _ _ (c .before .before .before .before .before .before .before .before .before .before .if2 .left),
-  ne-eqb _ _ (c .before .before .before .before .before .before .before .before .before .before .before .if1 .left),
-  sym (c .before .either .ensures) ∙ c .if11 .taken,
+  eq-eqb _ _ (c .if11 .taken),
+  ne-eqb _ _ (c .before .if10 .left),
+  ne-eqb _ _ (c .before .before .if9 .left),
+  ne-eqb _ _ (c .before .before .before .if8 .left),
+  ne-eqb _ _ (c .before .before .before .before .if7 .left),
+  ne-eqb _ _ (c .before .before .before .before .before .if6 .left),
+  ne-eqb _ _ (c .before .before .before .before .before .before .if5 .left),
+  ne-eqb _ _ (c .before .before .before .before .before .before .before .if4 .left),
+  ne-eqb _ _ (c .before .before .before .before .before .before .before .before .if3 .left),
+  ne-eqb _ _ (c .before .before .before .before .before .before .before .before .before .if2 .left),
+  ne-eqb _ _ (c .before .before .before .before .before .before .before .before .before .before .if1 .left),
 )
+
+either-requires : tie.Need-either-requires
+either-requires c κs = search needs
 
 returns-12 : tie.Need-returns-12
 unfolding kindOf
 returns-12 c = simp (
-  ne-eqb _ _ (c .before .before .if10 .left),
-  ne-eqb _ _ (c .before .before .before .if9 .left),
-  ne-eqb _ _ (c .before .before .before .before .if8 .left),
-  ne-eqb _ _ (c .before .before .before .before .before .if7 .left),
-  ne-eqb _ _ (c .before .before .before .before .before .before .if6 .left),
-  ne-eqb _ _ (c .before .before .before .before .before .before .before .if5 .left),
-  ne-eqb _ _ (c .before .before .before .before .before .before .before .before .if4 .left),
-  ne-eqb _ _ (c .before .before .before .before .before .before .before .before .before .if3 .left),
-  ne-eqb _ _ (c .before .before .before .before .before .before .before .before .before .before .if2 .left),
-  ne-eqb _ _ (c .before .before .before .before .before .before .before .before .before .before .before .if1 .left),
-  sym (c .before .either .ensures) ∙ c .if11 .left,
+  ne-eqb _ _ (c .before .before .if11 .left),
+  ne-eqb _ _ (c .before .before .before .if10 .left),
+  ne-eqb _ _ (c .before .before .before .before .if9 .left),
+  ne-eqb _ _ (c .before .before .before .before .before .if8 .left),
+  ne-eqb _ _ (c .before .before .before .before .before .before .if7 .left),
+  ne-eqb _ _ (c .before .before .before .before .before .before .before .if6 .left),
+  ne-eqb _ _ (c .before .before .before .before .before .before .before .before .if5 .left),
+  ne-eqb _ _ (c .before .before .before .before .before .before .before .before .before .if4 .left),
+  ne-eqb _ _ (c .before .before .before .before .before .before .before .before .before .before .if3 .left),
+  ne-eqb _ _ (c .before .before .before .before .before .before .before .before .before .before .before .if2 .left),
+  ne-eqb _ _ (c .before .before .before .before .before .before .before .before .before .before .before .before .if1 .left),
+  sym (c .before .either .ensures) ∙ c .if12 .taken,
+)
+
+returns-13 : tie.Need-returns-13
+unfolding kindOf
+returns-13 c = simp (
+  ne-eqb _ _ (c .before .before .if11 .left),
+  ne-eqb _ _ (c .before .before .before .if10 .left),
+  ne-eqb _ _ (c .before .before .before .before .if9 .left),
+  ne-eqb _ _ (c .before .before .before .before .before .if8 .left),
+  ne-eqb _ _ (c .before .before .before .before .before .before .if7 .left),
+  ne-eqb _ _ (c .before .before .before .before .before .before .before .if6 .left),
+  ne-eqb _ _ (c .before .before .before .before .before .before .before .before .if5 .left),
+  ne-eqb _ _ (c .before .before .before .before .before .before .before .before .before .if4 .left),
+  ne-eqb _ _ (c .before .before .before .before .before .before .before .before .before .before .if3 .left),
+  ne-eqb _ _ (c .before .before .before .before .before .before .before .before .before .before .before .if2 .left),
+  ne-eqb _ _ (c .before .before .before .before .before .before .before .before .before .before .before .before .if1 .left),
+  sym (c .before .either .ensures) ∙ c .if12 .left,
 )
 
 pub kind-of-spec : {M : Type 1} → statement M
@@ -151,6 +169,7 @@ kind-of-spec =
     returns-8
     returns-9
     returns-10
-    either-requires
     returns-11
-    returns-12)
+    either-requires
+    returns-12
+    returns-13)

@@ -16,26 +16,17 @@ element-copy-out-c c = search needs
 kind-of-requires : tie.Need-kind-of-requires
 kind-of-requires c κs = search needs
 
-choose-requires : tie.Need-choose-requires
-choose-requires c κs = search needs
-
-choose-requires-2 : tie.Need-choose-requires-2
-choose-requires-2 c κs = search needs
-
-choose-requires-3 : tie.Need-choose-requires-3
-choose-requires-3 c κs = search needs
-
-low16-requires : tie.Need-low16-requires
-low16-requires c κs = search needs
-
-low32-requires : tie.Need-low32-requires
-low32-requires c κs = search needs
+with-of-requires : tie.Need-with-of-requires
+with-of-requires c κs = search needs
 
 low8-requires : tie.Need-low8-requires
 low8-requires c κs = search needs
 
 low8-requires-2 : tie.Need-low8-requires-2
 low8-requires-2 c κs = search needs
+
+choose-requires : tie.Need-choose-requires
+choose-requires c κs = search needs
 
 low8-requires-3 : tie.Need-low8-requires-3
 low8-requires-3 c κs = search needs
@@ -45,6 +36,18 @@ low8-requires-4 c κs = search needs
 
 either-requires : tie.Need-either-requires
 either-requires c κs = search needs
+
+choose-requires-2 : tie.Need-choose-requires-2
+choose-requires-2 c κs = search needs
+
+low32-requires : tie.Need-low32-requires
+low32-requires c κs = search needs
+
+choose-requires-3 : tie.Need-choose-requires-3
+choose-requires-3 c κs = search needs
+
+low16-requires : tie.Need-low16-requires
+low16-requires c κs = search needs
 
 returns : tie.Need-returns
 unfolding orderOf
@@ -58,14 +61,15 @@ order-of-spec =
     element-copy-out-b
     element-copy-out-c
     kind-of-requires
-    choose-requires
-    choose-requires-2
-    choose-requires-3
-    low16-requires
-    low32-requires
+    with-of-requires
     low8-requires
     low8-requires-2
+    choose-requires
     low8-requires-3
     low8-requires-4
     either-requires
+    choose-requires-2
+    low32-requires
+    choose-requires-3
+    low16-requires
     returns)

@@ -1,6 +1,6 @@
--- `script::parse`: each way through the tests computes the definition.
-use borrow.Author.Needs.{needs}
+-- `script::parse`: the line with its last number complete, field by field.
 use Rattle.script.specs.Parse.{parsed}
+use borrow.Author.Needs.{needs}
 use Rattle.script.proofs.naming.parse.Statement.{statement}
 use Rattle.script.proofs.naming.parse.Tie as tie
 

@@ -14,35 +14,29 @@ returns-2 : tie.Need-returns-2
 unfolding whatOf
 returns-2 c = simp (eq-eqb _ _ (c .if2 .taken), ne-eqb _ _ (c .before .before .if1 .left))
 
-is-step-requires : tie.Need-is-step-requires
-is-step-requires c κs = search needs
+is-good-requires : tie.Need-is-good-requires
+is-good-requires c κs = search needs
+
+line-of-requires : tie.Need-line-of-requires
+line-of-requires c κs = search needs
 
 returns-3 : tie.Need-returns-3
 unfolding whatOf
 returns-3 c = simp (
-  eq-eqb _ _ (c .if4 .taken),
-  ne-eqb _ _ (c .before .before .before .before .if2 .left),
-  ne-eqb _ _ (c .before .before .before .before .before .before .if1 .left),
-  sym (c .before .before .before .is-step .ensures) ∙ c .before .before .if3 .taken,
+  c .line-of .ensures,
+  ne-eqb _ _ (c .before .before .before .if2 .left),
+  ne-eqb _ _ (c .before .before .before .before .before .if1 .left),
+  sym (c .before .before .is-good .ensures) ∙ c .before .if3 .taken,
 )
 
 returns-4 : tie.Need-returns-4
 unfolding whatOf
 returns-4 c = simp (
-  ne-eqb _ _ (c .if4 .left),
-  ne-eqb _ _ (c .before .before .before .before .if2 .left),
-  ne-eqb _ _ (c .before .before .before .before .before .before .if1 .left),
-  sym (c .before .before .before .is-step .ensures) ∙ c .before .before .if3 .taken,
-)
-
-returns-5 : tie.Need-returns-5
-unfolding whatOf
-returns-5 c = simp (
   ne-eqb _ _ (c .before .before .if2 .left),
   ne-eqb _ _ (c .before .before .before .before .if1 .left),
-  sym (c .before .is-step .ensures) ∙ c .if3 .left,
+  sym (c .before .is-good .ensures) ∙ c .if3 .left,
 )
 
 pub what-of-spec : {M : Type 1} → statement M
 what-of-spec =
-    tie.close (tie.spec returns returns-2 is-step-requires returns-3 returns-4 returns-5)
+    tie.close (tie.spec returns returns-2 is-good-requires line-of-requires returns-3 returns-4)

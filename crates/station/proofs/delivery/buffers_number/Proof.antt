@@ -2,7 +2,8 @@
 use mathlib.Core.Path.{_≡_, refl, sym, ap, ap₂, _∙_}
 use mathlib.Core.Bool.{Bool, cond}
 use denote.Ref.{now}
-use Rattle.station.specs.Messages.{lower, lengthsNumber}
+use Rattle.numbers.specs.Refusal.{lower}
+use Rattle.station.specs.Messages.{lengthsNumber}
 use borrow.Author.Needs.{needs}
 use Rattle.station.proofs.delivery.buffers_number.Statement.{statement}
 use Rattle.station.proofs.delivery.buffers_number.Tie as tie

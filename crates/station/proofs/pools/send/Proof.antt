@@ -8,13 +8,14 @@ use lib.ListN.{length, length-replicate}
 use lib.Seq.{length-take-le}
 use borrow.Author.Tests.{not-true, not-false}
 use Rattle.numbers.specs.Sizes.{longestMessage, mostWaiting}
+use Rattle.numbers.specs.Refusal.{lower}
 use Rattle.mask.specs.Mask.{contains}
 use Rattle.pool.specs.Pool.{count}
 use Rattle.steps.specs.Step.{send, step}
 use Rattle.buffers.specs.Buffers.{onOf, recordIn, stationOf, answerWith}
-use Rattle.station.specs.Messages.{lower, sending, sendFirst}
+use Rattle.station.specs.Messages.{sending, sendFirst}
 use Rattle.buffers.proofs.First.{ends-long, told-first}
-use Rattle.station.proofs.Lower.{lower-none}
+use Rattle.numbers.proofs.Laws.{lower-none}
 use Rattle.station.proofs.Sending.{owed-two, owed-due, owed-put, send-first, send-next, pool-first, started-told, started-pool, off-told, off-left}
 use Rattle.station.proofs.Sending.{stop-told, stop-left, full-told, full-left, gone-told, idle-left, sent-both, written-fits}
 use borrow.Author.Needs.{needs}

@@ -1,0 +1,2 @@
+-- Sound settings (Laws).
+pub mod Laws

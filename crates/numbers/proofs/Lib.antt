@@ -1,0 +1,2 @@
+-- Of two numbers the lower that is not 0 (Laws).
+pub mod Laws
