@@ -4,7 +4,6 @@ use mathlib.Core.Path.{refl}
 use mathlib.Core.List.{List, [], _∷_, _++_}
 use Prim.Native.Nat.{ℕ}
 use Rattle.frontend.specs.Settings.{blankSettings}
-use Rattle.steps.specs.Station.{Station}
 use Rattle.steps.specs.Step.{found, delivery}
 use Rattle.steps.specs.Step.{Call as Step, begin as beginStep}
 use Rattle.steps.specs.Run.{Event}

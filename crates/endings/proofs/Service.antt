@@ -16,7 +16,7 @@ use Rattle.closing.specs.Copies.{newest}
 use Rattle.closing.specs.State.{atRest, settled}
 use Rattle.closing.proofs.Answers.{rest-says}
 use Rattle.service.specs.Service.{Call}
-use Rattle.service.specs.Lent.{Lent}
+use Rattle.service_calls.specs.Lent.{Lent}
 use Rattle.accounts.specs.Accounts.{Origin, originOf, trace, origin, reached, told}
 use Rattle.accounts.proofs.Expand.{expand}
 use Rattle.accounts.proofs.Same.{same-told}

@@ -18,7 +18,6 @@ use Rattle.coordinator.specs.declared.Step.{Step}
 use Rattle.coordinator.specs.System.{System}
 use Rattle.coordinator.specs.State.{stepOf}
 use Rattle.coordinator.specs.Calls.{beginRefusals, beginOf}
-use Rattle.record.specs.declared.Called.{Called}
 use Rattle.record.specs.Record.{recordOf, check}
 use Rattle.record.specs.Call.{called, calledOf, kept, recordAfter}
 use Rattle.frontend.specs.Settings.{settingsSize, hoursIn, withHours, settingsNumber, loadNumber, loadAfter}

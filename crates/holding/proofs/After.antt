@@ -1,14 +1,14 @@
 -- Buffers that hold a station hold, after any step, the station after the step; and the caller is told the step's own number and answer.
-use mathlib.Core.Path.{_≡_, refl, sym, ap, ap₂, subst, _∙_}
-use mathlib.Core.Bool.{Bool, true, false, cond, not, _||_, _&&_}
-use mathlib.Core.Logic.{_⊎_, inl, inr, ⊎-elim}
+use mathlib.Core.Path.{_≡_, refl, sym, ap, subst, _∙_}
+use mathlib.Core.Bool.{Bool, true, false, cond, not, _&&_}
+use mathlib.Core.Logic.{inl, inr}
 use mathlib.Core.List.{List, _++_, _∷_, []}
-use Prim.Native.Nat.{ℕ, _*_, _<_, _≤_, _^_}
+use Prim.Native.Nat.{ℕ, _<_, _≤_, _^_}
 use native.Mathlib.Omega.{arith}
 use lib.Dec.{T, eqb, ltb}
 use lib.ListN.{length}
 use lib.Pow.{pow-mono}
-use borrow.Author.Tests.{eq-eqb, ne-eqb, eqb-true, eqb-false, lt-ltb, le-ltb, ltb-true, ltb-false, not-false}
+use borrow.Author.Tests.{eq-eqb, ne-eqb, eqb-true, eqb-false, lt-ltb, le-ltb, ltb-true, not-false}
 use Rattle.image.specs.Layout.{imageSize, shape}
 use Rattle.numbers.specs.Sizes.{nodes, everyNode, longestMessage, mostWaiting}
 use Rattle.mask.specs.Mask.{contains, only, joined, minus}
@@ -24,9 +24,8 @@ use Rattle.wire.specs.Decode.{kindOf, toOf, checkOf}
 use Rattle.wire.proofs.Theorems.{length-bounds}
 use Rattle.replica.specs.Steps.{Answer, silent, says}
 use Rattle.replica.specs.Receive.{Delivered, deliver, spoken}
-use Rattle.replica.proofs.Spoken.{false-true, and-false}
+use Rattle.replica.proofs.Spoken.{and-false}
 use Rattle.replica.proofs.Delivered.{past, Fine}
-use Rattle.coordinator.specs.declared.Coordinator.{Coordinator}
 use Rattle.coordinator.specs.declared.Step.{Step}
 use Rattle.coordinator.specs.System.{tree}
 use Rattle.coordinator.specs.Calls.{noNode, beginOf, openOf, setOf, foundOf, reselectOf, requestCommitOf, abortOf}
@@ -42,20 +41,20 @@ use Rattle.pool.specs.Pool.{check as checkPool}
 use Rattle.pool.specs.Change.{added, removed}
 use Rattle.pool.proofs.Numbers.{passed-number, Room, fine, add-after}
 use Rattle.pool.proofs.Laws.{length-waiting, getD-waiting, waiting-added, check-added, waiting-removed, check-removed}
-use Rattle.steps.specs.Station.{Station, system, putAt, withImage, withRecord, withPool, nowOn, sent, without}
+use Rattle.steps.specs.Station.{Station, system, putAt, withImage, withRecord, nowOn, sent, without}
 use Rattle.steps.specs.Step.{Call, begin, openRead, openWrite, setValue, found, reselect, requestCommit, abort, send, delivery, drop, switch, Outcome}
-use Rattle.steps.specs.Step.{refusedWith, taken, putting, whenOff, hosted, full, sendNumber, sendOf, takenOut, answered, atReplica, atCoordinator, arriving}
+use Rattle.steps.specs.Step.{refusedWith, taken, putting, whenOff, hosted, full, sendNumber, sendOf, takenOut, answered, atCoordinator, arriving}
 use Rattle.steps.specs.Step.{deliveryOf, dropOf, switchOf, step}
 use Rattle.buffers.specs.Buffers.{Buffers, imageAt, imageIn, withImageAt, recordIn, withRecordAt}
-use Rattle.buffers.specs.Buffers.{recordDamaged, onOf, ownOf, ownNumber, ownDamaged, wrong, ownSize}
+use Rattle.buffers.specs.Buffers.{recordDamaged, onOf, ownOf, ownNumber, ownSize}
 use Rattle.buffers.specs.Buffers.{stationOf, answerWith, told, recordsAfter, hostFirst, all, Whole}
-use Rattle.station_calls.specs.Calls.{hostTold, hostRecords, switchTold, switchOwn}
-use Rattle.station.specs.Messages.{putInto, sendFirst, sendTold, poolAfter, sendPool, dropTold, dropPool, blocked, messageIn, reaches, buffersNumber}
-use Rattle.station.specs.Messages.{deliveryFirst, deliveryTold, deliveryImages, deliveryRecords, leaving, deliveryPool, answeredBy}
+use Rattle.station_calls.specs.Calls.{hostTold, switchOwn}
+use Rattle.station.specs.Messages.{putInto, sendFirst, poolAfter, dropPool, messageIn, reaches, buffersNumber}
+use Rattle.station.specs.Messages.{deliveryFirst, deliveryImages, deliveryRecords, leaving, deliveryPool, answeredBy}
 use Rattle.steps.proofs.Nodes.{node-on, off-number}
 use Rattle.station.proofs.Waiting.{there-of, check-leaving}
 use Rattle.station.proofs.Delivering.{none-said, all-said, not-said, Brought, brought, by, at-is, refused-all, blocked-all, has-room, taken-all, said, Leaves}
-use Rattle.station.proofs.Delivering.{stopped-all, heard-all, image-in}
+use Rattle.station.proofs.Delivering.{stopped-all, heard-all}
 use Rattle.station.proofs.Arriving.{Waits, waits-of, receiver-node, Left, no-message, off, at-replica, at-sound}
 use Rattle.holding.specs.Left.{toldOf, hostLeft, leftOf}
 use Rattle.holding.proofs.Kept.{Kept, same-kept, own-is, none-damaged, host-first, buffers-first, image-kept, record-kept, pool-kept, own-kept}

@@ -1,25 +1,22 @@
 -- Buffers that hold a station hold, after one part of them is changed, the station that is changed alike.
-use mathlib.Core.Path.{_≡_, refl, sym, ap, subst, _∙_}
-use mathlib.Core.Bool.{Bool, true, false, cond, not, _||_, _&&_}
+use mathlib.Core.Path.{_≡_, refl, ap, _∙_}
+use mathlib.Core.Bool.{Bool, true, false}
 use mathlib.Core.Logic.{_⊎_, inl, inr}
-use mathlib.Core.List.{List, _++_, _∷_, []}
-use Prim.Native.Nat.{ℕ, _*_, _<_, _≤_}
+use mathlib.Core.List.{List}
+use Prim.Native.Nat.{ℕ, _<_, _≤_}
 use native.Mathlib.Omega.{arith}
-use lib.Dec.{eqb, ltb}
+use lib.Dec.{ltb}
 use lib.ListN.{length}
-use borrow.Author.Tests.{eq-eqb, ne-eqb, eqb-true, eqb-false, lt-ltb, le-ltb, ltb-true, ltb-false}
+use borrow.Author.Tests.{eq-eqb, ne-eqb, lt-ltb, le-ltb, ltb-true, ltb-false}
 use Rattle.record.specs.Layout.{recordSize}
 use Rattle.numbers.specs.Sizes.{nodes, everyNode}
 use Rattle.numbers.specs.Refusal.{lower}
 use Rattle.parts.specs.Parts.{part}
 use Rattle.image.specs.Layout.{shape, imageSize}
-use Rattle.image.specs.Blank.{blankAs}
 use Rattle.image.proofs.Each.{same-or-not}
-use Rattle.replica.proofs.Delivered.{past, or-neither}
-use Rattle.replica.proofs.Spoken.{and-false}
+use Rattle.replica.proofs.Delivered.{past}
 use Rattle.coordinator.specs.declared.Coordinator.{Coordinator}
 use Rattle.coordinator.specs.System.{tree}
-use Rattle.coordinator.specs.State.{blankRecord}
 use Rattle.clauses.proofs.Facts.{Meets}
 use Rattle.clauses.proofs.Fits.{Fits}
 use Rattle.record.specs.Record.{bytesOf, recordOf, check}

@@ -1,6 +1,6 @@
 -- A step that is not lent a buffer does not look at it: what it tells and leaves is the same whatever stands there.
 use mathlib.Core.Path.{_≡_, refl, sym, ap, _∙_}
-use mathlib.Core.Bool.{Bool, true, false, cond, not, _||_}
+use mathlib.Core.Bool.{Bool, true, false, cond, not}
 use mathlib.Core.List.{List}
 use Prim.Native.Nat.{ℕ}
 use lib.Dec.{eqb, ltb}
@@ -17,7 +17,7 @@ use Rattle.steps.specs.Station.{Station}
 use Rattle.steps.specs.Step.{Call, Outcome, refusedWith, taken, putting, hosted, sendNumber, sendOf, dropOf, switchOf, step}
 use Rattle.buffers.specs.Buffers.{onOf, recordIn, stationOf, told, recordsAfter, ends, hostFirst, all}
 use Rattle.station_calls.specs.Calls.{hostTold, hostRecords, switching, switchTold, switchOwn}
-use Rattle.station.specs.Messages.{sending, sendFirst, sendTold, poolAfter, putInto, sendPool, dropping, dropTold, dropPool}
+use Rattle.station.specs.Messages.{sending, sendFirst, sendTold, poolAfter, sendPool, dropping, dropTold, dropPool}
 
 module _ (I R P O : List ℕ) where
   -- ---- a host call

@@ -17,7 +17,7 @@ use Rattle.pool.specs.Change.{removeNumber, removeRefusals}
 use Rattle.steps.specs.Step.{Call}
 use Rattle.buffers.specs.Buffers.{Buffers}
 use Rattle.station_calls.specs.Calls.{hostTold, hostRecords}
-use Rattle.service.specs.Lent.{Lent, beginTold, beginRecords}
+use Rattle.service_calls.specs.Lent.{Lent, beginTold, beginRecords}
 use Rattle.host.specs.Records.{answerWith, bytesWith, begunWith, bytesBegun}
 use Rattle.host.specs.declared.stations.Waiting.{Waiting}
 use Rattle.host.specs.Distances.{distancesOf}

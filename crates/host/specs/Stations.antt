@@ -14,7 +14,7 @@ use Rattle.buffers.specs.declared.Answer.{Answer}
 use Rattle.steps.specs.Step.{Call}
 use Rattle.buffers.specs.Buffers.{Buffers, answerWith}
 use Rattle.station_calls.specs.Calls.{hostTold, hostRecords}
-use Rattle.service.specs.Lent.{Lent, beginTold, beginRecords}
+use Rattle.service_calls.specs.Lent.{Lent, beginTold, beginRecords}
 use Rattle.host.specs.declared.records.Value.{Value}
 use Rattle.host.specs.declared.stations.Waiting.{Waiting}
 use Rattle.host.specs.Distances.{distancesOf}

@@ -7,7 +7,7 @@ ghost use Rattle.buffers.specs.Buffers.{all, ends, answerWith};
 ghost use Rattle.station_calls.specs.Calls.{hostTold, hostRecords, switching, switchTold, switchOwn};
 ghost use Rattle.station.specs.Messages.{sending, sendTold, sendPool, deliveryTold, deliveryImages, deliveryRecords, deliveryPool, dropping, dropTold};
 ghost use Rattle.station.specs.Messages.{dropPool};
-ghost use Rattle.service.specs.Lent.{lent, loadTold, loadSettings, blankNumber, blankAfter};
+ghost use Rattle.service_calls.specs.Lent.{lent, loadTold, loadSettings, blankNumber, blankAfter};
 ghost use Rattle.host.specs.Records.{beginWith};
 ghost use Rattle.host.specs.Stations.{toldWith, recordsWith, beginToldWith, beginRecordsWith, valueOf, yes, waitingIn, waitingAt};
 use crate::DISTANCES;
@@ -40,7 +40,7 @@ pub extern "C" fn senna_station_blank(
     ensures { λ r. ⌜ lent (now (images .exit)) (now (records .exit)) (now (pool .exit)) (now (own .exit)) (now (settings .exit))
         ≡ blankAfter (lent (now (images .entry)) (now (records .entry)) (now (pool .entry)) (now (own .entry)) (now (settings .entry))) on ⌝ }
 {
-    service::blank(images, records, pool, own, settings, on)
+    service_calls::blank(images, records, pool, own, settings, on)
 }
 
 // The distances have another length.
@@ -82,7 +82,7 @@ pub extern "C" fn senna_station_begin(
         distances: d,
         timestamp,
     };
-    service::begin(records, own, settings, node, w, day, minute)
+    service_calls::begin(records, own, settings, node, w, day, minute)
 }
 
 // Loads a table of packing hours for a node, in any phase. Ruled out: another node's hours replaced; a faulty table that takes the old one's place.
@@ -96,7 +96,7 @@ pub extern "C" fn senna_station_load_hours(
     ensures { λ r. ⌜ r ≡ loadTold (lent [] [] [] (now (own .entry)) (now (settings .entry))) node (now (list .entry)) ⌝ }
     ensures { λ r. ⌜ now (settings .exit) ≡ loadSettings (lent [] [] [] (now (own .entry)) (now (settings .entry))) node (now (list .entry)) ⌝ }
 {
-    service::load_hours(own, settings, node, list)
+    service_calls::load_hours(own, settings, node, list)
 }
 
 // Opens an object to read it. Ruled out: an open to write; a byte of another node's record altered.

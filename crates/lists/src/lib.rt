@@ -95,7 +95,8 @@ fn first(list: &[u64]) -> usize
     (list[0] % 256) as usize
 }
 
-// Lays the first numbers of a list as the bytes of a table. Ruled out: every number in four bytes; a number cut to its place; the high byte first.
+// Lays the first numbers of a list as the bytes of a table, at the front of a buffer; what stands behind them is left open. Ruled out: every number in
+// four bytes; a number cut to its place; the high byte first.
 pub fn lay(list: &[u64], listed: usize, out: &mut [u8]) -> Laid
     ensures fits { λ r. ⌜ r .fits ≡ fits (length (now (out .entry))) (take listed (now (list .entry))) ⌝ }
     ensures bytes { λ r. ⌜ take (r .long) (now (out .exit))

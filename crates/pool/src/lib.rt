@@ -1,7 +1,7 @@
 // The pool (document 01): the messages that wait, in lent bytes: a count, then 128 slots of a length and 128 bytes.
 ghost use mathlib.Core.Path.{_≡_};
 ghost use Prim.Native.Nat.{_+_, _≤_, _<_};
-ghost use lib.ListN.{length, replicate};
+ghost use lib.ListN.{length};
 ghost use Rattle.numbers.specs.Sizes.{longestMessage};
 ghost use Rattle.pool.specs.Pool.{messagePlace, count, lengthAt, check, slotPlace, slotSize};
 ghost use Rattle.pool.specs.Change.{stored, addNumber, addAfter, moved, removeNumber, removeAfter, blankNumber, blankAfter};

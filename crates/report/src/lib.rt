@@ -2,7 +2,7 @@
 // behind what it wrote; a text that does not fit is left out.
 ghost use mathlib.Core.Path.{_≡_};
 ghost use Prim.Native.Nat.{_<_};
-ghost use lib.ListN.{length, getD};
+ghost use lib.ListN.{getD};
 ghost use Rattle.report.specs.Page.{page, ink, inks};
 ghost use Rattle.report.specs.Each.{eachFrom};
 ghost use Rattle.report.specs.Texts.{kindWord, numberTexts, valueTexts, modeText, entryTexts, rivalTexts, nthEntryTexts, nthRivalTexts};

@@ -21,7 +21,7 @@ use Rattle.station_calls.specs.Calls.{hostTold, hostRecords}
 use Rattle.holding.specs.Left.{toldOf as stepTold, leftOf as stepLeft}
 use Rattle.holding.proofs.Same.{host-told, host-records, send-same, drop-same, switch-same}
 use Rattle.service.specs.Service.{Call}
-use Rattle.service.specs.Lent.{Lent, lent, beginTold, beginRecords, blankNumber, blankAfter}
+use Rattle.service_calls.specs.Lent.{Lent, lent, beginTold, beginRecords, blankNumber, blankAfter}
 use Rattle.accounts.specs.Accounts.{Origin, blankOrigin}
 use Rattle.host.specs.Distances.{distancesOf}
 use Rattle.host.specs.Records.{beginWith}

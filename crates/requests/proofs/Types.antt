@@ -6,13 +6,13 @@ use native.Mathlib.Omega.{arith}
 use lib.ListN.{getD}
 use mir.Syntax.{w64}
 use mir.ValLaws.{ofZ-fits}
-use Rattle.octets.proofs.Laws.{get-small}
+use Rattle.octets.proofs.Laws.{Bytes, get-small}
 use Rattle.history.specs.Claims.{Distances}
 use Rattle.host.specs.Distances.{pairsOf, distancesOf}
 use Rattle.accounts.specs.Accounts.{Typed}
 use Rattle.requests.specs.Requests.{Request, stationBegin, stationOpenRead, stationOpenWrite, stationSetValue, stationFound, stationReselect}
 use Rattle.requests.specs.Requests.{stationRequestCommit, stationAbort, stationLoadHours, stationSend, stationDeliver, stationDrop, stationSwitch}
-use Rattle.requests.specs.Requests.{Bytes, OfTypes, callOf}
+use Rattle.requests.specs.Requests.{OfTypes, callOf}
 
 pairs-small : (n : ℕ) (l : List ℕ) (i : ℕ) → Bytes l → (j : ℕ) → getD (pairsOf n l i) j 0 < 2 ^ 16
 unfolding pairsOf

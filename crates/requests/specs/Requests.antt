@@ -6,17 +6,18 @@ use mathlib.Core.List.{List, [], _∷_}
 use Prim.Native.Nat.{ℕ, _^_, _<_}
 use lib.Dec.{eqb}
 use lib.IntN.{ℤ}
-use lib.ListN.{length, getD}
+use lib.ListN.{length}
 use mir.Syntax.{w64}
 use mir.Val.{SFits}
 use Rattle.octets.specs.Signed.{bitsOf}
+use Rattle.octets.proofs.Laws.{Bytes}
 use Rattle.steps.specs.Step.{openRead, openWrite, setValue, found, reselect, requestCommit, abort, send, delivery, drop, switch}
 use Rattle.buffers.specs.declared.Answer.{Answer}
 use Rattle.buffers.specs.Buffers.{all, ends}
 use Rattle.station_calls.specs.Calls.{hostTold, hostRecords, switching, switchTold, switchOwn}
 use Rattle.station.specs.Messages.{sending, sendTold, sendPool, deliveryTold, deliveryImages, deliveryRecords, deliveryPool, dropping, dropTold, dropPool}
 use Rattle.service.specs.Service.{Call, begin, loadHours, plain}
-use Rattle.service.specs.Lent.{Lent, lent, loadTold, loadSettings}
+use Rattle.service_calls.specs.Lent.{Lent, lent, loadTold, loadSettings}
 use Rattle.host.specs.Distances.{distancesOf}
 use Rattle.host.specs.Records.{beginWith}
 use Rattle.host.specs.Stations.{toldWith, recordsWith, beginToldWith, beginRecordsWith, yes}
@@ -46,9 +47,6 @@ pub data Request : Type 0 where
   stationSwitch : ℕ → ℕ → Request
 
 -- ---- its arguments are of their C types: bytes, a timestamp of 32 bits, a signed value of 64 bits. All others may be any number.
-abbrev pub Bytes : List ℕ → Type 0
-Bytes l = (i : ℕ) → getD l i 0 < 256
-
 abbrev pub OfTypes : Request → Type 0
 OfTypes (stationBegin n live d timestamp day minute) = (timestamp < 2 ^ 32) × Bytes d
 OfTypes (stationOpenRead n t) = Unit {0}

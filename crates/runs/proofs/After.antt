@@ -24,8 +24,8 @@ use Rattle.holding.proofs.Kept.{host-first}
 use Rattle.frontend.specs.Settings.{settingsSize, settingsNumber, loaded}
 use Rattle.service.specs.Service.{Service, Call, begin, loadHours, plain, isBegin, Outcome, refusedWith, taken, withSettings, by, begunNumber, begunOf}
 use Rattle.service.specs.Service.{loadNumber, loadOf, step}
-use Rattle.service.specs.Lent.{Lent, serviceOf, settingsAt, withSettingsAt, settingsIn, settingsFirst, Whole, told, beginFirst}
-use Rattle.service.specs.Lent.{beginRecords, loadFirst, loadTold, loadSettings}
+use Rattle.service_calls.specs.Lent.{Lent, serviceOf, settingsAt, withSettingsAt, settingsIn, settingsFirst, Whole, told, beginFirst}
+use Rattle.service_calls.specs.Lent.{beginRecords, loadFirst, loadTold, loadSettings}
 use Rattle.accounts.specs.Accounts.{Typed}
 use Rattle.runs.specs.Left.{toldOf, leftOf}
 use Rattle.runs.proofs.Settings.{loaded-long, loaded-fine, at-long, settings-first, put-long, put-at, put-in}

@@ -15,7 +15,7 @@ use Rattle.history.specs.Claims.{Typed as StepTyped}
 use Rattle.holding.specs.Held.{Holds as StationHolds}
 use Rattle.holding.proofs.Demand.{claimed as station-claimed, begun as station-begun}
 use Rattle.service.specs.Service.{Service, Call, step}
-use Rattle.service.specs.Lent.{Lent, allSettings, blankNumber, blankAfter}
+use Rattle.service_calls.specs.Lent.{Lent, allSettings, blankNumber, blankAfter}
 use Rattle.accounts.specs.Accounts.{Origin, Typed, AllTyped, blankOrigin, originOf, reached, told}
 use Rattle.accounts.proofs.Expand.{expand, expand-typed}
 use Rattle.accounts.proofs.Same.{same-machine}

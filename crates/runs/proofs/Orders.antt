@@ -14,8 +14,8 @@ use Rattle.station.specs.Messages.{sending, sendTold, sendPool, dropping, dropT
 use Rattle.holding.specs.Left.{toldOf as stepTold, leftOf as stepLeft, hostLeft as stepHostLeft}
 use Rattle.holding.proofs.Same.{host-told, host-records, send-same, drop-same, switch-same}
 use Rattle.history.specs.Claims.{Distances}
-use Rattle.service.specs.Service.{Call, begin, loadHours, plain, isBegin}
-use Rattle.service.specs.Lent.{Lent, lent, beginTold, beginRecords, loadTold, loadSettings}
+use Rattle.service.specs.Service.{plain, isBegin}
+use Rattle.service_calls.specs.Lent.{Lent, lent, beginTold, beginRecords, loadTold, loadSettings}
 use Rattle.accounts.specs.Accounts.{Typed}
 use Rattle.orders.specs.declared.Kind.{Kind}
 use Rattle.orders.specs.declared.Kind.the-variants.{Begin, OpenRead, OpenWrite, SetValue, Found, Reselect, RequestCommit, Abort, LoadHours}

@@ -1,22 +1,19 @@
 -- A begin and a load are not lent every buffer, and do not look at the others: what they tell and leave is the same whatever stands there.
-use mathlib.Core.Path.{_≡_, refl, sym, ap, ap₂, _∙_}
-use mathlib.Core.Bool.{Bool, true, false, cond}
+use mathlib.Core.Path.{_≡_, refl, sym, ap, _∙_}
+use mathlib.Core.Bool.{Bool, true, false}
 use mathlib.Core.List.{List, []}
 use Prim.Native.Nat.{ℕ}
 use lib.Dec.{eqb}
-use borrow.Author.Tests.{eqb-true, eqb-false}
 use Rattle.mask.specs.Mask.{contains}
 use Rattle.coordinator.specs.declared.BeginWith.{BeginWith}
 use Rattle.coordinator.specs.declared.Step.{Step}
 use Rattle.coordinator.specs.System.{tree}
 use Rattle.coordinator.specs.Calls.{beginOf}
-use Rattle.steps.specs.Station.{Station, putAt}
-use Rattle.steps.specs.Step.{Outcome as Taken, begin as beginStep, step as stepOf, hosted}
-use Rattle.buffers.specs.declared.Answer.{Answer}
-use Rattle.buffers.specs.Buffers.{onOf, recordIn, stationOf, all, hostFirst, answerWith}
+use Rattle.steps.specs.Step.{Outcome as Taken, step as stepOf, hosted}
+use Rattle.buffers.specs.Buffers.{onOf, recordIn, stationOf, all, hostFirst}
 use Rattle.frontend.specs.Calls.{beginNumber}
-use Rattle.service.specs.Service.{Service, Outcome, begin, loadHours, refusedWith, by, begunNumber, begunOf, loadNumber, loadOf, step}
-use Rattle.service.specs.Lent.{Lent, lent, serviceOf, settingsIn, told, beginFirst, beginTold, beginRecords, loadFirst, loadTold, loadSettings}
+use Rattle.service.specs.Service.{Outcome, begin, refusedWith, by, begunNumber, begunOf, loadNumber, loadOf, step}
+use Rattle.service_calls.specs.Lent.{Lent, lent, serviceOf, settingsIn, told, beginFirst, beginTold, beginRecords, loadFirst, loadTold, loadSettings}
 
 module _ (I R P O S : List ℕ) where
   abbrev a : Lent

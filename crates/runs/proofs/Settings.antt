@@ -19,7 +19,7 @@ use Rattle.hours.proofs.Theorems.{length-stored, loaded-sound, blank-sound}
 use Rattle.steps.specs.Station.{putAt}
 use Rattle.station_calls.proofs.Parted.{part-length, part-same, part-kept}
 use Rattle.frontend.specs.Settings.{settingsSize, hoursIn, blankSettings, settingsNumber, loaded}
-use Rattle.service.specs.Lent.{allSettings, settingsAt, withSettingsAt, settingsIn, settingsFirst}
+use Rattle.service_calls.specs.Lent.{allSettings, settingsAt, withSettingsAt, settingsIn, settingsFirst}
 
 -- settings of their length whose hours are sound
 sound-settings : (s : List ℕ) → length s ≡ settingsSize → keptNumber (hoursIn s) ≡ 0 → settingsNumber s ≡ 0

@@ -3,7 +3,7 @@ use mathlib.Core.Path.{_≡_}
 use mathlib.Core.List.{List, _∷_}
 use Rattle.buffers.specs.declared.Answer.{Answer}
 use Rattle.service.specs.Service.{Call, step}
-use Rattle.service.specs.Lent.{Lent, serviceOf, Whole}
+use Rattle.service_calls.specs.Lent.{Lent, serviceOf, Whole}
 use Rattle.history.specs.Claims.{Demand3, DeliveryNumbers}
 use Rattle.accounts.specs.Accounts.{Origin, Rested, AllTyped, reached, account}
 

@@ -7,7 +7,7 @@ use Rattle.buffers.specs.declared.Answer.{Answer}
 use Rattle.buffers.specs.Buffers.{all, answerWith}
 use Rattle.holding.specs.Left.{toldOf as stepTold, leftOf as stepLeft}
 use Rattle.service.specs.Service.{Call, begin, loadHours, plain}
-use Rattle.service.specs.Lent.{Lent, beginTold, beginRecords, loadTold, loadSettings}
+use Rattle.service_calls.specs.Lent.{Lent, beginTold, beginRecords, loadTold, loadSettings}
 use Rattle.orders.specs.declared.Order.{Order}
 use Rattle.runs.specs.Order.{isHost, callOf}
 

@@ -3,7 +3,7 @@
 ghost use mathlib.Core.Path.{_≡_};
 ghost use mathlib.Core.List.{List, []};
 ghost use Prim.Native.Nat.{ℕ};
-ghost use Rattle.service.specs.Lent.{lent, blankNumber, blankAfter};
+ghost use Rattle.service_calls.specs.Lent.{lent, blankNumber, blankAfter};
 ghost use Rattle.accounts.specs.Accounts.{blankOrigin};
 ghost use Rattle.runs.specs.Order.{isHost, callOf};
 ghost use Rattle.runs.specs.Left.{toldOf, leftOf, hostTold, hostLeft, otherTold, otherLeft};
@@ -29,7 +29,7 @@ pub fn start(
     ensures { λ r. ⌜ (r ≡ 0 → Holds (blankOrigin on) []
         (lent (now (images .exit)) (now (records .exit)) (now (pool .exit)) (now (own .exit)) (now (settings .exit)))) ⌝ }
 {
-    service::blank(images, records, pool, own, settings, on)
+    service_calls::blank(images, records, pool, own, settings, on)
 }
 
 // Whether a kind is a host's call at a node.
@@ -62,7 +62,7 @@ pub fn host_step(
     let kind = o.kind;
     let with = o.with;
     match kind {
-        Kind::Begin => service::begin(records, own, settings, o.node, with, o.day, o.minute),
+        Kind::Begin => service_calls::begin(records, own, settings, o.node, with, o.day, o.minute),
         Kind::OpenRead => station_calls::open_read(records, own, o.node, o.object),
         Kind::OpenWrite => station_calls::open_write(records, own, o.node, o.object),
         Kind::SetValue => station_calls::set_value(records, own, o.node, o.object, o.value),
@@ -73,7 +73,7 @@ pub fn host_step(
         }
         Kind::RequestCommit => station_calls::request_commit(records, own, o.node),
         Kind::Abort => station_calls::abort(records, own, o.node),
-        Kind::LoadHours => service::load_hours(own, settings, o.node, list),
+        Kind::LoadHours => service_calls::load_hours(own, settings, o.node, list),
         Kind::Send => refused(numbers::OUT_OF_TURN),
         Kind::Deliver => refused(numbers::OUT_OF_TURN),
         Kind::Drop => refused(numbers::OUT_OF_TURN),

@@ -5,7 +5,7 @@ use mathlib.Core.List.{List}
 use Prim.Native.Nat.{ℕ}
 use borrow.Author.Tests.{ne-eqb}
 use Rattle.report.specs.Page.{Page, inks, behind}
-use Rattle.service.specs.Lent.{Lent}
+use Rattle.service_calls.specs.Lent.{Lent}
 use Rattle.script.specs.declared.Parsed.{Parsed}
 use Rattle.scenario.specs.declared.Reader.{Reader}
 use Rattle.scenario.specs.Lines.{Ways, pick, endedTexts, lineReader, lineBuffers, lineSheet, lineTexts, lastTexts}

@@ -13,7 +13,7 @@ use Rattle.replay.specs.Sheet.{blankAfter as sheetBlank}
 use Rattle.buffers.specs.Buffers.{all}
 use Rattle.station_calls.specs.Calls.{blankNumber as stationNumber}
 use Rattle.service.specs.Service.{Call}
-use Rattle.service.specs.Lent.{Lent, Whole, blankNumber, blankAfter}
+use Rattle.service_calls.specs.Lent.{Lent, Whole, blankNumber, blankAfter}
 use Rattle.numbers.specs.Refusal.{lower}
 use Rattle.history.specs.Running.{sheet, sheetKeeper, keptFrom}
 use Rattle.history.specs.Origin.{ledgerOf}

@@ -27,7 +27,7 @@ use Rattle.steps.specs.Step.{refusedWith, taken, whenOff, hosted, deliveryOf, d
 use Rattle.coordinator.specs.declared.BeginWith.{BeginWith}
 use Rattle.service.specs.Service.{Service, Call, begin, loadHours, plain, isBegin, step, begunNumber, begunOf, loadNumber, loadOf, withSettings, by}
 use Rattle.service.specs.Service.{refusedWith as refusedBy, taken as takenBy}
-use Rattle.service.specs.Lent.{Lent}
+use Rattle.service_calls.specs.Lent.{Lent}
 use Rattle.frontend.specs.Settings.{loaded}
 use Rattle.history.specs.Ledger.{Ledger, poolPut, note, noted, ledgerFrom}
 use Rattle.history.specs.Origin.{ledgerOf}

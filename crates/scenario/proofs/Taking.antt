@@ -4,7 +4,7 @@ use mathlib.Core.List.{List}
 use Prim.Native.Nat.{ℕ}
 use Rattle.pool.specs.Pool.{count}
 use Rattle.buffers.specs.declared.Answer.{Answer}
-use Rattle.service.specs.Lent.{Lent}
+use Rattle.service_calls.specs.Lent.{Lent}
 use Rattle.orders.specs.declared.Order.{Order}
 use Rattle.runs.specs.Order.{callOf}
 use Rattle.runs.specs.Left.{toldOf, leftOf}

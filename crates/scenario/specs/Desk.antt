@@ -1,13 +1,13 @@
 -- A whole input, byte by byte: the reader, the buffers, the list and replay's sheet after it; and, from the input alone, the scenario that runs at its end.
 use Prim.Native.Nat.{ℕ}
-use mathlib.Core.Bool.{Bool, cond}
+use mathlib.Core.Bool.{cond}
 use mathlib.Core.List.{List, [], _∷_}
 use mathlib.Core.Path.{_≡_}
 use lib.Dec.{eqb, ltb}
 use lib.ListN.{length}
 use Rattle.numbers.specs.Sizes.{everyNode}
 use Rattle.service.specs.Service.{Call}
-use Rattle.service.specs.Lent.{Lent}
+use Rattle.service_calls.specs.Lent.{Lent}
 use Rattle.replay.specs.Layout.{size as sheetSize}
 use Rattle.replay.specs.Sheet.{blankAfter as sheetBlank}
 use Rattle.history.specs.Origin.{ledgerOf}

@@ -8,7 +8,7 @@ use Rattle.numbers.specs.Sizes.{everyNode}
 use Rattle.numbers.specs.Numbers.{stranger}
 use Rattle.replay.specs.Sheet.{blankAfter as sheetBlank}
 use Rattle.lists.specs.Lists.{hasRoom, appended, fits, laid}
-use Rattle.service.specs.Lent.{Lent, blankNumber, blankAfter}
+use Rattle.service_calls.specs.Lent.{Lent, blankNumber, blankAfter}
 use Rattle.orders.specs.declared.Order.{Order}
 use Rattle.runs.specs.Order.{callOf}
 use Rattle.runs.specs.Left.{leftOf}

@@ -3,7 +3,7 @@ use Prim.Native.Nat.{ℕ}
 use mathlib.Core.List.{List, _++_}
 use mathlib.Core.Option.{Option}
 use Rattle.pool.specs.Pool.{count}
-use Rattle.service.specs.Lent.{Lent}
+use Rattle.service_calls.specs.Lent.{Lent}
 use Rattle.orders.specs.declared.Order.{Order}
 use Rattle.runs.specs.Order.{callOf}
 use Rattle.runs.specs.Left.{toldOf, leftOf}

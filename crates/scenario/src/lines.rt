@@ -3,7 +3,7 @@ ghost use mathlib.Core.Path.{_≡_};
 ghost use mathlib.Core.Bool.{true};
 ghost use mathlib.Core.List.{_++_};
 ghost use Rattle.report.specs.Page.{page, inks};
-ghost use Rattle.service.specs.Lent.{lent};
+ghost use Rattle.service_calls.specs.Lent.{lent};
 ghost use Rattle.runs.specs.Order.{callOf};
 ghost use Rattle.runs.specs.Left.{leftOf};
 ghost use Rattle.scenario.specs.Reading.{next};

@@ -1,7 +1,7 @@
 // A step taken at the station: the message that it names, what it answered and the message that it put are printed, and replay is told of it.
 ghost use mathlib.Core.Path.{_≡_};
 ghost use Rattle.report.specs.Page.{page, inks};
-ghost use Rattle.service.specs.Lent.{lent};
+ghost use Rattle.service_calls.specs.Lent.{lent};
 ghost use Rattle.runs.specs.Order.{callOf};
 ghost use Rattle.runs.specs.Left.{leftOf};
 ghost use Rattle.scenario.specs.Steps.{stepTexts, stepSheet};

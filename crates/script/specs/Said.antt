@@ -1,8 +1,7 @@
 -- What the bytes of a line say: a word of small letters and then numbers in base ten, with spaces between. A `#` ends what is said: the rest is
 -- a comment. A number may begin with `-`.
 use Prim.Native.Nat.{ℕ, _+_, _*_, _-_}
-use mathlib.Core.Bool.{Bool, cond}
-use mathlib.Core.List.{List, [], _∷_}
+use mathlib.Core.Bool.{cond}
 use lib.Dec.{ltb, eqb}
 use lib.ListN.{set, replicate}
 use Rattle.script.specs.declared.Said.{Said}

@@ -1,3 +1,2 @@
--- The station with thirteen front ends: its steps (Service), and the same over lent buffers (Lent).
+-- The station with thirteen front ends, and its steps (Service).
 pub mod Service
-pub mod Lent

@@ -127,7 +127,7 @@ fn main() {
     let mut records = [0u8; buffers::RECORDS];
     let mut pool = [0u8; pool::SIZE];
     let mut own = [0u8; buffers::OWN];
-    let mut settings = [0u8; service::SETTINGS];
+    let mut settings = [0u8; service_calls::SETTINGS];
     let mut list = [0u64; lists::MOST];
     let mut sheet = [0u64; replay::SIZE];
     let mut out = [0u8; 16384];

@@ -2,7 +2,7 @@
 use mathlib.Core.Path.{sym, subst, _∙_}
 use mathlib.Core.List.{[]}
 use denote.Ref.{now}
-use Rattle.service.specs.Lent.{lent}
+use Rattle.service_calls.specs.Lent.{lent}
 use Rattle.accounts.specs.Accounts.{blankOrigin}
 use Rattle.runs.specs.Held.{Holds}
 use Rattle.runs.proofs.Demand.{begun}

@@ -5,7 +5,7 @@ use Prim.Native.Nat.{ℕ}
 use denote.Ref.{now}
 use borrow.Author.Tests.{ne-eqb}
 use Rattle.coordinator.specs.declared.BeginWith.{BeginWith}
-use Rattle.service.specs.Lent.{lent}
+use Rattle.service_calls.specs.Lent.{lent}
 use Rattle.host.proofs.Told.{taken-begin-told, taken-begin-records}
 use Rattle.host.specs.Stations.{beginToldWith, beginRecordsWith}
 use borrow.Author.Needs.{needs}

@@ -1,7 +1,7 @@
 -- `scenario::lines::finish`: the last line, then the end of the scenario that runs.
 use denote.Ref.{now}
 use Rattle.report.specs.Page.{page}
-use Rattle.service.specs.Lent.{lent}
+use Rattle.service_calls.specs.Lent.{lent}
 use Rattle.scenario.proofs.Ended.{last-texts}
 use borrow.Author.Needs.{needs}
 use Rattle.scenario.proofs.lines.finish.Statement.{statement}

@@ -8,7 +8,7 @@ use borrow.Author.Tests.{not-true, not-false}
 use lib.ListN.{take}
 use lib.Seq.{length-take-le}
 use Rattle.report.specs.Page.{page, inks}
-use Rattle.service.specs.Lent.{lent}
+use Rattle.service_calls.specs.Lent.{lent}
 use Rattle.runs.specs.Order.{callOf}
 use Rattle.runs.specs.Left.{leftOf}
 use Rattle.scenario.specs.declared.Reader.{Reader}

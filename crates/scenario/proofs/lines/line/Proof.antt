@@ -3,7 +3,7 @@ use mathlib.Core.Path.{ap, _∙_}
 use mathlib.Core.List.{[], _++_}
 use denote.Ref.{now}
 use Rattle.report.specs.Page.{page, inks}
-use Rattle.service.specs.Lent.{lent}
+use Rattle.service_calls.specs.Lent.{lent}
 use Rattle.orders.specs.declared.Order.{Order}
 use Rattle.runs.specs.Order.{callOf}
 use Rattle.runs.specs.Left.{leftOf}

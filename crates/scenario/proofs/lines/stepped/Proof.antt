@@ -1,7 +1,7 @@
 -- `scenario::lines::stepped`: the line, then the step.
 use denote.Ref.{now}
 use Rattle.report.specs.Page.{page, behind}
-use Rattle.service.specs.Lent.{lent}
+use Rattle.service_calls.specs.Lent.{lent}
 use Rattle.scenario.specs.Steps.{stepTexts}
 use Rattle.scenario.specs.Lines.{echoTexts}
 use borrow.Author.Needs.{needs}

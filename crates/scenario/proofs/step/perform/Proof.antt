@@ -2,7 +2,7 @@
 use mathlib.Core.Path.{ap, _∙_}
 use denote.Ref.{now}
 use Rattle.report.specs.Page.{page}
-use Rattle.service.specs.Lent.{Lent, lent}
+use Rattle.service_calls.specs.Lent.{Lent, lent}
 use Rattle.scenario.proofs.Taking.{step-sheet, step-texts}
 use borrow.Author.Needs.{needs}
 use Rattle.scenario.proofs.step.perform.Statement.{statement}

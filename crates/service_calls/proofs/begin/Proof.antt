@@ -1,10 +1,10 @@
--- `service::begin`: the station's own begin where it is open, else its number.
+-- `service_calls::begin`: the station's own begin where it is open, else its number.
 use mathlib.Core.Path.{sym, _∙_}
 use denote.Ref.{now}
-use Rattle.service.proofs.Beginning.{open-told, shut-told, refused-told}
+use Rattle.service_calls.proofs.Beginning.{open-told, shut-told, refused-told}
 use borrow.Author.Needs.{needs}
-use Rattle.service.proofs.begin.Statement.{statement}
-use Rattle.service.proofs.begin.Tie as tie
+use Rattle.service_calls.proofs.begin.Statement.{statement}
+use Rattle.service_calls.proofs.begin.Tie as tie
 
 is-open-requires : tie.Need-is-open-requires
 is-open-requires c κs = search needs

@@ -1,4 +1,4 @@
--- `service::settings_number`: the length, then the node's own part.
+-- `service_calls::settings_number`: the length, then the node's own part.
 use mathlib.Core.Path.{ap, _∙_}
 use mathlib.Core.Bool.{cond, not}
 use Prim.Native.Nat.{ℕ}
@@ -9,11 +9,11 @@ use denote.Ref.{now}
 use borrow.Author.Tests.{eq-eqb, ne-eqb, lt-ltb, le-ltb}
 use Rattle.numbers.specs.Sizes.{nodes}
 use Rattle.frontend.specs.Settings.{settingsNumber}
-use Rattle.service.specs.Lent.{allSettings, settingsFirst}
-use Rattle.service.proofs.Beginning.{lent-part}
+use Rattle.service_calls.specs.Lent.{allSettings, settingsFirst}
+use Rattle.service_calls.proofs.Beginning.{lent-part}
 use borrow.Author.Needs.{needs}
-use Rattle.service.proofs.settings_number.Statement.{statement}
-use Rattle.service.proofs.settings_number.Tie as tie
+use Rattle.service_calls.proofs.settings_number.Statement.{statement}
+use Rattle.service_calls.proofs.settings_number.Tie as tie
 
 returns : tie.Need-returns
 unfolding settingsFirst

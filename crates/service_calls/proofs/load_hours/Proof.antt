@@ -1,15 +1,15 @@
--- `service::load_hours`: refused by the buffers, by the node or by who is on; or the node's part lent to its front end.
+-- `service_calls::load_hours`: refused by the buffers, by the node or by who is on; or the node's part lent to its front end.
 use mathlib.Core.Path.{sym, ap, _∙_}
 use Prim.Native.Nat.{ℕ}
 use native.Mathlib.Omega.{arith}
 use denote.Ref.{now}
 use Rattle.mask.specs.Mask.{contains}
 use Rattle.frontend.specs.Settings.{loadAfter}
-use Rattle.service.proofs.Beginning.{lent-back}
-use Rattle.service.proofs.Loading.{first-is, first-told, settings-long, stranger-told, off-told, taken-told}
+use Rattle.service_calls.proofs.Beginning.{lent-back}
+use Rattle.service_calls.proofs.Loading.{first-is, first-told, settings-long, stranger-told, off-told, taken-told}
 use borrow.Author.Needs.{needs}
-use Rattle.service.proofs.load_hours.Statement.{statement}
-use Rattle.service.proofs.load_hours.Tie as tie
+use Rattle.service_calls.proofs.load_hours.Statement.{statement}
+use Rattle.service_calls.proofs.load_hours.Tie as tie
 
 own-number-requires : tie.Need-own-number-requires
 own-number-requires c κs = search needs

@@ -1,13 +1,12 @@
--- `service::blank`: the length of the settings, the station's own maker, then zeros.
+-- `service_calls::blank`: the length of the settings, the station's own maker, then zeros.
 use mathlib.Core.Path.{_≡_, sym, _∙_}
-use Prim.Native.Nat.{ℕ}
 use denote.Ref.{now}
 use Rattle.station_calls.specs.Calls.{blankNumber as stationNumber}
-use Rattle.service.specs.Lent.{lent}
-use Rattle.service.proofs.Blanking.{short-blank, same-number, refused-blank, made-blank}
+use Rattle.service_calls.specs.Lent.{lent}
+use Rattle.service_calls.proofs.Blanking.{short-blank, same-number, refused-blank, made-blank}
 use borrow.Author.Needs.{needs}
-use Rattle.service.proofs.blank.Statement.{statement}
-use Rattle.service.proofs.blank.Tie as tie
+use Rattle.service_calls.proofs.blank.Statement.{statement}
+use Rattle.service_calls.proofs.blank.Tie as tie
 
 returns : tie.Need-returns
 returns c =

@@ -21,15 +21,13 @@ use Rattle.coordinator.specs.declared.BeginWith.{BeginWith}
 use Rattle.coordinator.specs.declared.Coordinator.{Coordinator}
 use Rattle.coordinator.specs.declared.Step.{Step}
 use Rattle.coordinator.specs.System.{tree}
-use Rattle.coordinator.specs.State.{stepOf}
-use Rattle.coordinator.specs.Calls.{noNode, beginRefusals, beginOf}
+use Rattle.coordinator.specs.Calls.{beginRefusals, beginOf}
 use Rattle.record.specs.Layout.{recordSize}
 use Rattle.record.specs.Record.{recordOf, check}
 use Rattle.record_calls.proofs.Number.{step-number}
 use Rattle.steps.specs.Station.{Station}
-use Rattle.steps.specs.Step.{Outcome as Taken, begin as beginStep, step as take-step, hosted, whenOff, taken, refusedWith as stopped}
+use Rattle.steps.specs.Step.{Outcome as Taken, begin as beginStep, step as take-step, hosted, whenOff}
 use Rattle.steps.proofs.Nodes.{off-number}
-use Rattle.buffers.specs.declared.Answer.{Answer}
 use Rattle.buffers.specs.Buffers.{stationOf, ends, recordAt, recordIn, recordDamaged, recordsSize, ownSize, onOf, ownDamaged, wrong}
 use Rattle.buffers.specs.Buffers.{hostFirst, endsFirst, answerWith}
 use Rattle.buffers.specs.Buffers.{told as stationTold, recordsAfter}
@@ -39,10 +37,10 @@ use Rattle.station_calls.specs.Calls.{hostTold, hostRecords}
 use Rattle.frontend.specs.Settings.{settingsSize, hoursIn, blankSettings, settingsNumber}
 use Rattle.frontend.specs.Calls.{beginNumber, opens, lentNumber}
 use Rattle.frontend.specs.Calls.{begunNumber as numberOn}
-use Rattle.frontend.proofs.Laws.{Opens, opened, open-number, shut-number}
-use Rattle.service.specs.Service.{Service, begin, Outcome, refusedWith, by, begunNumber, begunOf, step}
-use Rattle.service.specs.Lent.{Lent, lent, serviceOf, allSettings, settingsAt, withSettingsAt, settingsIn, settingsFirst, opensAt, told}
-use Rattle.service.specs.Lent.{beginFirst, beginTold, beginRecords}
+use Rattle.frontend.proofs.Laws.{opened, open-number, shut-number}
+use Rattle.service.specs.Service.{begin, Outcome, refusedWith, by, begunNumber, begunOf, step}
+use Rattle.service_calls.specs.Lent.{Lent, lent, serviceOf, allSettings, settingsAt, withSettingsAt, settingsIn, settingsFirst, opensAt, told}
+use Rattle.service_calls.specs.Lent.{beginFirst, beginTold, beginRecords}
 
 -- ---- the part of a node, lent on
 pub lent-part : (S : List ℕ) (w n : ℕ) → w ≡ n → take (settingsSize * w + settingsSize - settingsSize * w) (drop (settingsSize * w) S) ≡ settingsAt S n

@@ -1,4 +1,4 @@
--- `service::begin_number`: the buffers' own number, what is no node, and a node by the number on the bytes of its record and settings.
+-- `service_calls::begin_number`: the buffers' own number, what is no node, and a node by the number on the bytes of its record and settings.
 use mathlib.Core.Path.{refl, sym, ap, ap₂, _∙_}
 use mathlib.Core.Bool.{true, false}
 use Prim.Native.Nat.{ℕ, _<_}
@@ -9,10 +9,10 @@ use Rattle.numbers.specs.Refusal.{lower}
 use Rattle.numbers.proofs.Laws.{lower-none}
 use Rattle.mask.specs.Mask.{contains}
 use Rattle.buffers.proofs.First.{ends-long}
-use Rattle.service.proofs.Beginning.{first-number, stranger-number, settings-long, at-node}
+use Rattle.service_calls.proofs.Beginning.{first-number, stranger-number, settings-long, at-node}
 use borrow.Author.Needs.{needs}
-use Rattle.service.proofs.begin_number.Statement.{statement}
-use Rattle.service.proofs.begin_number.Tie as tie
+use Rattle.service_calls.proofs.begin_number.Statement.{statement}
+use Rattle.service_calls.proofs.begin_number.Tie as tie
 
 refuse-requires : tie.Need-refuse-requires
 refuse-requires c κs = search needs

@@ -1,10 +1,10 @@
 -- A load over the buffers: by what refuses it, and by the table in place of the one before.
-use mathlib.Core.Path.{_≡_, refl, sym, ap, ap₂, subst, _∙_}
-use mathlib.Core.Bool.{Bool, true, false, cond, not, _&&_}
+use mathlib.Core.Path.{_≡_, refl, sym, ap, ap₂, _∙_}
+use mathlib.Core.Bool.{Bool, true, false}
 use mathlib.Core.List.{List, []}
 use Prim.Native.Nat.{ℕ, _≤_, _<_}
 use native.Mathlib.Omega.{arith}
-use lib.Dec.{eqb, ltb}
+use lib.Dec.{eqb}
 use lib.ListN.{length}
 use borrow.Author.Tests.{eq-eqb, ne-eqb, eqb-true, lt-ltb, le-ltb}
 use Rattle.numbers.specs.Sizes.{nodes}
@@ -12,13 +12,13 @@ use Rattle.numbers.specs.Refusal.{lower}
 use Rattle.numbers.proofs.Laws.{lower-none}
 use Rattle.mask.specs.Mask.{contains}
 use Rattle.hours.specs.Hours.{tableNumber}
-use Rattle.coordinator.specs.Calls.{noNode}
 use Rattle.steps.specs.Station.{putAt}
-use Rattle.buffers.specs.Buffers.{onOf, ownNumber, wrong, answerWith}
+use Rattle.buffers.specs.Buffers.{onOf, ownNumber, answerWith}
 use Rattle.frontend.specs.Settings.{settingsNumber, loaded}
 use Rattle.frontend.specs.Settings.{loadNumber as loneNumber, loadAfter as loneAfter}
 use Rattle.service.specs.Service.{loadNumber, loadOf, step}
-use Rattle.service.specs.Lent.{Lent, lent, allSettings, settingsAt, withSettingsAt, settingsIn, settingsFirst, told, loadFirst, loadTold, loadSettings}
+use Rattle.service_calls.specs.Lent.{Lent, lent, allSettings, settingsAt, withSettingsAt, settingsIn, settingsFirst, told, loadFirst, loadTold}
+use Rattle.service_calls.specs.Lent.{loadSettings}
 
 module _ (O S : List ℕ) (n : ℕ) (list : List ℕ) where
   abbrev b : Lent

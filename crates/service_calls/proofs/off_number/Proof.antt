@@ -1,8 +1,8 @@
--- `service::off_number`: by its test.
+-- `service_calls::off_number`: by its test.
 use mathlib.Core.Path.{sym, _∙_}
 use borrow.Author.Needs.{needs}
-use Rattle.service.proofs.off_number.Statement.{statement}
-use Rattle.service.proofs.off_number.Tie as tie
+use Rattle.service_calls.proofs.off_number.Statement.{statement}
+use Rattle.service_calls.proofs.off_number.Tie as tie
 
 either-requires : tie.Need-either-requires
 either-requires c κs = search needs

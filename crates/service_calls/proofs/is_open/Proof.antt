@@ -1,4 +1,4 @@
--- `service::is_open`: the length, then the node's own part; what is no node has no hours.
+-- `service_calls::is_open`: the length, then the node's own part; what is no node has no hours.
 use mathlib.Core.Path.{ap, _∙_}
 use mathlib.Core.List.{List}
 use Prim.Native.Nat.{ℕ}
@@ -9,11 +9,11 @@ use borrow.Author.Tests.{eq-eqb, ne-eqb, lt-ltb, le-ltb}
 use Rattle.numbers.specs.Sizes.{nodes}
 use Rattle.hours.specs.Hours.{lastMinute}
 use Rattle.frontend.specs.Calls.{opens}
-use Rattle.service.specs.Lent.{allSettings, opensAt}
-use Rattle.service.proofs.Beginning.{lent-part, leb-not}
+use Rattle.service_calls.specs.Lent.{allSettings, opensAt}
+use Rattle.service_calls.proofs.Beginning.{lent-part, leb-not}
 use borrow.Author.Needs.{needs}
-use Rattle.service.proofs.is_open.Statement.{statement}
-use Rattle.service.proofs.is_open.Tie as tie
+use Rattle.service_calls.proofs.is_open.Statement.{statement}
+use Rattle.service_calls.proofs.is_open.Tie as tie
 
 returns : tie.Need-returns
 unfolding opensAt

@@ -1,18 +1,17 @@
 -- The maker of a blank service: refused, and the buffers are left; or a blank station, and zeros for settings.
-use mathlib.Core.Path.{_≡_, refl, sym, ap, ap₂, _∙_}
-use mathlib.Core.Bool.{Bool, true, false, cond, not}
-use mathlib.Core.List.{List}
+use mathlib.Core.Path.{_≡_, refl, sym, ap}
+use mathlib.Core.Bool.{Bool, true, false}
 use Prim.Native.Nat.{ℕ, _≤_}
 use native.Mathlib.Omega.{arith}
-use lib.Dec.{eqb, ltb}
+use lib.Dec.{eqb}
 use lib.ListN.{length, replicate}
 use borrow.Author.Tests.{eq-eqb, ne-eqb, eqb-false, le-ltb}
 use Rattle.numbers.specs.Refusal.{lower}
-use Rattle.buffers.specs.Buffers.{Buffers, wrong}
+use Rattle.buffers.specs.Buffers.{Buffers}
 use Rattle.station_calls.specs.Calls.{blankNumber as stationNumber, blankAfter as stationAfter}
 use Rattle.station_calls.proofs.Blanking.{blank-refused}
-use Rattle.service.specs.Lent.{Lent, allSettings, blankNumber, blankAfter}
-use Rattle.service.proofs.Beginning.{lower-zero}
+use Rattle.service_calls.specs.Lent.{Lent, allSettings, blankNumber, blankAfter}
+use Rattle.service_calls.proofs.Beginning.{lower-zero}
 
 lower-one : (k : ℕ) → lower k 1 ≡ 1
 unfolding lower

@@ -17,9 +17,9 @@ use Rattle.buffers.specs.declared.Answer.{Answer}
 use Rattle.buffers.specs.Buffers.{Buffers, all, stationOf, wrong, ownNumber, hostFirst, answerWith, withRecordAt}
 use Rattle.buffers.specs.Buffers.{Whole as StationWhole}
 use Rattle.station_calls.specs.Calls.{blankNumber as stationNumber, blankAfter as stationAfter}
-use Rattle.frontend.specs.Settings.{settingsSize, blankSettings, settingsNumber, loaded}
+use Rattle.frontend.specs.Settings.{settingsSize, blankSettings, settingsNumber}
 use Rattle.frontend.specs.Calls.{opens}
-use Rattle.service.specs.Service.{Service, Call, begin, loadHours, Outcome, step}
+use Rattle.service.specs.Service.{Service, begin, loadHours, Outcome, step}
 
 pub record Lent : Type 0 where
   pub station : Buffers

@@ -1,0 +1,2 @@
+-- The service over five lent buffers (Lent).
+pub mod Lent
