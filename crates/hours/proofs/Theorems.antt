@@ -1,34 +1,21 @@
 -- What is kept of a table is the table: its bytes read the same at every place, zeros behind the end.
-use mathlib.Core.Path.{_≡_, refl, sym, ap, ap₂, subst, _∙_}
+use mathlib.Core.Path.{_≡_, refl, ap, ap₂, subst, _∙_}
 use mathlib.Core.Bool.{Bool, true, false, not, cond, _||_}
 use mathlib.Core.List.{List, [], _∷_, _++_, append-nil}
-use Prim.Native.Nat.{ℕ, zero, suc, _+_, _-_, _*_, _≤_, _<_}
+use Prim.Native.Nat.{ℕ, zero, suc, _+_, _-_, _*_, _≤_}
 use native.Mathlib.Omega.{arith}
 use lib.Dec.{eqb, ltb}
-use lib.ListN.{length, getD, take, drop, replicate, length-drop, drop-of-length-le, List·getD-eq-default}
-use lib.Seq.{paste, take-length, take-all}
-use borrow.Author.Tests.{eqb-true, eq-eqb, ltb-true, ltb-false}
+use lib.ListN.{length, getD, take, drop, set, replicate, length-drop, drop-of-length-le}
+use lib.Seq.{take-all}
+use borrow.Author.Tests.{eqb-true, eq-eqb, ltb-false}
 use Rattle.octets.specs.Octets.{get}
 use Rattle.wire.specs.Formed.{every}
 use Rattle.wire.specs.Decode.{itemsFrom}
+use Rattle.parts.specs.Parts.{padded}
+use Rattle.parts.proofs.Laws.{length-padded, padded-same}
 use Rattle.hours.specs.Hours.{Window, mostWindows, mostDates, windowAt, windowSize, dateAt, dateSize, windowCount, datesPlace, dateCount, windows, dates}
 use Rattle.hours.specs.Hours.{listSize, windowOk, faulty, tableNumber, anyOf, inWindow, closedBy}
-use Rattle.hours.specs.Kept.{keptSize, listsIn, padded, stored, keptNumber, closed}
-
--- ---- padded
-pub length-padded : (n : ℕ) (l : List ℕ) → length (padded n l) ≡ n
-unfolding padded
-length-padded zero l = refl
-length-padded (suc n) [] = ap suc (length-padded n [])
-length-padded (suc n) (x ∷ l) = ap suc (length-padded n l)
-
-pub padded-at : (n : ℕ) (l : List ℕ) (i : ℕ) → i < n → getD (padded n l) i 0 ≡ getD l i 0
-unfolding padded
-padded-at zero l i h = absurd (let z : ⊥ = omega arith in z)
-padded-at (suc n) [] zero h = refl
-padded-at (suc n) [] (suc i) h = padded-at n [] i (omega arith)
-padded-at (suc n) (x ∷ l) zero h = refl
-padded-at (suc n) (x ∷ l) (suc i) h = padded-at n l i (omega arith)
+use Rattle.hours.specs.Kept.{keptSize, listsIn, stored, keptNumber, closed}
 
 -- ---- lists that read the same at every place are the same table
 module _ (a b : List ℕ) (same : (i : ℕ) → getD a i 0 ≡ getD b i 0) where
@@ -68,17 +55,18 @@ module _ (a b : List ℕ) (same : (i : ℕ) → getD a i 0 ≡ getD b i 0) where
   same-closed day minute = ap₂ (λ (ds : List ℕ) (ws : List Window). anyOf (eqb day) ds || not (anyOf (inWindow minute) ws)) same-dates same-windows
 
 -- ---- what is stored
-pub stored-at : (l : List ℕ) (i : ℕ) → 0 < i → i < keptSize → getD (stored l) i 0 ≡ getD l (i - 1) 0
-stored-at l zero p h = absurd (let z : ⊥ = omega arith in z)
-stored-at l (suc i) p h = padded-at 186 l i (omega arith) ∙ ap (λ (j : ℕ). getD l j 0) (omega arith)
-
 pub length-stored : (l : List ℕ) → length (stored l) ≡ keptSize
 length-stored l = ap suc (length-padded 186 l)
 
--- a copy over the whole of a list
-pub paste-whole : (d s : List ℕ) → length d ≡ length s → paste d 0 s (length s) ≡ s
-paste-whole d s e =
-    ap₂ (λ (a b : List ℕ). a ++ b) (take-length s) (drop-of-length-le d {i = 0 + length s} (omega (arith, e))) ∙ append-nil s
+-- the mark stored, and a table laid behind it
+pub laid-behind : (k l last : List ℕ) (n : ℕ) → length k ≡ keptSize → n ≡ length (set k 0 1) - 1
+    → last ≡ padded (length (take n (drop 1 (set k 0 1)))) l → take 1 (set k 0 1) ++ (last ++ drop n (drop 1 (set k 0 1))) ≡ stored l
+laid-behind [] l last n h m e = absurd (let z : ⊥ = omega (arith, h) in z)
+laid-behind (x ∷ t) l last n h m e =
+    let a : length (take n t) ≡ 186 = ap length (take-all n t (omega (arith, h, m))) ∙ (omega (arith, h)) in
+    ap (λ (r : List ℕ). 1 ∷ r) (
+    ap₂ (λ (u v : List ℕ). u ++ v) (e ∙ ap (λ (i : ℕ). padded i l) a) (drop-of-length-le t {i = n} (omega (arith, h, m))) ∙ append-nil (padded 186 l)
+    )
 
 -- bytes with a first one that is not 0 are some
 pub some-byte : (l : List ℕ) → (getD l 0 0 ≡ 0 → ⊥) → 1 ≤ length l
@@ -90,14 +78,6 @@ pub behind-first : (k : List ℕ) → take (length k - 1) (drop 1 k) ≡ listsIn
 behind-first k = take-all (length k - 1) (drop 1 k) (let e = length-drop 1 k in omega (arith, e))
 
 -- ---- THE THEOREMS: what loading accepts is kept whole, and closes what the table closes
-at-place : (l : List ℕ) → length l ≤ 186 → (i : ℕ) → getD (padded 186 l) i 0 ≡ getD l i 0
-at-place l h i = by (ltb i 186) refl
-  where
-    by : (b : Bool) → ltb i 186 ≡ b → getD (padded 186 l) i 0 ≡ getD l i 0
-    by true e = padded-at 186 l i (ltb-true i 186 e)
-    by false e = let k = ltb-false i 186 e in let m = length-padded 186 l in
-        List·getD-eq-default (padded 186 l) 0 {n = i} (omega (arith, m, k)) ∙ sym (List·getD-eq-default l 0 {n = i} (omega (arith, h, k)))
-
 neither : (a b : Bool) → (a || b) ≡ false → (a ≡ false) × (b ≡ false)
 neither true b e = absurd (subst (λ (x : Bool). cond x (Unit {0}) ⊥) e tt)
 neither false b e = (refl, e)
@@ -121,12 +101,12 @@ accepted l = by (eqb (length l) (listSize l)) (faulty l) refl refl
 
 pub loaded-closes : (l : List ℕ) → tableNumber l ≡ 0 → (day minute : ℕ) → closed (stored l) day minute ≡ closedBy l day minute
 unfolding closed
-loaded-closes l e = same-closed (padded 186 l) l (at-place l (accepted l e .1))
+loaded-closes l e = same-closed (padded 186 l) l (padded-same 186 l (accepted l e .1))
 
 pub loaded-sound : (l : List ℕ) → tableNumber l ≡ 0 → keptNumber (stored l) ≡ 0
 unfolding keptNumber
 loaded-sound l e = let a = accepted l e in
-    simp (eq-eqb (length (stored l)) keptSize (length-stored l), same-faulty (padded 186 l) l (at-place l (a .1)) ∙ a .0)
+    simp (eq-eqb (length (stored l)) keptSize (length-stored l), same-faulty (padded 186 l) l (padded-same 186 l (a .1)) ∙ a .0)
 
 -- before a table is loaded nothing is closed; a table without windows closes everything
 pub open-before : (k : List ℕ) (day minute : ℕ) → getD k 0 0 ≡ 0 → closed k day minute ≡ false

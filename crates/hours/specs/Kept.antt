@@ -1,11 +1,12 @@
 -- Packing hours as a node keeps them, in 187 bytes: whether a table was loaded (0 or 1), its lists as they were lent, zeros behind them.
 use mathlib.Core.Bool.{Bool, not, cond, _&&_, _||_}
 use mathlib.Core.List.{List, [], _∷_}
-use Prim.Native.Nat.{ℕ, zero, suc}
+use Prim.Native.Nat.{ℕ}
 use lib.Dec.{eqb, ltb}
 use lib.ListN.{length, getD, drop}
 use Rattle.numbers.specs.Numbers.{wrongLength, damaged}
 use Rattle.numbers.specs.Refusal.{refuse, firstOf}
+use Rattle.parts.specs.Parts.{padded}
 use Rattle.hours.specs.Hours.{tableNumber, faulty, closedBy}
 
 abbrev pub keptSize : ℕ
@@ -14,12 +15,6 @@ keptSize = 187
 -- the lists, as lent
 abbrev pub listsIn : List ℕ → List ℕ
 listsIn k = drop 1 k
-
--- the first n of a list, zeros where it has fewer
-unfoldable pub padded : ℕ → List ℕ → List ℕ
-padded zero l = []
-padded (suc n) [] = 0 ∷ padded n []
-padded (suc n) (x ∷ l) = x ∷ padded n l
 
 abbrev pub stored : List ℕ → List ℕ
 stored l = 1 ∷ padded 186 l

@@ -2,7 +2,7 @@
 ghost use mathlib.Core.Path.{_≡_};
 ghost use Prim.Native.Nat.{_<_};
 ghost use lib.Dec.{eqb};
-ghost use lib.ListN.{length, getD};
+ghost use lib.ListN.{length};
 ghost use Rattle.wire.specs.Formed.{every};
 ghost use Rattle.hours.specs.Hours.{windowCount, datesPlace, dateCount, windows, dates, windowOk, faulty, tableNumber, anyOf, inWindow, closedBy};
 ghost use Rattle.hours.specs.Kept.{keptSize, stored, keptNumber, loadNumber, loadAfter, closed};
@@ -142,27 +142,13 @@ pub fn check(kept: &[u8]) -> u8
     refuse(numbers::DAMAGED, bad, 0)
 }
 
-// A byte of the stored form: the mark that a table is loaded, then the table's.
-fn stored_at(list: &[u8], i: usize) -> u8
-    requires { ⌜ i < keptSize ⌝ }
-    ensures { λ r. ⌜ r ≡ getD (stored (now (list .entry))) i 0 ⌝ }
-{
-    if i == 0 {
-        return 1;
-    }
-    octets::get_u8(list, i - 1)
-}
-
-// The stored form over the whole of the bytes.
+// The stored form over the whole of the bytes: the mark that a table is loaded, then the table.
 fn store(kept: &mut [u8], list: &[u8])
     requires { ⌜ length (now kept) ≡ keptSize ⌝ }
     ensures { λ r. ⌜ now (kept .exit) ≡ stored (now (list .entry)) ⌝ }
 {
-    let mut i: usize = 0;
-    while i < KEPT {
-        kept[i] = stored_at(list, i);
-        i += 1;
-    }
+    kept[0] = 1;
+    parts::lay(&mut kept[1..], list);
 }
 
 // Loads a table in place of the one before: 1 another length of either, 2 a faulty table. Ruled out: a refused table that takes the old one's place; a table

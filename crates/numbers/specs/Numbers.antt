@@ -43,3 +43,10 @@ poolFull = 12
 -- closed (document 02, 2.1)
 abbrev pub outsideHours : ℕ
 outsideHours = 13
+
+-- bounds, and then tally twice (document 02, 2.2)
+abbrev pub badBounds : ℕ
+badBounds = 14
+
+abbrev pub tallyTwice : ℕ
+tallyTwice = 15

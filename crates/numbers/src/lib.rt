@@ -43,6 +43,10 @@ pub const POOL_FULL: u8 = 12;
 
 pub const CLOSED: u8 = 13;
 
+pub const BOUNDS: u8 = 14;
+
+pub const TALLY_TWICE: u8 = 15;
+
 // Both tests hold. Ruled out: either of them is enough; the second alone counts.
 pub fn both(a: bool, b: bool) -> bool
     ensures { λ r. ⌜ r ≡ (a && b) ⌝ }

@@ -1,12 +1,14 @@
--- The laws of parts: a part depends on its own bytes alone, a replaced part is what was put there, and every other part is as it was.
-use mathlib.Core.Path.{_≡_, refl, sym, ap, _∙_}
+-- The laws of parts: a part depends on its own bytes alone, a replaced part is what was put there, and every other part is as it was. Laid bytes read as
+-- the list does.
+use mathlib.Core.Path.{_≡_, refl, sym, ap, ap₂, _∙_}
 use mathlib.Core.Logic.{_⊎_, inl, inr, ⊎-elim}
-use mathlib.Core.List.{List, _++_}
-use Prim.Native.Nat.{ℕ, _+_, _-_, _<_, _≤_}
+use mathlib.Core.List.{List, [], _∷_, _++_, append-nil}
+use Prim.Native.Nat.{ℕ, zero, suc, _+_, _-_, _<_, _≤_}
 use native.Mathlib.Omega.{arith}
-use lib.ListN.{length, getD, take, drop, length-append, length-take, length-drop, List·getD-append}
-use lib.Seq.{take-at, drop-at, length-take-le, ext-getD, getD-drop, getD-take, getD-append-add, paste, length-paste-head}
-use Rattle.parts.specs.Parts.{part, splice}
+use lib.ListN.{length, getD, take, drop, length-append, length-drop, drop-of-length-le, List·getD-append, List·getD-eq-default}
+use lib.Seq.{take-at, drop-at, take-length, length-take-le, ext-getD, getD-drop, getD-take, getD-append-add, paste, length-paste-head}
+use Rattle.octets.proofs.Laws.{lt-or-le}
+use Rattle.parts.specs.Parts.{part, splice, padded}
 
 -- what a lender has of a part that it lent, `&mut l[a..a + n]`, to a function that leaves f of what it was lent
 pub lent : (f : List ℕ → List ℕ) (n a k : ℕ) (l last : List ℕ) → k ≡ n → last ≡ f (take k (drop a l))
@@ -99,3 +101,32 @@ module _ (d : List ℕ) (at : ℕ) (s : List ℕ) (n : ℕ) (h : at + n ≤ leng
       ∙ getD-drop (at + n) d i 0
       ∙ ap (λ (k : ℕ). getD d k 0) f)
       o
+
+-- a copy over the whole of a list
+pub paste-whole : (d s : List ℕ) → length d ≡ length s → paste d 0 s (length s) ≡ s
+paste-whole d s e =
+    ap₂ (λ (a b : List ℕ). a ++ b) (take-length s) (drop-of-length-le d {i = 0 + length s} (omega (arith, e))) ∙ append-nil s
+
+-- ---- a list with zeros behind it
+pub length-padded : (n : ℕ) (l : List ℕ) → length (padded n l) ≡ n
+unfolding padded
+length-padded zero l = refl
+length-padded (suc n) [] = ap suc (length-padded n [])
+length-padded (suc n) (x ∷ l) = ap suc (length-padded n l)
+
+pub padded-at : (n : ℕ) (l : List ℕ) (i : ℕ) → i < n → getD (padded n l) i 0 ≡ getD l i 0
+unfolding padded
+padded-at zero l i h = absurd (let z : ⊥ = omega arith in z)
+padded-at (suc n) [] zero h = refl
+padded-at (suc n) [] (suc i) h = padded-at n [] i (omega arith)
+padded-at (suc n) (x ∷ l) zero h = refl
+padded-at (suc n) (x ∷ l) (suc i) h = padded-at n l i (omega arith)
+
+-- a list that has room reads the same at every place
+pub padded-same : (n : ℕ) (l : List ℕ) → length l ≤ n → (i : ℕ) → getD (padded n l) i 0 ≡ getD l i 0
+padded-same n l h i =
+    ⊎-elim
+    (padded-at n l i)
+    (λ k. let m = length-padded n l in
+    List·getD-eq-default (padded n l) 0 {n = i} (omega (arith, m, k)) ∙ sym (List·getD-eq-default l 0 {n = i} (omega (arith, h, k))))
+    (lt-or-le i n)

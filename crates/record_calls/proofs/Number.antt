@@ -35,3 +35,7 @@ module _ (f : Coordinator → Step) (l : List ℕ) where
   ahead-taken e m n a c d h s =
       let p : m ≡ f (recordOf l) .number = h ∙ step-number n a c d ∙ ap (λ (x : Step). x .number) (sym s) in
       simp (eq-eqb (check l) 0 e) p
+
+  pub ahead-step : check l ≡ 0 → (m : ℕ) → m ≡ f (recordOf l) .number → m ≡ calledOf f l .number
+  unfolding calledOf
+  ahead-step e m p = simp (eq-eqb (check l) 0 e) p

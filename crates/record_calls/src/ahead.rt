@@ -9,15 +9,13 @@ use crate::deeds::abort_refusal;
 use crate::deeds::begin_refusal;
 use crate::deeds::found_refusal;
 use crate::deeds::open_refusal;
-use crate::deeds::request_refusal;
+use crate::deeds::request_ahead;
 use crate::deeds::reselect_refusal;
 use crate::deeds::set_refusal;
 use coordinator::BeginWith;
 use numbers::NODES;
 use quorum::Kind;
-use record::LIVE;
 use record::check;
-use record::load::distances_of;
 
 // The number of a begin. Ruled out: 5 for a damaged record; 9 where no quorum is live.
 pub fn begin_number(bytes: &[u8], me: u8, w: BeginWith) -> u8
@@ -85,10 +83,7 @@ pub fn request_number(bytes: &[u8], me: u8) -> u8
     if number != 0 {
         return number;
     }
-    let distances = distances_of(bytes);
-    let live = octets::get_u16(bytes, LIVE);
-    let chosen = quorum::nearest(Kind::Write, live, &distances);
-    request_refusal(bytes, me, chosen)
+    request_ahead(bytes, me)
 }
 
 // The number of an abort. Ruled out: 0 while finishing; 5 while voting.

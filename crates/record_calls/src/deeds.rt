@@ -80,8 +80,10 @@ pub(crate) fn begin_refusal(bytes: &[u8], me: u8, w: BeginWith, chosen: Choice) 
     )
 }
 
-// Begins a transaction: an idle record is blank behind the front, so only the front, the distances and the quorum change.
-pub(crate) fn begin(bytes: &mut [u8], me: u8, w: BeginWith) -> Called
+// Begins a transaction: an idle record is blank behind the front, so only the front, the distances and the quorum change. Ruled out: a serial that does
+// not rise; a byte altered at a refusal.
+// The condition is a plain fact of a record that was checked; only the crates that work on one use it, and each proves it.
+pub fn begin(bytes: &mut [u8], me: u8, w: BeginWith) -> Called
     requires { ⌜ check (now bytes) ≡ 0 ⌝ }
     ensures { λ r. ⌜ r ≡ toldBy (beginOf tree (recordOf (now (bytes .entry))) me w) ⌝ }
     ensures { λ r. ⌜ now (bytes .exit) ≡ kept (beginOf tree (recordOf (now (bytes .entry))) me w) (now (bytes .entry)) ⌝ }
@@ -117,8 +119,9 @@ pub(crate) fn open_refusal(bytes: &[u8], me: u8, object: u8) -> u8
     refuse(numbers::STRANGER, !(me < NODES_END), turn)
 }
 
-// Opens an object in a mode: one object more, and the present read quorum contacted.
-pub(crate) fn open(bytes: &mut [u8], me: u8, object: u8, mode: u8) -> Called
+// Opens an object in a mode: one object more, and the present read quorum contacted. Ruled out: an object opened twice; another object altered.
+// The condition is a plain fact of a record that was checked; only the crates that work on one use it, and each proves it.
+pub fn open(bytes: &mut [u8], me: u8, object: u8, mode: u8) -> Called
     requires { ⌜ check (now bytes) ≡ 0 ⌝ }
     ensures { λ r. ⌜ r ≡ toldBy (openOf (recordOf (now (bytes .entry))) me object mode) ⌝ }
     ensures { λ r. ⌜ now (bytes .exit) ≡ kept (openOf (recordOf (now (bytes .entry))) me object mode) (now (bytes .entry)) ⌝ }
@@ -156,8 +159,9 @@ pub(crate) fn set_refusal(bytes: &[u8], me: u8, object: u8) -> u8
     refuse(numbers::STRANGER, !(me < NODES_END), turn)
 }
 
-// Gives a written object its new value.
-pub(crate) fn set_value(bytes: &mut [u8], me: u8, object: u8, value: u64) -> Called
+// Gives a written object its new value. Ruled out: the value found overwritten; an object that is only read given one.
+// The condition is a plain fact of a record that was checked; only the crates that work on one use it, and each proves it.
+pub fn set_value(bytes: &mut [u8], me: u8, object: u8, value: u64) -> Called
     requires { ⌜ check (now bytes) ≡ 0 ⌝ }
     ensures { λ r. ⌜ r ≡ toldBy (setOf (recordOf (now (bytes .entry))) me object value) ⌝ }
     ensures { λ r. ⌜ now (bytes .exit) ≡ kept (setOf (recordOf (now (bytes .entry))) me object value) (now (bytes .entry)) ⌝ }
@@ -259,8 +263,21 @@ pub(crate) fn request_refusal(bytes: &[u8], me: u8, chosen: Choice) -> u8
     refuse(numbers::STRANGER, !(me < NODES_END), turn)
 }
 
-// Asks for votes: the phase and the participants alone change.
-pub(crate) fn request_commit(bytes: &mut [u8], me: u8) -> Called
+// The number of a request to commit, with no byte altered. Ruled out: 8 before 11; 0 with an object that is not ready.
+// The condition is a plain fact of a record that was checked; only the crates that work on one use it, and each proves it.
+pub fn request_ahead(bytes: &[u8], me: u8) -> u8
+    requires { ⌜ check (now bytes) ≡ 0 ⌝ }
+    ensures { λ r. ⌜ r ≡ requestCommitOf tree (recordOf (now (bytes .entry))) me .number ⌝ }
+{
+    let distances = distances_of(bytes);
+    let live = octets::get_u16(bytes, LIVE);
+    let chosen = quorum::nearest(Kind::Write, live, &distances);
+    request_refusal(bytes, me, chosen)
+}
+
+// Asks for votes: the phase and the participants alone change. Ruled out: the participants without a contacted node; a phase that stays open.
+// The condition is a plain fact of a record that was checked; only the crates that work on one use it, and each proves it.
+pub fn request_commit(bytes: &mut [u8], me: u8) -> Called
     requires { ⌜ check (now bytes) ≡ 0 ⌝ }
     ensures { λ r. ⌜ r ≡ toldBy (requestCommitOf tree (recordOf (now (bytes .entry))) me) ⌝ }
     ensures { λ r. ⌜ now (bytes .exit) ≡ kept (requestCommitOf tree (recordOf (now (bytes .entry))) me) (now (bytes .entry)) ⌝ }
@@ -288,8 +305,9 @@ pub(crate) fn abort_refusal(bytes: &[u8], me: u8) -> u8
     refuse(numbers::STRANGER, !(me < NODES_END), turn)
 }
 
-// Gives the transaction up.
-pub(crate) fn abort(bytes: &mut [u8], me: u8) -> Called
+// Gives the transaction up. Ruled out: a finishing one aborted; number 0 with the record left as it was.
+// The condition is a plain fact of a record that was checked; only the crates that work on one use it, and each proves it.
+pub fn abort(bytes: &mut [u8], me: u8) -> Called
     requires { ⌜ check (now bytes) ≡ 0 ⌝ }
     ensures { λ r. ⌜ r ≡ toldBy (abortOf (recordOf (now (bytes .entry))) me) ⌝ }
     ensures { λ r. ⌜ now (bytes .exit) ≡ kept (abortOf (recordOf (now (bytes .entry))) me) (now (bytes .entry)) ⌝ }

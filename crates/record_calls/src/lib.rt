@@ -2,7 +2,7 @@
 // number and alters nothing.
 mod ahead;
 mod calls;
-mod deeds;
+pub mod deeds;
 
 pub use ahead::abort_number;
 pub use ahead::begin_number;
