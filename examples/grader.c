@@ -135,7 +135,8 @@ static void begin_booking(station *s, node *n)
         printf("node %u: cannot begin: %s\n", n->number, senna_word(begun.number));
         return;
     }
-    must(senna_coordinator_open_write(n->memory.record, SENNA_RECORD, n->number, SUPPLIER).number, "open to write");
+    must(senna_coordinator_open_write(n->memory.record, SENNA_RECORD, n->memory.settings, SENNA_SETTINGS, n->number, SUPPLIER).number,
+         "open to write");
     keep(n);
     printf("node %u: begins booking %" PRIu32 ", %" PRId64 " g for supplier %d\n", n->number,
            senna_coordinator_serial(n->memory.record, SENNA_RECORD), n->memory.batch, SUPPLIER);
@@ -147,8 +148,8 @@ static void ask_for_votes(node *n)
     senna_value found = senna_coordinator_found(n->memory.record, SENNA_RECORD, n->number, SUPPLIER);
     must(found.number, "found");
     int64_t sum = found.value + n->memory.batch;
-    must(senna_coordinator_set_value(n->memory.record, SENNA_RECORD, n->number, SUPPLIER, sum).number, "set value");
-    senna_called asked = senna_coordinator_request_commit(n->memory.record, SENNA_RECORD, n->number);
+    must(senna_coordinator_set_value(n->memory.record, SENNA_RECORD, n->memory.settings, SENNA_SETTINGS, n->number, SUPPLIER, sum).number, "set value");
+    senna_called asked = senna_coordinator_request_commit(n->memory.record, SENNA_RECORD, n->memory.settings, SENNA_SETTINGS, n->number);
     if (asked.number == SENNA_OK) {
         printf("node %u: found %" PRId64 " g, asks for votes on %" PRId64 " g\n", n->number, found.value, sum);
     } else {

@@ -1,7 +1,7 @@
 /*
  * senna.h: replicated objects on a tree of thirteen nodes: the quorums, the messages between nodes, a node's stored image, the
- * replica that answers messages from it, the record of the node's own transaction, the settings that say when one may begin, and a whole
- * station of thirteen nodes.
+ * replica that answers messages from it, the record of the node's own transaction, the settings that say when one may begin and how weights are
+ * sorted into classes, and a whole station of thirteen nodes.
  *
  * `rt staticlib host` writes the library, target/staticlib/libhost.a, for x86-64 Linux. Of the C library it needs memcpy, memmove
  * and memset alone. This line builds a program with it:
@@ -24,8 +24,9 @@
  * as long as no other thread uses a buffer that is being written. A pointer is never null, also where its length is 0, and may have any
  * alignment. A buffer that a call may write overlaps no other buffer of the call.
  *
- * A call that can refuse answers a number, SENNA_OK or one of the thirteen below. On a refusal every lent byte is as it was, and what is
- * answered beside the number is 0.
+ * A call that can refuse answers a number, SENNA_OK or one of the fifteen below. On a refusal every lent byte is as it was, and what is
+ * answered beside the number is 0. There is one exception, which its answer tells: SENNA_USED_UP with the answer SENNA_ABORTED, from
+ * senna_coordinator_request_commit and senna_station_request_commit, has given a batch up, and the node's record has changed.
  */
 #ifndef SENNA_H
 #define SENNA_H
@@ -58,25 +59,32 @@ extern "C" {
 #define SENNA_WINDOWS 14      /* windows of a table of packing hours, at most */
 #define SENNA_DATES 32        /* closed dates of a table of packing hours, at most */
 #define SENNA_HOURS_MAX 186   /* bytes of the longest table of packing hours */
+#define SENNA_BOUNDS_MAX 7    /* bounds of a table of weight classes, at most */
+#define SENNA_CLASSES_MAX 8   /* classes of a table of weight classes, at most */
+#define SENNA_CLASS_TABLE_MAX 24 /* bytes of the longest table of weight classes */
+#define SENNA_WEIGHTS_MAX 4096 /* weights of a batch, at most */
+#define SENNA_BATCH_MAX 8194  /* bytes of the longest batch */
 
 /* Numbers. A call answers 0, or why it refuses; where several fit, the lowest unless its comment says otherwise. */
 #define SENNA_OK 0
 #define SENNA_LENGTH 1         /* a buffer or a message has another length than it must */
 #define SENNA_DAMAGED 2        /* stored bytes, or a table that is loaded, break a rule of their format */
-#define SENNA_GARBLED 3        /* a message breaks a rule of its format, or a minute is above 10,079 */
+#define SENNA_GARBLED 3        /* a message breaks a rule of its format, a minute is above 10,079, a weight above 1,999, or a batch too long */
 #define SENNA_STRANGER 4       /* a node above 12, a mask above 8191, or a message for another node */
-#define SENNA_OUT_OF_TURN 5    /* wrong phase or state, or a timestamp not above the last */
-#define SENNA_NO_SUCH_OBJECT 6 /* above 63, opened twice, not opened, or a value set on a read */
+#define SENNA_OUT_OF_TURN 5    /* wrong phase or state, a timestamp not above the last, or a batch where a call or a table does not fit */
+#define SENNA_NO_SUCH_OBJECT 6 /* above 63, opened twice, not opened, or a value set on a read; a class that there is not */
 #define SENNA_EIGHT_OPEN 7     /* a ninth object */
 #define SENNA_NO_QUORUM 8      /* the live nodes contain no quorum */
-#define SENNA_USED_UP 9        /* a serial or a version is at its last number */
-#define SENNA_BUSY 10          /* begin while a transaction is under way */
+#define SENNA_USED_UP 9        /* a serial or a version is at its last number, or a batch would take a value past 64 bits */
+#define SENNA_BUSY 10          /* begin, or a table of classes loaded, while a transaction is under way */
 #define SENNA_NOT_READY 11     /* a value or the votes wanted too soon */
 #define SENNA_POOL_FULL 12     /* 128 messages wait already */
 #define SENNA_CLOSED 13        /* begin outside the node's packing hours */
+#define SENNA_BOUNDS 14        /* bounds of classes that do not rise, leave their range, are too many, or do not fit the number of classes */
+#define SENNA_TALLY_TWICE 15   /* two classes with one object */
 
 /*
- * A number's word, for a log or a screen: "ok", "length" .. "closed", and "unknown" for what is no number of this table. The words are
+ * A number's word, for a log or a screen: "ok", "length" .. "tally twice", and "unknown" for what is no number of this table. The words are
  * constants: they are never freed or changed. Reads only its argument; no heap; re-entrant.
  */
 static inline const char *senna_word(uint8_t number)
@@ -96,6 +104,8 @@ static inline const char *senna_word(uint8_t number)
     case SENNA_NOT_READY: return "not ready";
     case SENNA_POOL_FULL: return "pool full";
     case SENNA_CLOSED: return "closed";
+    case SENNA_BOUNDS: return "bounds";
+    case SENNA_TALLY_TWICE: return "tally twice";
     default: return "unknown";
     }
 }
@@ -375,8 +385,13 @@ uint8_t senna_replica_answers(const uint8_t *image, size_t image_length, uint8_t
  *
  * Numbers of every call: SENNA_LENGTH (length is not SENNA_RECORD, or another lent length is wrong) and SENNA_DAMAGED come first, then
  * SENNA_STRANGER for me above 12, then what its comment says, the lowest that fits unless it says otherwise. On a refusal every lent
- * byte is as it was. Otherwise senna_check_record answers 0 for the record after, and no other lent byte has changed but those that the
- * comment names. No heap; re-entrant.
+ * byte is as it was, but where senna_coordinator_request_commit gives a batch up. Otherwise senna_check_record answers 0 for the record after, and
+ * no other lent byte has changed but those that the comment names. No heap; re-entrant.
+ *
+ * Calls that are lent the settings too have SENNA_LENGTH and SENNA_DAMAGED of both:
+ *
+ * settings         the node's settings; a begin, a batch and a load change them, all others only read them
+ * settings_length  the bytes at settings; another number than SENNA_SETTINGS is SENNA_LENGTH
  */
 
 /* Phases. */
@@ -392,7 +407,10 @@ uint8_t senna_replica_answers(const uint8_t *image, size_t image_length, uint8_t
 #define SENNA_READY 3    /* copies of an object have come from a read quorum */
 #define SENNA_FINISHED 4 /* the last done came: the record is idle */
 
-/* The answer of a call on a record, and of a station's step. On a refusal answer is 0. */
+/*
+ * The answer of a call on a record, and of a station's step. On a refusal answer is 0, but SENNA_ABORTED beside SENNA_USED_UP where a request for
+ * votes has given a batch up.
+ */
 typedef struct senna_called {
     uint8_t number;  /* SENNA_OK, or why the call refuses */
     uint64_t answer; /* what the call's comment says, and 0 where it says nothing */
@@ -418,11 +436,23 @@ uint8_t senna_check_record(const uint8_t *record, size_t length);
 uint8_t senna_blank_record(uint8_t *record, size_t length);
 
 /*
- * Settings. Beside its record a node has settings of SENNA_SETTINGS bytes: its packing hours. A host makes them blank once, keeps the bytes beside
- * the record, and lends them to every begin. Blank settings are all zeros: no table of hours is loaded, and all hours are open.
+ * Settings. Beside its record a node has settings of SENNA_SETTINGS bytes: its packing hours, its table of weight classes, and what it must know of the
+ * transaction that it began last. A host makes them blank once, keeps the bytes beside the record, and lends them to the calls that take them. It
+ * writes both to its disk after each call, together: what waits is told by the two of them. Numbers are little-endian:
+ *   at   bytes  what
+ *   0    1      1 where a table of packing hours is loaded, else 0
+ *   1    186    that table as it was lent, zeros behind it
+ *   187  24     the table of weight classes as it was lent, zeros behind it; 0 and 0 for its two counts where none is loaded
+ *   211  1      the kind of the transaction that began last: SENNA_KIND_OWN or SENNA_KIND_BATCH
+ *   212  8      the tenths that waited when it began, one byte a class, 0 to 9
+ *   220  8      the tenths that it leaves over where it is a batch, alike; else zeros
+ * Blank settings are all zeros: nothing is loaded, all hours are open, no batch was begun, and nothing waits. Settings are damaged where byte 0 is above
+ * 1, the lists from byte 1 on are no table of hours (also where byte 0 is 0), those from byte 187 on are no table of classes that a load accepts (0 and
+ * 0 is none loaded), the kind is above 1, or one of the sixteen tenths is above 9. What stands behind the lists, up to bytes 186 and 210, does not
+ * matter.
  *
- * A transaction begins only in packing hours. There is no begin that is not lent the settings, so every transaction goes through them. No other
- * call asks for the hours: a transaction that is under way may go on after closing time, to its last done.
+ * Packing hours. A transaction begins only in packing hours. There is no begin that is not lent the settings, so every transaction goes through them.
+ * No other call asks for the hours: a transaction that is under way may go on after closing time, to its last done.
  *
  * A begin is told the day and the minute, which are the host's; the library has no clock, and does not ask whether the two belong together:
  *   minute  of the week, counted from Monday midnight: 0 is Monday 00:00, 1,440 Tuesday 00:00, 10,079 Sunday 23:59; a higher one is SENNA_GARBLED
@@ -440,10 +470,53 @@ uint8_t senna_blank_record(uint8_t *record, size_t length);
  * and at each minute that no window has: without a window always. Monday 06:00 to 14:00, closed on day 20,815, is the bytes
  *   1, 0x68, 0x01, 0x48, 0x03, 1, 0x4f, 0x51, 0, 0
  *
- * In the settings byte 0 is 1 where a table is loaded, else 0; from byte 1 on stands the table as it was lent, then zeros up to byte 186. The 41
- * bytes behind that are zeros in blank settings and are for what is to come; no call looks at them, and a load leaves them. Settings are damaged where
- * byte 0 is above 1 or the lists from byte 1 on are no table, also where byte 0 is 0. What stands behind the lists does not matter.
+ * Weight classes. The line weighs eggs in tenths of a gram. A table of classes has bounds that rise, and for each class between them an object whose
+ * value counts its grams; a weight on a bound is in the upper class. It is lent as bytes:
+ *   at           bytes  what
+ *   0            1      n: how many bounds, 0 to SENNA_BOUNDS_MAX
+ *   1 + 2i       2      bound i, counted from 0: 1 to 1,999 tenths, each above the one before
+ *   1 + 2n       1      k: how many classes, n + 1
+ *   2 + 2n + j   1      the object of class j, counted from 0: 0 to 63, none twice
+ * and no byte more: the table has 2 + 2n + k bytes, at most SENNA_CLASS_TABLE_MAX. Class 0 has the weights below bound 0, class j those from bound j - 1
+ * on and below bound j, the last one all from the last bound on. Below 53.0 g to object 10, from 53.0 g to object 11, is the bytes
+ *   1, 0x12, 0x02, 2, 10, 11
+ *
+ * A batch is one transaction that adds to each class's object the whole grams of its weights and of the tenths that waited there. The tenths left over,
+ * 0 to 9 a class, wait for the next batch of this node. It is lent as bytes:
+ *   at      bytes  what
+ *   0       2      n: how many weights, 0 to SENNA_WEIGHTS_MAX
+ *   2 + 2i  2      weight i, counted from 0: 0 to 1,999 tenths
+ * and no byte more: 2 + 2n bytes, at most SENNA_BATCH_MAX. What a host does, each step with the record and the settings of its node:
+ *   1. senna_load_classes once, while idle
+ *   2. senna_coordinator_batch with the weights: it begins, opens every class's object to write, also one that gets 0 grams, and notes the amounts
+ *   3. what is due, and deliveries, as in any transaction, until every object is ready (senna_coordinator_is_ready)
+ *   4. senna_coordinator_request_commit: each new value is the one found plus the grams, in signed 64 bits
+ *   5. what is due, and deliveries, to the last done
+ * Aborted, by a no, by a yield, by the host or at step 4, a batch has booked nothing and moved no tenth: the host books the same weights again, with a
+ * new timestamp. From the delivery on that answers SENNA_COMMITTED the new tenths wait, and not before (senna_coordinator_waiting). Over the batches
+ * committed since the table was loaded, ten times the grams booked and the tenths that wait are together the sum of all weights, class by class.
+ *
+ * Which number is given for what; each call tries them from the top:
+ *
+ *   number               senna_load_classes          senna_coordinator_batch                senna_coordinator_request_commit, on a batch
+ *   SENNA_LENGTH         a length of the three       a length of the four                   a length of the two
+ *   SENNA_DAMAGED        record, settings            record, settings                       record, settings
+ *   SENNA_GARBLED        -                           a weight, too many, the minute         -
+ *   SENNA_STRANGER       me                          me, live                               me
+ *   SENNA_NO_SUCH_OBJECT an object above 63          -                                      -
+ *   SENNA_BUSY           not idle                    not idle: before SENNA_OUT_OF_TURN     -
+ *   SENNA_OUT_OF_TURN    -                           no table, the timestamp                not open
+ *   SENNA_NOT_READY      -                           -                                      a value is not found yet: before SENNA_NO_QUORUM
+ *   SENNA_NO_QUORUM      -                           no read quorum                         no write quorum
+ *   SENNA_USED_UP        -                           the serial                             a version, answer 0; or a value, answer SENNA_ABORTED
+ *   SENNA_CLOSED         -                           outside packing hours                  -
+ *   SENNA_BOUNDS         the bounds                  -                                      -
+ *   SENNA_TALLY_TWICE    an object twice             -                                      -
  */
+
+/* Kinds of transactions. */
+#define SENNA_KIND_OWN 0   /* the host's own: it opens objects and gives values */
+#define SENNA_KIND_BATCH 1 /* a batch of weights */
 
 /*
  * Whether bytes are settings, as kept bytes must be before a host goes on from them.
@@ -475,9 +548,46 @@ uint8_t senna_blank_settings(uint8_t *settings, size_t length);
 uint8_t senna_load_hours(uint8_t *settings, size_t length, const uint8_t *list, size_t size);
 
 /*
- * Begins a transaction with the next serial, in packing hours; answers the chosen read quorum.
+ * Loads a table of weight classes in place of the one before. The node must be idle. No tenth waits after it: what waited by the table before is gone, so
+ * a host that wants to book it asks senna_coordinator_waiting first. A refusal keeps the table before and what waits. Answers 0.
  *
- * settings         the node's settings; only read
+ * record           the node's record; only read: its phase
+ * length           the bytes at record
+ * settings         the node's settings, which are changed in place, but for the packing hours
+ * settings_length  the bytes at settings
+ * me               the node's own number
+ * list             the table; only read
+ * size             the bytes at list
+ *
+ * Numbers, in this order: SENNA_LENGTH (of the record or the settings, or size is another than the table's two counts say, also 0), SENNA_DAMAGED (the
+ * record or the settings), SENNA_STRANGER (me above 12), SENNA_NO_SUCH_OBJECT (an object above 63), SENNA_BUSY (the phase is not SENNA_IDLE: load after
+ * the last done), SENNA_BOUNDS (bounds that do not rise strictly, one that is 0 or above 1,999, more than SENNA_BOUNDS_MAX, or not one fewer than the
+ * objects), SENNA_TALLY_TWICE (an object twice).
+ * Otherwise senna_check_settings answers 0 for the settings after. Only writes to settings, which must not overlap the others; no heap; re-entrant.
+ */
+senna_called senna_load_classes(const uint8_t *record, size_t length, uint8_t *settings, size_t settings_length, uint8_t me, const uint8_t *list,
+                                size_t size);
+
+/*
+ * The kind of the transaction that the node began last: SENNA_KIND_OWN (also before the first, and after a table of classes was loaded) or
+ * SENNA_KIND_BATCH. A host that resumes from kept bytes sees by it whether what is under way is a batch.
+ * Numbers, the lowest that fits: SENNA_LENGTH, SENNA_DAMAGED. Only reads the bytes at settings; no heap; re-entrant.
+ */
+senna_called senna_settings_kind(const uint8_t *settings, size_t length);
+
+/*
+ * The tenths that wait in a class, counted from 0: answers 0 to 9. They are those that the last batch left over, from its commit on; otherwise those that
+ * waited when the last transaction began. Nothing is changed: the call may come at any time, and as often as the host likes.
+ * Numbers, the lowest that fits: SENNA_LENGTH and SENNA_DAMAGED (of the record or the settings), SENNA_NO_SUCH_OBJECT (the table has no such class, or
+ * none is loaded). Only reads the bytes at record and settings; no heap; re-entrant.
+ */
+senna_called senna_coordinator_waiting(const uint8_t *record, size_t length, const uint8_t *settings, size_t settings_length, uint8_t class_number);
+
+/*
+ * Begins a transaction of the host's own with the next serial, in packing hours; answers the chosen read quorum. The settings then have the kind
+ * SENNA_KIND_OWN and the tenths that wait; their tables stay.
+ *
+ * settings         the node's settings, changed in place
  * settings_length  the bytes at settings; another number than SENNA_SETTINGS is SENNA_LENGTH
  * live             the nodes that may be chosen, at most SENNA_ALL
  * distances        SENNA_DISTANCES bytes, as for senna_nearest_read; only read
@@ -490,8 +600,29 @@ uint8_t senna_load_hours(uint8_t *settings, size_t length, const uint8_t *list, 
  * last), SENNA_NO_QUORUM, SENNA_USED_UP (the last serial is 4294967295), SENNA_CLOSED (a table is loaded, and the day is a closed date or no window
  * has the minute). After SENNA_CLOSED the host tries again at its next open minute, with the same timestamp if it likes: nothing was used up.
  */
-senna_called senna_coordinator_begin(uint8_t *record, size_t length, const uint8_t *settings, size_t settings_length, uint8_t me, uint16_t live,
+senna_called senna_coordinator_begin(uint8_t *record, size_t length, uint8_t *settings, size_t settings_length, uint8_t me, uint16_t live,
                                      const uint8_t *distances, size_t size, uint32_t timestamp, uint32_t day, uint16_t minute);
+
+/*
+ * Begins a batch with the next serial, in packing hours; answers the chosen read quorum. Every class's object is open to write, in the table's order, with
+ * its grams as its new value for now, and the present read quorum is contacted. The settings then have the kind SENNA_KIND_BATCH, the tenths that wait and
+ * those that this batch leaves over. A batch without weights is one too; it adds 0 grams to each object. Next the host sends what is due, until every
+ * object is ready, and then calls senna_coordinator_request_commit; it opens nothing and gives no value. After an abort it begins the same batch again.
+ *
+ * settings            the node's settings, changed in place
+ * settings_length     the bytes at settings; another number than SENNA_SETTINGS is SENNA_LENGTH
+ * live, distances, distances_length, timestamp, day, minute  as for senna_coordinator_begin
+ * list                the weights; only read
+ * size                the bytes at list
+ *
+ * Numbers, in this order: SENNA_LENGTH (also where size is another than 2 and twice the count), SENNA_DAMAGED (the record or the settings), SENNA_GARBLED (a
+ * weight above 1,999, more than SENNA_WEIGHTS_MAX weights, or a minute above 10,079), SENNA_STRANGER (me above 12, or live above SENNA_ALL), SENNA_BUSY (the
+ * phase is not SENNA_IDLE), SENNA_OUT_OF_TURN (no table of classes is loaded, or timestamp not above the last), SENNA_NO_QUORUM, SENNA_USED_UP (the last
+ * serial is 4294967295), SENNA_CLOSED (as for senna_coordinator_begin).
+ */
+senna_called senna_coordinator_batch(uint8_t *record, size_t length, uint8_t *settings, size_t settings_length, uint8_t me, uint16_t live,
+                                     const uint8_t *distances, size_t distances_length, uint32_t timestamp, uint32_t day, uint16_t minute,
+                                     const uint8_t *list, size_t size);
 
 /*
  * Takes a fresh live mask and distances while open; answers the newly chosen read quorum, which is contacted if an object is open.
@@ -501,17 +632,20 @@ senna_called senna_coordinator_begin(uint8_t *record, size_t length, const uint8
 senna_called senna_coordinator_reselect(uint8_t *record, size_t length, uint8_t me, uint16_t live, const uint8_t *distances, size_t size);
 
 /*
- * Opens an object, to read it or to write it; the present read quorum is contacted. Answers 0.
- * Numbers: SENNA_OUT_OF_TURN (not SENNA_OPEN), SENNA_NO_SUCH_OBJECT (above 63, or opened already), SENNA_EIGHT_OPEN.
+ * Opens an object, to read it or to write it; the present read quorum is contacted. The settings are only read. Answers 0.
+ * Numbers: SENNA_OUT_OF_TURN (not SENNA_OPEN, or the transaction is a batch, which has its objects), SENNA_NO_SUCH_OBJECT (above 63, or opened
+ * already), SENNA_EIGHT_OPEN.
  */
-senna_called senna_coordinator_open_read(uint8_t *record, size_t length, uint8_t me, uint8_t object);
-senna_called senna_coordinator_open_write(uint8_t *record, size_t length, uint8_t me, uint8_t object);
+senna_called senna_coordinator_open_read(uint8_t *record, size_t length, const uint8_t *settings, size_t settings_length, uint8_t me, uint8_t object);
+senna_called senna_coordinator_open_write(uint8_t *record, size_t length, const uint8_t *settings, size_t settings_length, uint8_t me, uint8_t object);
 
 /*
- * Gives an object that was opened to write its new value; the last one given counts. Answers 0.
- * Numbers: SENNA_OUT_OF_TURN (not SENNA_OPEN), SENNA_NO_SUCH_OBJECT (not opened, or opened to read).
+ * Gives an object that was opened to write its new value; the last one given counts. The settings are only read. Answers 0.
+ * Numbers: SENNA_OUT_OF_TURN (not SENNA_OPEN, or the transaction is a batch, which has its amounts), SENNA_NO_SUCH_OBJECT (not opened, or opened to
+ * read).
  */
-senna_called senna_coordinator_set_value(uint8_t *record, size_t length, uint8_t me, uint8_t object, int64_t value);
+senna_called senna_coordinator_set_value(uint8_t *record, size_t length, const uint8_t *settings, size_t settings_length, uint8_t me, uint8_t object,
+                                         int64_t value);
 
 /*
  * The value found for an opened object, in every phase but SENNA_IDLE. The record is lent as non-const and comes back as it was.
@@ -520,11 +654,17 @@ senna_called senna_coordinator_set_value(uint8_t *record, size_t length, uint8_t
 senna_value senna_coordinator_found(uint8_t *record, size_t length, uint8_t me, uint8_t object);
 
 /*
- * Asks for votes; answers the participants, who are the nearest write quorum and every contacted node.
+ * Asks for votes; answers the participants, who are the nearest write quorum and every contacted node. On a batch each object's new value is then the one
+ * found plus its grams. The settings are only read.
  * Numbers, in this order: SENNA_OUT_OF_TURN (not SENNA_OPEN), SENNA_NOT_READY (no object, one not ready, or one to write without its
  * new value), SENNA_NO_QUORUM, SENNA_USED_UP (a written version is 4294967295).
+ *
+ * On a batch SENNA_USED_UP has two reasons, and the answer says which. Answer 0: a written version is 4294967295; nothing has changed, and the batch is
+ * still open. Answer SENNA_ABORTED, where no version is used up: a new value would be above 9223372036854775807 or below -9223372036854775808. The batch
+ * is then given up as by senna_coordinator_abort: only the record has changed, to SENNA_FINISHING with the outcome SENNA_ABORTED; what waits stays. The
+ * host keeps the record's bytes, sends the aborts that are due, and books the weights by a table with another object for that class.
  */
-senna_called senna_coordinator_request_commit(uint8_t *record, size_t length, uint8_t me);
+senna_called senna_coordinator_request_commit(uint8_t *record, size_t length, const uint8_t *settings, size_t settings_length, uint8_t me);
 
 /*
  * Gives the transaction up: the phase is SENNA_FINISHING with the outcome SENNA_ABORTED, or SENNA_IDLE where nobody was contacted. Answers 0.
@@ -606,8 +746,8 @@ uint8_t senna_coordinator_is_ready(const uint8_t *record, size_t length, uint8_t
  *
  * Numbers of every step: SENNA_LENGTH (a lent buffer has another length than it must) and SENNA_DAMAGED (a pool with a count above
  * SENNA_WAITING, a mask above SENNA_ALL, or a record or settings of the node that break a rule) come first, then SENNA_STRANGER for a node
- * above 12, then what its comment says, in the order that it says. On a refusal answer is 0 and every lent byte is as it was. Otherwise every byte that
- * the comment does not name is as it was. No heap; re-entrant.
+ * above 12, then what its comment says, in the order that it says. On a refusal answer is 0 and every lent byte is as it was, but where
+ * senna_station_request_commit gives a batch up. Otherwise every byte that the comment does not name is as it was. No heap; re-entrant.
  */
 
 /*
@@ -618,26 +758,30 @@ uint8_t senna_station_blank(uint8_t *images, size_t images_length, uint8_t *reco
                             size_t pool_length, uint8_t *own, size_t own_length, uint8_t *settings, size_t settings_length, uint16_t on);
 
 /*
- * The host's calls at a node: each is the call of the same name on that node's record (senna_coordinator_begin and so on), with its answer
- * and its numbers. Only the node's record changes. senna_station_begin goes by the node's settings.
+ * The host's calls at a node: each is the call of the same name on that node's record and settings (senna_coordinator_begin and so on), with its answer
+ * and its numbers. Only the node's record changes, and at a begin or a batch its settings. Those that are lent the settings go by them.
  *
- * SENNA_OUT_OF_TURN also where the node is off, before every later number; SENNA_STRANGER, and at begin SENNA_GARBLED and SENNA_BUSY, still precede
- * it.
+ * SENNA_OUT_OF_TURN also where the node is off, before every later number; SENNA_STRANGER, at begin SENNA_GARBLED and SENNA_BUSY, and at batch
+ * SENNA_LENGTH of the list, SENNA_GARBLED and SENNA_BUSY, still precede it. Off, a batch is not given up: SENNA_OUT_OF_TURN, and nothing has changed.
  */
-senna_called senna_station_begin(uint8_t *records, size_t records_length, const uint8_t *own, size_t own_length, const uint8_t *settings,
+senna_called senna_station_begin(uint8_t *records, size_t records_length, const uint8_t *own, size_t own_length, uint8_t *settings,
                                  size_t settings_length, uint8_t node, uint16_t live, const uint8_t *distances, size_t size,
                                  uint32_t timestamp, uint32_t day, uint16_t minute);
+senna_called senna_station_batch(uint8_t *records, size_t records_length, const uint8_t *own, size_t own_length, uint8_t *settings,
+                                 size_t settings_length, uint8_t node, uint16_t live, const uint8_t *distances, size_t distances_length,
+                                 uint32_t timestamp, uint32_t day, uint16_t minute, const uint8_t *list, size_t size);
 senna_called senna_station_reselect(uint8_t *records, size_t records_length, const uint8_t *own, size_t own_length, uint8_t node,
                                     uint16_t live, const uint8_t *distances, size_t size);
-senna_called senna_station_open_read(uint8_t *records, size_t records_length, const uint8_t *own, size_t own_length, uint8_t node,
-                                     uint8_t object);
-senna_called senna_station_open_write(uint8_t *records, size_t records_length, const uint8_t *own, size_t own_length, uint8_t node,
-                                      uint8_t object);
-senna_called senna_station_set_value(uint8_t *records, size_t records_length, const uint8_t *own, size_t own_length, uint8_t node,
-                                     uint8_t object, int64_t value);
+senna_called senna_station_open_read(uint8_t *records, size_t records_length, const uint8_t *own, size_t own_length, const uint8_t *settings,
+                                     size_t settings_length, uint8_t node, uint8_t object);
+senna_called senna_station_open_write(uint8_t *records, size_t records_length, const uint8_t *own, size_t own_length, const uint8_t *settings,
+                                      size_t settings_length, uint8_t node, uint8_t object);
+senna_called senna_station_set_value(uint8_t *records, size_t records_length, const uint8_t *own, size_t own_length, const uint8_t *settings,
+                                     size_t settings_length, uint8_t node, uint8_t object, int64_t value);
 senna_value senna_station_found(uint8_t *records, size_t records_length, const uint8_t *own, size_t own_length, uint8_t node,
                                 uint8_t object);
-senna_called senna_station_request_commit(uint8_t *records, size_t records_length, const uint8_t *own, size_t own_length, uint8_t node);
+senna_called senna_station_request_commit(uint8_t *records, size_t records_length, const uint8_t *own, size_t own_length, const uint8_t *settings,
+                                          size_t settings_length, uint8_t node);
 senna_called senna_station_abort(uint8_t *records, size_t records_length, const uint8_t *own, size_t own_length, uint8_t node);
 
 /*
@@ -647,6 +791,17 @@ senna_called senna_station_abort(uint8_t *records, size_t records_length, const 
  */
 senna_called senna_station_load_hours(const uint8_t *own, size_t own_length, uint8_t *settings, size_t settings_length, uint8_t node,
                                       const uint8_t *list, size_t size);
+
+/*
+ * Loads a table of weight classes for a node, in place of the one before, as senna_load_classes does. Only the node's settings change. Answers 0. What
+ * waits in a class of a node is told by senna_coordinator_waiting on its record, at records + node * SENNA_RECORD, and its settings, at settings + node *
+ * SENNA_SETTINGS.
+ *
+ * Numbers, in this order: SENNA_LENGTH (also of the table), SENNA_DAMAGED, SENNA_STRANGER (node above 12), SENNA_OUT_OF_TURN (the node is off),
+ * SENNA_NO_SUCH_OBJECT, SENNA_BUSY, SENNA_BOUNDS, SENNA_TALLY_TWICE.
+ */
+senna_called senna_station_load_classes(const uint8_t *records, size_t records_length, const uint8_t *own, size_t own_length, uint8_t *settings,
+                                        size_t settings_length, uint8_t node, const uint8_t *list, size_t size);
 
 /*
  * Sends what is due from a node to a node, and while SENNA_OPEN for an object: what senna_coordinator_due would write goes to the pool's end.

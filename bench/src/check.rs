@@ -6,7 +6,7 @@ use crate::fast::Fast;
 use crate::library::{BeginWith, Entries, Entry, Library, Serials, Transaction, ALL, IMAGE, RECORD, SETTINGS, SLOT};
 use crate::product::Product;
 use crate::random::Random;
-use crate::station::{longest_table, Station, Step, TABLES};
+use crate::station::{longest_batch, longest_table, Station, Step, BATCHES, CLASSES, TABLES};
 use crate::walk;
 use std::fmt;
 
@@ -20,7 +20,7 @@ pub struct Counts {
     pub calls: usize,
     pub committed: usize,
     /// How often each number was answered.
-    pub numbers: [usize; 14],
+    pub numbers: [usize; 16],
 }
 
 impl fmt::Display for Counts {
@@ -30,7 +30,7 @@ impl fmt::Display for Counts {
             to,
             "{steps} steps ({accepted} accepted, {committed} commits, {damaged} on damaged bytes, {lengths} with another length), "
         )?;
-        write!(to, "{calls} calls by themselves; the steps' numbers 0 to 13: {numbers:?}")
+        write!(to, "{calls} calls by themselves; the steps' numbers 0 to 15: {numbers:?}")
     }
 }
 
@@ -70,16 +70,17 @@ fn damage(random: &mut Random, station: &mut Station, step: &Step) {
         }
         Step::Begin { node: n, .. } | Step::OpenRead { node: n, .. } | Step::OpenWrite { node: n, .. } => node = usize::from(n).min(12),
         Step::Send { node: n, .. } | Step::SetValue { node: n, .. } | Step::RequestCommit { node: n } => node = usize::from(n).min(12),
-        Step::LoadHours { node: n, .. } => node = usize::from(n).min(12),
+        Step::LoadHours { node: n, .. } | Step::LoadClasses { node: n, .. } | Step::Batch { node: n, .. } => node = usize::from(n).min(12),
         _ => {}
     }
-    match random.below(18) {
+    match random.below(20) {
         0 => station.own[random.below(2)] = random.byte(),
         1 => station.pool[0] = random.byte(),
         2..=5 => station.pool[1 + SLOT * slot + random.below(40)] = byte,
         6..=9 => station.images[IMAGE * node + random.below(IMAGE)] = byte,
         10 => station.images[IMAGE * node + 1090 + random.below(117)] = byte,
         16 | 17 => station.settings[SETTINGS * node + random.below(20)] = byte,
+        18 | 19 => station.settings[SETTINGS * node + 187 + random.below(41)] = byte,
         11 => {
             let place = RECORD * node + [0, 47, 72, 97][random.below(4)];
             station.records[place..place + 4].fill(255);
@@ -124,6 +125,17 @@ macro_rules! both {
     }};
 }
 
+/// The same of a call that changes a record and settings.
+macro_rules! both_of_two {
+    ($record:ident, $settings:ident, $counts:ident, $name:ident($($argument:expr),*)) => {{
+        let (mut one, mut other) = (($record.clone(), $settings.clone()), ($record.clone(), $settings.clone()));
+        let told = Product::$name(&mut one.0, &mut one.1, $($argument),*);
+        same(stringify!($name), told, Fast::$name(&mut other.0, &mut other.1, $($argument),*))?;
+        same(concat!(stringify!($name), ": bytes"), one, other)?;
+        $counts.calls += 1;
+    }};
+}
+
 /// Some bytes of a length, sometimes cut, longer or with a byte replaced.
 fn bent(random: &mut Random, bytes: &[u8]) -> Vec<u8> {
     let mut bytes = bytes.to_vec();
@@ -150,15 +162,24 @@ fn record_calls(random: &mut Random, station: &Station, counts: &mut Counts) -> 
     let (timestamp, value) = (random.next() as u32 >> random.below(32), random.next() as i64);
     let settings = bent(random, station.settings(node));
     let (day, minute) = (random.below(3) as u32, *random.pick(&[0, 599, 600, 650, 699, 700, 10_079, 10_080, 65_535]));
-    both!(record, counts, begin(&settings, me, BeginWith { live, distances: &distances, timestamp, day, minute }));
+    let with = BeginWith { live, distances: &distances, timestamp, day, minute };
+    let list = some_batch(random);
+    both_of_two!(record, settings, counts, begin(me, with));
+    both_of_two!(record, settings, counts, batch(me, with, &list));
     both!(record, counts, reselect(me, live, &distances));
     for object in [object, object & 7] {
-        both!(record, counts, open_read(me, object));
-        both!(record, counts, open_write(me, object));
-        both!(record, counts, set_value(me, object, value));
+        both!(record, counts, open_read(&settings, me, object));
+        both!(record, counts, open_write(&settings, me, object));
+        both!(record, counts, set_value(&settings, me, object, value));
         both!(record, counts, found(me, object));
     }
-    both!(record, counts, request_commit(me));
+    both!(record, counts, request_commit(&settings, me));
+    let table: &[u8] = *random.pick(&CLASSES);
+    let table = bent(random, table);
+    both!(settings, counts, load_classes(&record, me, &table));
+    for class in [0, 1, 7, 8, object] {
+        same("waiting", Product::waiting(&record, &settings, class), Fast::waiting(&record, &settings, class))?;
+    }
     both!(record, counts, abort(me));
     both!(record, counts, blank_record());
     same("check_record", Product::check_record(&record), Fast::check_record(&record))?;
@@ -167,6 +188,18 @@ fn record_calls(random: &mut Random, station: &Station, counts: &mut Counts) -> 
     let (mut one, mut other) = (out.clone(), out);
     same("due", Product::due(&record, me, to, object & 7, &mut one), Fast::due(&record, me, to, object & 7, &mut other))?;
     same("due: bytes", one, other)
+}
+
+/// A batch as it is lent: one of the steps', of any weights, or the longest; sometimes bent.
+fn some_batch(random: &mut Random) -> Vec<u8> {
+    let count = random.below(40);
+    let any = [count as u8, 0].into_iter().chain((0..count).flat_map(|_| (random.below(2001) as u16).to_le_bytes())).collect();
+    let list = match random.below(16) {
+        0 => longest_batch(),
+        1..=7 => random.pick(&BATCHES).to_vec(),
+        _ => any,
+    };
+    bent(random, &list)
 }
 
 /// The calls on settings by themselves.
@@ -182,6 +215,7 @@ fn settings_calls(random: &mut Random, station: &Station, counts: &mut Counts) -
     let list = bent(random, list);
     both!(settings, counts, load_hours(&list));
     both!(settings, counts, blank_settings());
+    same("settings_kind", Product::settings_kind(&settings), Fast::settings_kind(&settings))?;
     same("check_settings", Product::check_settings(&settings), Fast::check_settings(&settings))
 }
 

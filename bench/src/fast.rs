@@ -2,6 +2,7 @@
 //! check of the rules is made, once. It has no unsafe code: lent slices become arrays of fixed length, so few bounds are left to check.
 
 mod bytes;
+mod classes;
 mod coordinator;
 mod due;
 mod hours;
@@ -31,6 +32,8 @@ pub mod number {
     pub const NOT_READY: u8 = 11;
     pub const POOL_FULL: u8 = 12;
     pub const CLOSED: u8 = 13;
+    pub const BOUNDS: u8 = 14;
+    pub const TALLY_TWICE: u8 = 15;
 }
 
 /// Kinds of messages.
@@ -54,6 +57,15 @@ fn told(answer: Answer) -> Told {
     match answer {
         Ok(answer) => Told { number: 0, answer },
         Err(number) => Told { number, answer: 0 },
+    }
+}
+
+/// Votes asked for: participants, or none where a batch was given up.
+fn asked(answer: Result<Option<u64>, u8>) -> Told {
+    match answer {
+        Ok(None) => Told { number: number::USED_UP, answer: 2 },
+        Ok(Some(answer)) => told(Ok(answer)),
+        Err(number) => told(Err(number)),
     }
 }
 
@@ -108,40 +120,50 @@ passed_on! {
     fn check_settings(settings: &[u8]) -> u8 = hours::check(settings);
     fn blank_settings(settings: &mut [u8]) -> u8 = hours::blank(settings);
     fn load_hours(settings: &mut [u8], list: &[u8]) -> u8 = hours::load(settings, list);
-    fn begin(record: &mut [u8], settings: &[u8], me: u8, with: BeginWith) -> Told = told(coordinator::begin_call(record, settings, me, with));
+    fn load_classes(settings: &mut [u8], record: &[u8], me: u8, list: &[u8]) -> Told = told(classes::load_call(settings, record, me, list));
+    fn settings_kind(settings: &[u8]) -> Told = told(classes::kind_call(settings));
+    fn waiting(record: &[u8], settings: &[u8], class: u8) -> Told = told(classes::waiting_call(record, settings, class));
+    fn begin(record: &mut [u8], settings: &mut [u8], me: u8, with: BeginWith) -> Told =
+        told(coordinator::begin_call(record, settings, me, with, None));
+    fn batch(record: &mut [u8], settings: &mut [u8], me: u8, with: BeginWith, list: &[u8]) -> Told =
+        told(coordinator::begin_call(record, settings, me, with, Some(list)));
     fn reselect(record: &mut [u8], me: u8, live: u16, distances: &[u8]) -> Told =
         told(coordinator::on_bytes_with(record, distances, |record, distances| coordinator::reselect(record, me, true, live, distances)));
-    fn open_read(record: &mut [u8], me: u8, object: u8) -> Told =
-        told(coordinator::on_bytes(record, |record| coordinator::open(record, me, true, object, 0)));
-    fn open_write(record: &mut [u8], me: u8, object: u8) -> Told =
-        told(coordinator::on_bytes(record, |record| coordinator::open(record, me, true, object, 1)));
-    fn set_value(record: &mut [u8], me: u8, object: u8, value: i64) -> Told =
-        told(coordinator::on_bytes(record, |record| coordinator::set_value(record, me, true, object, value)));
+    fn open_read(record: &mut [u8], settings: &[u8], me: u8, object: u8) -> Told =
+        told(coordinator::on_both(record, settings, |record, own| coordinator::open(record, me, own, object, 0)));
+    fn open_write(record: &mut [u8], settings: &[u8], me: u8, object: u8) -> Told =
+        told(coordinator::on_both(record, settings, |record, own| coordinator::open(record, me, own, object, 1)));
+    fn set_value(record: &mut [u8], settings: &[u8], me: u8, object: u8, value: i64) -> Told =
+        told(coordinator::on_both(record, settings, |record, own| coordinator::set_value(record, me, own, object, value)));
     fn found(record: &mut [u8], me: u8, object: u8) -> Told =
         told(coordinator::on_bytes(record, |record| coordinator::found(record, me, true, object)));
-    fn request_commit(record: &mut [u8], me: u8) -> Told =
-        told(coordinator::on_bytes(record, |record| coordinator::request_commit(record, me, true)));
+    fn request_commit(record: &mut [u8], settings: &[u8], me: u8) -> Told =
+        asked(coordinator::on_both(record, settings, |record, own| coordinator::request_commit(record, me, true, own)));
     fn abort(record: &mut [u8], me: u8) -> Told = told(coordinator::on_bytes(record, |record| coordinator::abort(record, me, true)));
     fn receive(record: &mut [u8], me: u8, message: &[u8]) -> Told = told(coordinator::receive_call(record, me, message));
     fn due(record: &[u8], me: u8, node: u8, object: u8, out: &mut [u8]) -> Written = written(due::call(record, me, node, object, out));
 
     fn station_blank(lent: Lent, on: u16) -> u8 = station::blank(lent, on);
-    fn station_begin(records: &mut [u8], own: &[u8], settings: &[u8], node: u8, with: BeginWith) -> Told =
-        told(station::begin(records, own, settings, node, with));
+    fn station_begin(records: &mut [u8], own: &[u8], settings: &mut [u8], node: u8, with: BeginWith) -> Told =
+        told(station::begin(records, own, settings, node, with, None));
+    fn station_batch(records: &mut [u8], own: &[u8], settings: &mut [u8], node: u8, with: BeginWith, list: &[u8]) -> Told =
+        told(station::begin(records, own, settings, node, with, Some(list)));
+    fn station_load_classes(records: &[u8], own: &[u8], settings: &mut [u8], node: u8, list: &[u8]) -> Told =
+        told(station::load_classes(records, own, settings, node, list));
     fn station_load_hours(own: &[u8], settings: &mut [u8], node: u8, list: &[u8]) -> Told =
         told(station::load_hours(own, settings, node, list));
     fn station_reselect(records: &mut [u8], own: &[u8], node: u8, live: u16, distances: &[u8]) -> Told =
         told(station::reselect(records, own, node, live, distances));
-    fn station_open_read(records: &mut [u8], own: &[u8], node: u8, object: u8) -> Told =
-        told(station::host(records, own, node, |record, on| coordinator::open(record, node, on, object, 0)));
-    fn station_open_write(records: &mut [u8], own: &[u8], node: u8, object: u8) -> Told =
-        told(station::host(records, own, node, |record, on| coordinator::open(record, node, on, object, 1)));
-    fn station_set_value(records: &mut [u8], own: &[u8], node: u8, object: u8, value: i64) -> Told =
-        told(station::host(records, own, node, |record, on| coordinator::set_value(record, node, on, object, value)));
+    fn station_open_read(records: &mut [u8], own: &[u8], settings: &[u8], node: u8, object: u8) -> Told =
+        told(station::front(records, own, settings, node, |record, on, own| coordinator::open(record, node, on && own, object, 0)));
+    fn station_open_write(records: &mut [u8], own: &[u8], settings: &[u8], node: u8, object: u8) -> Told =
+        told(station::front(records, own, settings, node, |record, on, own| coordinator::open(record, node, on && own, object, 1)));
+    fn station_set_value(records: &mut [u8], own: &[u8], settings: &[u8], node: u8, object: u8, value: i64) -> Told =
+        told(station::front(records, own, settings, node, |record, on, own| coordinator::set_value(record, node, on && own, object, value)));
     fn station_found(records: &mut [u8], own: &[u8], node: u8, object: u8) -> Told =
         told(station::host(records, own, node, |record, on| coordinator::found(record, node, on, object)));
-    fn station_request_commit(records: &mut [u8], own: &[u8], node: u8) -> Told =
-        told(station::host(records, own, node, |record, on| coordinator::request_commit(record, node, on)));
+    fn station_request_commit(records: &mut [u8], own: &[u8], settings: &[u8], node: u8) -> Told =
+        asked(station::front(records, own, settings, node, |record, on, own| coordinator::request_commit(record, node, on, own)));
     fn station_abort(records: &mut [u8], own: &[u8], node: u8) -> Told =
         told(station::host(records, own, node, |record, on| coordinator::abort(record, node, on)));
     fn station_send(records: &[u8], pool: &mut [u8], own: &[u8], node: u8, to: u8, object: u8) -> Told =

@@ -5,7 +5,7 @@ use crate::library::{BeginWith, Chosen, Entries, Library, Told, Written, ALL};
 use crate::product::Product;
 use crate::scenes::{self, Scene};
 use crate::stage::Stage;
-use crate::station::Step;
+use crate::station::{longest_batch, Station, Step, BATCHES, CLASSES, LONGEST_CLASSES};
 use crate::transaction::{self, OWNER};
 use std::hint::black_box;
 
@@ -124,30 +124,53 @@ fn at(minute: u16, distances: &[u8]) -> BeginWith<'_> {
     BeginWith { live: black_box(ALL), distances, timestamp: 77, day: 0, minute: black_box(minute) }
 }
 
+/// Weight classes at a lone node: a table, batches of one weight and of as many as there may be, and votes asked for.
+fn batches(list: &mut Vec<Op>) {
+    let group = "coordinator";
+    let one = || scenes::with_classes(CLASSES[0], BATCHES[1].to_vec());
+    let most = || scenes::with_classes(&LONGEST_CLASSES, longest_batch());
+    op!(list, group, "load classes, 8 classes", scenes::stage(Scene::Idle), |s| {
+        L::load_classes(&mut s.settings, &s.record, black_box(OWNER), &s.classes)
+    });
+    op!(list, group, "batch, 1 weight and 1 class", one(), |s| {
+        L::batch(&mut s.record, &mut s.settings, OWNER, at(600, &s.distances), &s.batch)
+    });
+    op!(list, group, "batch, 4096 weights and 8 classes", most(), |s| {
+        L::batch(&mut s.record, &mut s.settings, OWNER, at(600, &s.distances), &s.batch)
+    });
+    op!(list, group, "waiting", most(), |s| L::waiting(&s.record, &s.settings, black_box(3)));
+    op!(list, group, "request commit, a batch of 8 classes", scenes::batch_ready(), |s| {
+        L::request_commit(&mut s.record, &s.settings, black_box(OWNER))
+    });
+}
+
 fn coordinators(list: &mut Vec<Op>) {
     let stage = scenes::stage;
     let group = "coordinator";
     op!(list, group, "check record, 8 objects", stage(Scene::Voting8), |s| L::check_record(&s.record));
-    op!(list, group, "begin", stage(Scene::Idle), |s| L::begin(&mut s.record, &s.settings, OWNER, at(600, &s.distances)));
+    op!(list, group, "begin", stage(Scene::Idle), |s| L::begin(&mut s.record, &mut s.settings, OWNER, at(600, &s.distances)));
     op!(list, group, "begin, 14 windows and 32 dates", scenes::with_hours(Scene::Idle), |s| {
-        L::begin(&mut s.record, &s.settings, OWNER, at(600, &s.distances))
+        L::begin(&mut s.record, &mut s.settings, OWNER, at(600, &s.distances))
     });
     op!(list, group, "begin, closed", scenes::with_hours(Scene::Idle), |s| L::begin(
         &mut s.record,
-        &s.settings,
+        &mut s.settings,
         OWNER,
         at(599, &s.distances)
     ));
     op!(list, group, "check settings, 14 windows and 32 dates", scenes::with_hours(Scene::Idle), |s| L::check_settings(&s.settings));
     op!(list, group, "load hours, 14 windows and 32 dates", stage(Scene::Idle), |s| L::load_hours(&mut s.settings, &s.table));
-    op!(list, group, "open read", stage(Scene::Begun), |s| L::open_read(&mut s.record, OWNER, black_box(5)));
-    op!(list, group, "open write", stage(Scene::Begun), |s| L::open_write(&mut s.record, OWNER, black_box(5)));
-    op!(list, group, "open the 8th", stage(Scene::Open7), |s| L::open_write(&mut s.record, OWNER, black_box(63)));
-    op!(list, group, "set value", stage(Scene::Open), |s| L::set_value(&mut s.record, OWNER, black_box(0), 42));
+    batches(list);
+    op!(list, group, "open read", stage(Scene::Begun), |s| L::open_read(&mut s.record, &s.settings, OWNER, black_box(5)));
+    op!(list, group, "open write", stage(Scene::Begun), |s| L::open_write(&mut s.record, &s.settings, OWNER, black_box(5)));
+    op!(list, group, "open the 8th", stage(Scene::Open7), |s| L::open_write(&mut s.record, &s.settings, OWNER, black_box(63)));
+    op!(list, group, "set value", stage(Scene::Open), |s| L::set_value(&mut s.record, &s.settings, OWNER, black_box(0), 42));
     op!(list, group, "found", stage(Scene::Ready), |s| L::found(&mut s.record, OWNER, black_box(0)));
     op!(list, group, "reselect", stage(Scene::Open), |s| L::reselect(&mut s.record, OWNER, black_box(ALL & !2), &s.distances));
-    op!(list, group, "request commit", stage(Scene::Ready), |s| L::request_commit(&mut s.record, black_box(OWNER)));
-    op!(list, group, "request commit, 8 objects", stage(Scene::Ready8), |s| L::request_commit(&mut s.record, black_box(OWNER)));
+    op!(list, group, "request commit", stage(Scene::Ready), |s| L::request_commit(&mut s.record, &s.settings, black_box(OWNER)));
+    op!(list, group, "request commit, 8 objects", stage(Scene::Ready8), |s| {
+        L::request_commit(&mut s.record, &s.settings, black_box(OWNER))
+    });
     op!(list, group, "abort", stage(Scene::Open), |s| L::abort(&mut s.record, black_box(OWNER)));
     for (name, stage) in scenes::coordinator() {
         op!(list, "coordinator receive", name, stage, |s| L::receive(&mut s.record, black_box(OWNER), &s.message));
@@ -174,6 +197,13 @@ fn steps(list: &mut Vec<Op>) {
     op!(list, "station step", "begin, closed", scenes::with_hours(Scene::Idle), |s| s.station.take::<L>(&black_box(BEGIN_EARLY)));
     op!(list, "station step", "load hours, 14 windows and 32 dates", scenes::stage(Scene::Idle), |s| {
         L::station_load_hours(&s.station.own, &mut s.station.settings, black_box(OWNER), &s.table)
+    });
+    op!(list, "station step", "load classes, 8 classes", scenes::stage(Scene::Idle), |s| {
+        L::station_load_classes(&s.station.records, &s.station.own, &mut s.station.settings, black_box(OWNER), &s.classes)
+    });
+    op!(list, "station step", "batch, 4096 weights and 8 classes", scenes::with_classes(&LONGEST_CLASSES, longest_batch()), |s| {
+        let Station { records, own, settings, .. } = &mut s.station;
+        L::station_batch(records, own, settings, black_box(OWNER), at(600, &s.distances), &s.batch)
     });
     step!(list, "open read", Scene::Begun, Step::OpenRead { node: OWNER, object: 5 });
     step!(list, "open write", Scene::Begun, Step::OpenWrite { node: OWNER, object: 5 });

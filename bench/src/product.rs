@@ -50,10 +50,27 @@ extern "C" {
     fn senna_check_settings(settings: *const u8, settings_length: usize) -> u8;
     fn senna_blank_settings(settings: *mut u8, settings_length: usize) -> u8;
     fn senna_load_hours(settings: *mut u8, settings_length: usize, list: *const u8, list_length: usize) -> u8;
+    fn senna_load_classes(
+        record: *const u8,
+        record_length: usize,
+        settings: *mut u8,
+        settings_length: usize,
+        me: u8,
+        list: *const u8,
+        list_length: usize,
+    ) -> Told;
+    fn senna_settings_kind(settings: *const u8, settings_length: usize) -> Told;
+    fn senna_coordinator_waiting(
+        record: *const u8,
+        record_length: usize,
+        settings: *const u8,
+        settings_length: usize,
+        class_number: u8,
+    ) -> Told;
     fn senna_coordinator_begin(
         record: *mut u8,
         record_length: usize,
-        settings: *const u8,
+        settings: *mut u8,
         settings_length: usize,
         me: u8,
         live: u16,
@@ -63,6 +80,21 @@ extern "C" {
         day: u32,
         minute: u16,
     ) -> Told;
+    fn senna_coordinator_batch(
+        record: *mut u8,
+        record_length: usize,
+        settings: *mut u8,
+        settings_length: usize,
+        me: u8,
+        live: u16,
+        distances: *const u8,
+        distances_length: usize,
+        timestamp: u32,
+        day: u32,
+        minute: u16,
+        list: *const u8,
+        list_length: usize,
+    ) -> Told;
     fn senna_coordinator_reselect(
         record: *mut u8,
         record_length: usize,
@@ -71,11 +103,34 @@ extern "C" {
         distances: *const u8,
         distances_length: usize,
     ) -> Told;
-    fn senna_coordinator_open_read(record: *mut u8, record_length: usize, me: u8, object: u8) -> Told;
-    fn senna_coordinator_open_write(record: *mut u8, record_length: usize, me: u8, object: u8) -> Told;
-    fn senna_coordinator_set_value(record: *mut u8, record_length: usize, me: u8, object: u8, value: i64) -> Told;
+    fn senna_coordinator_open_read(
+        record: *mut u8,
+        record_length: usize,
+        settings: *const u8,
+        settings_length: usize,
+        me: u8,
+        object: u8,
+    ) -> Told;
+    fn senna_coordinator_open_write(
+        record: *mut u8,
+        record_length: usize,
+        settings: *const u8,
+        settings_length: usize,
+        me: u8,
+        object: u8,
+    ) -> Told;
+    fn senna_coordinator_set_value(
+        record: *mut u8,
+        record_length: usize,
+        settings: *const u8,
+        settings_length: usize,
+        me: u8,
+        object: u8,
+        value: i64,
+    ) -> Told;
     fn senna_coordinator_found(record: *mut u8, record_length: usize, me: u8, object: u8) -> Told;
-    fn senna_coordinator_request_commit(record: *mut u8, record_length: usize, me: u8) -> Told;
+    fn senna_coordinator_request_commit(record: *mut u8, record_length: usize, settings: *const u8, settings_length: usize, me: u8)
+        -> Told;
     fn senna_coordinator_abort(record: *mut u8, record_length: usize, me: u8) -> Told;
     fn senna_coordinator_receive(record: *mut u8, record_length: usize, me: u8, message: *const u8, message_length: usize) -> Told;
     fn senna_coordinator_due(
@@ -105,7 +160,7 @@ extern "C" {
         records_length: usize,
         own: *const u8,
         own_length: usize,
-        settings: *const u8,
+        settings: *mut u8,
         settings_length: usize,
         node: u8,
         live: u16,
@@ -114,6 +169,34 @@ extern "C" {
         timestamp: u32,
         day: u32,
         minute: u16,
+    ) -> Told;
+    fn senna_station_batch(
+        records: *mut u8,
+        records_length: usize,
+        own: *const u8,
+        own_length: usize,
+        settings: *mut u8,
+        settings_length: usize,
+        node: u8,
+        live: u16,
+        distances: *const u8,
+        distances_length: usize,
+        timestamp: u32,
+        day: u32,
+        minute: u16,
+        list: *const u8,
+        list_length: usize,
+    ) -> Told;
+    fn senna_station_load_classes(
+        records: *const u8,
+        records_length: usize,
+        own: *const u8,
+        own_length: usize,
+        settings: *mut u8,
+        settings_length: usize,
+        node: u8,
+        list: *const u8,
+        list_length: usize,
     ) -> Told;
     fn senna_station_load_hours(
         own: *const u8,
@@ -134,19 +217,47 @@ extern "C" {
         distances: *const u8,
         distances_length: usize,
     ) -> Told;
-    fn senna_station_open_read(records: *mut u8, records_length: usize, own: *const u8, own_length: usize, node: u8, object: u8) -> Told;
-    fn senna_station_open_write(records: *mut u8, records_length: usize, own: *const u8, own_length: usize, node: u8, object: u8) -> Told;
+    fn senna_station_open_read(
+        records: *mut u8,
+        records_length: usize,
+        own: *const u8,
+        own_length: usize,
+        settings: *const u8,
+        settings_length: usize,
+        node: u8,
+        object: u8,
+    ) -> Told;
+    fn senna_station_open_write(
+        records: *mut u8,
+        records_length: usize,
+        own: *const u8,
+        own_length: usize,
+        settings: *const u8,
+        settings_length: usize,
+        node: u8,
+        object: u8,
+    ) -> Told;
     fn senna_station_set_value(
         records: *mut u8,
         records_length: usize,
         own: *const u8,
         own_length: usize,
+        settings: *const u8,
+        settings_length: usize,
         node: u8,
         object: u8,
         value: i64,
     ) -> Told;
     fn senna_station_found(records: *mut u8, records_length: usize, own: *const u8, own_length: usize, node: u8, object: u8) -> Told;
-    fn senna_station_request_commit(records: *mut u8, records_length: usize, own: *const u8, own_length: usize, node: u8) -> Told;
+    fn senna_station_request_commit(
+        records: *mut u8,
+        records_length: usize,
+        own: *const u8,
+        own_length: usize,
+        settings: *const u8,
+        settings_length: usize,
+        node: u8,
+    ) -> Told;
     fn senna_station_abort(records: *mut u8, records_length: usize, own: *const u8, own_length: usize, node: u8) -> Told;
     fn senna_station_send(
         records: *const u8,
@@ -270,13 +381,47 @@ impl Library for Product {
         unsafe { senna_load_hours(settings.as_mut_ptr(), settings.len(), list.as_ptr(), list.len()) }
     }
     #[inline(always)]
-    fn begin(record: &mut [u8], settings: &[u8], me: u8, with: BeginWith) -> Told {
+    fn load_classes(settings: &mut [u8], record: &[u8], me: u8, list: &[u8]) -> Told {
+        let (at, length) = (settings.as_mut_ptr(), settings.len());
+        unsafe { senna_load_classes(record.as_ptr(), record.len(), at, length, me, list.as_ptr(), list.len()) }
+    }
+    #[inline(always)]
+    fn settings_kind(settings: &[u8]) -> Told {
+        unsafe { senna_settings_kind(settings.as_ptr(), settings.len()) }
+    }
+    #[inline(always)]
+    fn waiting(record: &[u8], settings: &[u8], class: u8) -> Told {
+        unsafe { senna_coordinator_waiting(record.as_ptr(), record.len(), settings.as_ptr(), settings.len(), class) }
+    }
+    #[inline(always)]
+    fn batch(record: &mut [u8], settings: &mut [u8], me: u8, with: BeginWith, list: &[u8]) -> Told {
+        let BeginWith { live, distances, timestamp, day, minute } = with;
+        unsafe {
+            senna_coordinator_batch(
+                record.as_mut_ptr(),
+                record.len(),
+                settings.as_mut_ptr(),
+                settings.len(),
+                me,
+                live,
+                distances.as_ptr(),
+                distances.len(),
+                timestamp,
+                day,
+                minute,
+                list.as_ptr(),
+                list.len(),
+            )
+        }
+    }
+    #[inline(always)]
+    fn begin(record: &mut [u8], settings: &mut [u8], me: u8, with: BeginWith) -> Told {
         let BeginWith { live, distances, timestamp, day, minute } = with;
         unsafe {
             senna_coordinator_begin(
                 record.as_mut_ptr(),
                 record.len(),
-                settings.as_ptr(),
+                settings.as_mut_ptr(),
                 settings.len(),
                 me,
                 live,
@@ -293,24 +438,24 @@ impl Library for Product {
         unsafe { senna_coordinator_reselect(record.as_mut_ptr(), record.len(), me, live, distances.as_ptr(), distances.len()) }
     }
     #[inline(always)]
-    fn open_read(record: &mut [u8], me: u8, object: u8) -> Told {
-        unsafe { senna_coordinator_open_read(record.as_mut_ptr(), record.len(), me, object) }
+    fn open_read(record: &mut [u8], settings: &[u8], me: u8, object: u8) -> Told {
+        unsafe { senna_coordinator_open_read(record.as_mut_ptr(), record.len(), settings.as_ptr(), settings.len(), me, object) }
     }
     #[inline(always)]
-    fn open_write(record: &mut [u8], me: u8, object: u8) -> Told {
-        unsafe { senna_coordinator_open_write(record.as_mut_ptr(), record.len(), me, object) }
+    fn open_write(record: &mut [u8], settings: &[u8], me: u8, object: u8) -> Told {
+        unsafe { senna_coordinator_open_write(record.as_mut_ptr(), record.len(), settings.as_ptr(), settings.len(), me, object) }
     }
     #[inline(always)]
-    fn set_value(record: &mut [u8], me: u8, object: u8, value: i64) -> Told {
-        unsafe { senna_coordinator_set_value(record.as_mut_ptr(), record.len(), me, object, value) }
+    fn set_value(record: &mut [u8], settings: &[u8], me: u8, object: u8, value: i64) -> Told {
+        unsafe { senna_coordinator_set_value(record.as_mut_ptr(), record.len(), settings.as_ptr(), settings.len(), me, object, value) }
     }
     #[inline(always)]
     fn found(record: &mut [u8], me: u8, object: u8) -> Told {
         unsafe { senna_coordinator_found(record.as_mut_ptr(), record.len(), me, object) }
     }
     #[inline(always)]
-    fn request_commit(record: &mut [u8], me: u8) -> Told {
-        unsafe { senna_coordinator_request_commit(record.as_mut_ptr(), record.len(), me) }
+    fn request_commit(record: &mut [u8], settings: &[u8], me: u8) -> Told {
+        unsafe { senna_coordinator_request_commit(record.as_mut_ptr(), record.len(), settings.as_ptr(), settings.len(), me) }
     }
     #[inline(always)]
     fn abort(record: &mut [u8], me: u8) -> Told {
@@ -344,7 +489,47 @@ impl Library for Product {
         }
     }
     #[inline(always)]
-    fn station_begin(records: &mut [u8], own: &[u8], settings: &[u8], node: u8, with: BeginWith) -> Told {
+    fn station_batch(records: &mut [u8], own: &[u8], settings: &mut [u8], node: u8, with: BeginWith, list: &[u8]) -> Told {
+        let BeginWith { live, distances, timestamp, day, minute } = with;
+        unsafe {
+            senna_station_batch(
+                records.as_mut_ptr(),
+                records.len(),
+                own.as_ptr(),
+                own.len(),
+                settings.as_mut_ptr(),
+                settings.len(),
+                node,
+                live,
+                distances.as_ptr(),
+                distances.len(),
+                timestamp,
+                day,
+                minute,
+                list.as_ptr(),
+                list.len(),
+            )
+        }
+    }
+    #[inline(always)]
+    fn station_load_classes(records: &[u8], own: &[u8], settings: &mut [u8], node: u8, list: &[u8]) -> Told {
+        let (at, length) = (settings.as_mut_ptr(), settings.len());
+        unsafe {
+            senna_station_load_classes(
+                records.as_ptr(),
+                records.len(),
+                own.as_ptr(),
+                own.len(),
+                at,
+                length,
+                node,
+                list.as_ptr(),
+                list.len(),
+            )
+        }
+    }
+    #[inline(always)]
+    fn station_begin(records: &mut [u8], own: &[u8], settings: &mut [u8], node: u8, with: BeginWith) -> Told {
         let BeginWith { live, distances, timestamp, day, minute } = with;
         unsafe {
             senna_station_begin(
@@ -352,7 +537,7 @@ impl Library for Product {
                 records.len(),
                 own.as_ptr(),
                 own.len(),
-                settings.as_ptr(),
+                settings.as_mut_ptr(),
                 settings.len(),
                 node,
                 live,
@@ -384,24 +569,28 @@ impl Library for Product {
         }
     }
     #[inline(always)]
-    fn station_open_read(records: &mut [u8], own: &[u8], node: u8, object: u8) -> Told {
-        unsafe { senna_station_open_read(records.as_mut_ptr(), records.len(), own.as_ptr(), own.len(), node, object) }
+    fn station_open_read(records: &mut [u8], own: &[u8], settings: &[u8], node: u8, object: u8) -> Told {
+        let (at, length) = (settings.as_ptr(), settings.len());
+        unsafe { senna_station_open_read(records.as_mut_ptr(), records.len(), own.as_ptr(), own.len(), at, length, node, object) }
     }
     #[inline(always)]
-    fn station_open_write(records: &mut [u8], own: &[u8], node: u8, object: u8) -> Told {
-        unsafe { senna_station_open_write(records.as_mut_ptr(), records.len(), own.as_ptr(), own.len(), node, object) }
+    fn station_open_write(records: &mut [u8], own: &[u8], settings: &[u8], node: u8, object: u8) -> Told {
+        let (at, length) = (settings.as_ptr(), settings.len());
+        unsafe { senna_station_open_write(records.as_mut_ptr(), records.len(), own.as_ptr(), own.len(), at, length, node, object) }
     }
     #[inline(always)]
-    fn station_set_value(records: &mut [u8], own: &[u8], node: u8, object: u8, value: i64) -> Told {
-        unsafe { senna_station_set_value(records.as_mut_ptr(), records.len(), own.as_ptr(), own.len(), node, object, value) }
+    fn station_set_value(records: &mut [u8], own: &[u8], settings: &[u8], node: u8, object: u8, value: i64) -> Told {
+        let (at, length) = (settings.as_ptr(), settings.len());
+        unsafe { senna_station_set_value(records.as_mut_ptr(), records.len(), own.as_ptr(), own.len(), at, length, node, object, value) }
     }
     #[inline(always)]
     fn station_found(records: &mut [u8], own: &[u8], node: u8, object: u8) -> Told {
         unsafe { senna_station_found(records.as_mut_ptr(), records.len(), own.as_ptr(), own.len(), node, object) }
     }
     #[inline(always)]
-    fn station_request_commit(records: &mut [u8], own: &[u8], node: u8) -> Told {
-        unsafe { senna_station_request_commit(records.as_mut_ptr(), records.len(), own.as_ptr(), own.len(), node) }
+    fn station_request_commit(records: &mut [u8], own: &[u8], settings: &[u8], node: u8) -> Told {
+        let (at, length) = (settings.as_ptr(), settings.len());
+        unsafe { senna_station_request_commit(records.as_mut_ptr(), records.len(), own.as_ptr(), own.len(), at, length, node) }
     }
     #[inline(always)]
     fn station_abort(records: &mut [u8], own: &[u8], node: u8) -> Told {

@@ -1,9 +1,9 @@
 //! The buffers that operations start from: moments of a transaction of node 4 at a station with all nodes on, after one that committed.
 
 use crate::fast::Fast;
-use crate::library::{Entries, Entry, Library, Serials, Transaction, ALL, MESSAGE_MAX, NODES, SETTINGS};
+use crate::library::{BeginWith, Entries, Entry, Library, Serials, Transaction, ALL, MESSAGE_MAX, NODES, SETTINGS};
 use crate::stage::Stage;
-use crate::station::{longest_table, Station, Step};
+use crate::station::{longest_batch, longest_table, Station, Step, LONGEST_CLASSES};
 use crate::transaction::{self, nodes, DISTANCES_USED, OWNER, PARTICIPANTS};
 
 /// A moment of the transaction. It has one object, or as many as the name says.
@@ -84,6 +84,8 @@ fn stage_of(station: Station) -> Stage {
         record: station.record(usize::from(OWNER)).to_vec(),
         settings: station.settings(usize::from(OWNER)).to_vec(),
         table: longest_table(),
+        classes: LONGEST_CLASSES.to_vec(),
+        batch: longest_batch(),
         station,
         message: vec![],
         out: vec![0; MESSAGE_MAX],
@@ -106,6 +108,28 @@ pub fn with_hours(scene: Scene) -> Stage {
     assert_eq!(Fast::load_hours(&mut stage.settings, &longest_table()), 0, "a table is loaded");
     let place = SETTINGS * usize::from(OWNER);
     stage.station.settings[place..place + SETTINGS].copy_from_slice(&stage.settings);
+    stage
+}
+
+/// An idle moment with a table of weight classes loaded, at the owner of the station too, and a batch to be booked.
+pub fn with_classes(classes: &[u8], batch: Vec<u8>) -> Stage {
+    let mut stage = stage(Scene::Idle);
+    assert_eq!(Fast::load_classes(&mut stage.settings, &stage.record, OWNER, classes).number, 0, "a table is loaded");
+    let place = SETTINGS * usize::from(OWNER);
+    stage.station.settings[place..place + SETTINGS].copy_from_slice(&stage.settings);
+    Stage { batch, ..stage }
+}
+
+/// The longest batch of eight classes, whose objects are all ready.
+pub fn batch_ready() -> Stage {
+    let mut stage = with_classes(&LONGEST_CLASSES, longest_batch());
+    let with = BeginWith { live: ALL, distances: &DISTANCES_USED, timestamp: 77, day: 0, minute: 600 };
+    let told = Fast::station_batch(&mut stage.station.records, &stage.station.own, &mut stage.station.settings, OWNER, with, &stage.batch);
+    assert_eq!(told.number, 0, "a batch begins");
+    transaction::send_fetches::<Fast>(&mut stage.station, 8);
+    transaction::deliver_all::<Fast>(&mut stage.station, 0);
+    stage.record = stage.station.record(usize::from(OWNER)).to_vec();
+    stage.settings = stage.station.settings(usize::from(OWNER)).to_vec();
     stage
 }
 

@@ -10,8 +10,10 @@ pub struct Stage {
     pub image: Vec<u8>,
     pub record: Vec<u8>,
     pub settings: Vec<u8>,
-    /// A table of packing hours.
+    /// A table of packing hours, a table of weight classes, a batch.
     pub table: Vec<u8>,
+    pub classes: Vec<u8>,
+    pub batch: Vec<u8>,
     pub message: Vec<u8>,
     pub out: Vec<u8>,
     pub distances: [u8; DISTANCES],

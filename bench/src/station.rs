@@ -73,6 +73,20 @@ pub enum Step {
         node: u8,
         table: u8,
     },
+    LoadClasses {
+        node: u8,
+        table: u8,
+    },
+    /// One of the batches below, by its place.
+    Batch {
+        node: u8,
+        live: u16,
+        distances: [u8; DISTANCES],
+        timestamp: u32,
+        day: u32,
+        minute: u16,
+        batch: u8,
+    },
 }
 
 /// Tables of packing hours that steps load: the week in one window; minutes 600 to 699, with dates; two windows that overlap; three that are refused.
@@ -84,6 +98,31 @@ pub const TABLES: [&[u8]; 6] = [
     &[1, 0x58, 0x02, 0x58, 0x02, 0],
     &[1, 0, 0, 0x61, 0x27, 0],
 ];
+
+/// Tables of weight classes that steps load: one class; two; eight; and those that are refused, with 1, 6, 14 and 15.
+pub const CLASSES: [&[u8]; 8] = [
+    &[0, 1, 7],
+    &[1, 0x12, 0x02, 2, 14, 0],
+    &LONGEST_CLASSES,
+    &[1, 1, 0, 2, 21, 63],
+    &[0, 2, 7],
+    &[0, 1, 64],
+    &[2, 9, 0, 9, 0, 3, 5, 6, 7],
+    &[1, 9, 0, 2, 5, 5],
+];
+
+/// The longest table of classes: eight, in the objects 0, 7, 14, .., by bounds of 200, 400, .. tenths.
+pub const LONGEST_CLASSES: [u8; 24] = [7, 200, 0, 0x90, 1, 0x58, 2, 0x20, 3, 0xe8, 3, 0xb0, 4, 0x78, 5, 8, 0, 7, 14, 21, 28, 35, 42, 49];
+
+/// Batches that steps book: none, 3.7 g, 6.4 g, five weights; and those that are refused, with 1 and 3.
+pub const BATCHES: [&[u8]; 6] =
+    [&[0, 0], &[1, 0, 37, 0], &[1, 0, 64, 0], &[5, 0, 0, 0, 0x12, 2, 0x11, 2, 0xcf, 7, 9, 0], &[2, 0, 37, 0], &[1, 0, 0xd0, 7]];
+
+/// The longest batch: 4,096 weights of all classes.
+pub fn longest_batch() -> Vec<u8> {
+    let weights = (0..4096u32).map(|i| (i * 1237 % 2000) as u16);
+    [4096].into_iter().chain(weights).flat_map(u16::to_le_bytes).collect()
+}
 
 /// The longest table: fourteen windows, of which the last alone has minute 600, and 32 dates.
 pub fn longest_table() -> Vec<u8> {
@@ -143,14 +182,18 @@ impl Station {
         let (records, own) = (&mut self.records[..], &self.own[..]);
         match *step {
             Step::Begin { node, live, ref distances, timestamp, day, minute } => {
-                L::station_begin(records, own, &self.settings, node, BeginWith { live, distances, timestamp, day, minute })
+                L::station_begin(records, own, &mut self.settings, node, BeginWith { live, distances, timestamp, day, minute })
+            }
+            Step::Batch { node, live, ref distances, timestamp, day, minute, batch } => {
+                let (with, list) = (BeginWith { live, distances, timestamp, day, minute }, BATCHES[usize::from(batch) % BATCHES.len()]);
+                L::station_batch(records, own, &mut self.settings, node, with, list)
             }
             Step::Reselect { node, live, ref distances } => L::station_reselect(records, own, node, live, distances),
-            Step::OpenRead { node, object } => L::station_open_read(records, own, node, object),
-            Step::OpenWrite { node, object } => L::station_open_write(records, own, node, object),
-            Step::SetValue { node, object, value } => L::station_set_value(records, own, node, object, value),
+            Step::OpenRead { node, object } => L::station_open_read(records, own, &self.settings, node, object),
+            Step::OpenWrite { node, object } => L::station_open_write(records, own, &self.settings, node, object),
+            Step::SetValue { node, object, value } => L::station_set_value(records, own, &self.settings, node, object, value),
             Step::Found { node, object } => L::station_found(records, own, node, object),
-            Step::RequestCommit { node } => L::station_request_commit(records, own, node),
+            Step::RequestCommit { node } => L::station_request_commit(records, own, &self.settings, node),
             Step::Abort { node } => L::station_abort(records, own, node),
             Step::Send { node, to, object } => L::station_send(records, &mut self.pool, own, node, to, object),
             Step::Deliver { k, kept } => L::station_deliver(self.lent(), k, kept),
@@ -158,6 +201,9 @@ impl Station {
             Step::Switch { node, up } => L::station_switch(&mut self.own, node, up),
             Step::LoadHours { node, table } => {
                 L::station_load_hours(own, &mut self.settings, node, TABLES[usize::from(table) % TABLES.len()])
+            }
+            Step::LoadClasses { node, table } => {
+                L::station_load_classes(records, own, &mut self.settings, node, CLASSES[usize::from(table) % CLASSES.len()])
             }
         }
     }

@@ -71,7 +71,7 @@ fn open_step(random: &mut Random, node: u8, record: &[u8]) -> Step {
     match random.below(20) {
         0 | 1 if more => Step::OpenRead { node, object: random.below(OFTEN) as u8 },
         2 | 3 if more => Step::OpenWrite { node, object: random.below(OFTEN) as u8 },
-        4..=6 => Step::SetValue { node, object, value: random.next() as i64 },
+        4..=6 => Step::SetValue { node, object, value: if random.once_in(4) { i64::MAX } else { random.next() as i64 } },
         7 => Step::Found { node, object },
         8 => Step::Reselect { node, live: live(random), distances: distances(random) },
         9..=11 => Step::RequestCommit { node },
@@ -91,7 +91,12 @@ fn node_step(random: &mut Random, station: &Station, node: u8) -> Step {
             let last = u32::from_le_bytes([record[TIMESTAMP], record[TIMESTAMP + 1], record[TIMESTAMP + 2], record[TIMESTAMP + 3]]);
             let timestamp = last.wrapping_add(random.below(12) as u32);
             let (day, minute) = clock(random);
-            Step::Begin { node, live: live(random), distances: distances(random), timestamp, day, minute }
+            let (live, distances) = (live(random), distances(random));
+            match random.below(8) {
+                0 => Step::LoadClasses { node, table: random.byte() },
+                1 | 2 => Step::Batch { node, live, distances, timestamp, day, minute, batch: random.byte() },
+                _ => Step::Begin { node, live, distances, timestamp, day, minute },
+            }
         }
         1 => open_step(random, node, record),
         2 if random.once_in(60) => Step::Abort { node },
@@ -104,7 +109,17 @@ fn node_step(random: &mut Random, station: &Station, node: u8) -> Step {
 /// A step of any numbers.
 fn any_step(random: &mut Random) -> Step {
     let (node, object) = (random.below(15) as u8, random.below(70) as u8);
-    match random.below(13) {
+    match random.below(15) {
+        13 => Step::LoadClasses { node, table: random.byte() },
+        14 => Step::Batch {
+            node,
+            live: random.word() >> random.below(4),
+            distances: distances(random),
+            timestamp: random.next() as u32 >> 20,
+            day: 7,
+            minute: random.word(),
+            batch: random.byte(),
+        },
         0 => Step::Begin {
             node,
             live: random.word() >> random.below(4),

@@ -12,7 +12,7 @@ enum { ME = 3, OBJECT = 40, OTHER = 7 };
 
 static uint8_t record[SENNA_RECORD];
 static uint8_t before[SENNA_RECORD];
-static uint8_t settings[SENNA_SETTINGS]; /* blank: all hours are open; hours.c has the others */
+static uint8_t settings[SENNA_SETTINGS]; /* blank: all hours are open, no batch; hours.c and classes.c have the others */
 static uint8_t message[SENNA_MESSAGE_MAX];
 static uint8_t distances[SENNA_DISTANCES];
 
@@ -61,12 +61,12 @@ static void one_transaction(void)
     refused(begin(ME, 0, sizeof distances, 5), SENNA_NO_QUORUM, "nobody is live");
     taken(begin(ME, SENNA_ALL, sizeof distances, 5), 1, "begin chooses the root");
     refused(begin(ME, SENNA_ALL, sizeof distances, 9), SENNA_BUSY, "a second begin");
-    refused(senna_coordinator_request_commit(record, sizeof record, ME), SENNA_NOT_READY, "no object yet");
-    taken(senna_coordinator_open_write(record, sizeof record, ME, OBJECT), 0, "open to write");
-    taken(senna_coordinator_open_read(record, sizeof record, ME, OTHER), 0, "open to read");
-    refused(senna_coordinator_open_read(record, sizeof record, ME, OBJECT), SENNA_NO_SUCH_OBJECT, "opened twice");
-    refused(senna_coordinator_set_value(record, sizeof record, ME, OTHER, 1), SENNA_NO_SUCH_OBJECT, "a value set on a read");
-    taken(senna_coordinator_set_value(record, sizeof record, ME, OBJECT, -6), 0, "a new value");
+    refused(senna_coordinator_request_commit(record, sizeof record, settings, sizeof settings, ME), SENNA_NOT_READY, "no object yet");
+    taken(senna_coordinator_open_write(record, sizeof record, settings, sizeof settings, ME, OBJECT), 0, "open to write");
+    taken(senna_coordinator_open_read(record, sizeof record, settings, sizeof settings, ME, OTHER), 0, "open to read");
+    refused(senna_coordinator_open_read(record, sizeof record, settings, sizeof settings, ME, OBJECT), SENNA_NO_SUCH_OBJECT, "opened twice");
+    refused(senna_coordinator_set_value(record, sizeof record, settings, sizeof settings, ME, OTHER, 1), SENNA_NO_SUCH_OBJECT, "a value set on a read");
+    taken(senna_coordinator_set_value(record, sizeof record, settings, sizeof settings, ME, OBJECT, -6), 0, "a new value");
     check(senna_coordinator_count(record, sizeof record) == 2, "two objects");
     check(senna_coordinator_object(record, sizeof record, 0) == OBJECT && senna_coordinator_mode(record, sizeof record, 0) == 1, "the first");
     check(senna_coordinator_is_ready(record, sizeof record, 0) == 0, "not ready yet");
@@ -78,7 +78,7 @@ static void one_transaction(void)
     found = senna_coordinator_found(record, sizeof record, ME, OBJECT);
     check(found.number == SENNA_OK && found.value == -90, "the value found");
     check(memcmp(record, before, sizeof record) == 0, "found leaves every byte");
-    taken(senna_coordinator_request_commit(record, sizeof record, ME), 439, "the participants");
+    taken(senna_coordinator_request_commit(record, sizeof record, settings, sizeof settings, ME), 439, "the participants");
     check(senna_coordinator_participants(record, sizeof record) == 439, "and they are kept");
     check(due(0, 0).length == 43 && message[0] == 3 && message[12] == 2 && message[13] == OTHER && message[27] == OBJECT, "an ask, ascending");
     check(message[29] == 8 && message[33] == 0xfa && message[40] == 0xff, "with the version found and the new value");

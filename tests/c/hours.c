@@ -28,7 +28,7 @@ static unsigned begin(uint32_t timestamp, uint32_t day, unsigned minute)
     got = senna_coordinator_begin(record, sizeof record, settings, sizeof settings, ME, SENNA_ALL, distances, sizeof distances, timestamp, day,
                                   (uint16_t)minute);
     check(got.answer == (got.number == SENNA_OK ? 1u : 0u), "the root, or nothing");
-    check(memcmp(settings, settings_before, sizeof settings) == 0, "a begin leaves the settings");
+    check(memcmp(settings, settings_before, sizeof settings) == 0, "a begin leaves settings in which nothing waits");
     if (got.number == SENNA_OK) {
         check(senna_coordinator_abort(record, sizeof record, ME).number == SENNA_OK, "given up");
     } else {
@@ -124,9 +124,10 @@ static void damaged_settings(void)
         check(memcmp(settings, settings_before, sizeof settings) == 0, "a refusal leaves the settings");
     }
     check(senna_blank_settings(settings, sizeof settings) == SENNA_OK, "blank settings");
-    memset(settings + 3, 0xa5, sizeof settings - 3);
+    memset(settings + 3, 0xa5, 184);  /* behind the lists of the hours */
+    memset(settings + 189, 0xa5, 22); /* and behind those of the classes */
     check(senna_check_settings(settings, sizeof settings) == SENNA_OK && begin(200, 0, OPENS) == SENNA_OK, "what stands behind the lists does not matter");
-    check(load(monday, sizeof monday) == SENNA_OK && settings[11] == 0 && settings[186] == 0 && settings[187] == 0xa5, "a load fills up with zeros");
+    check(load(monday, sizeof monday) == SENNA_OK && settings[11] == 0 && settings[186] == 0 && settings[189] == 0xa5, "a load fills up with zeros");
 }
 
 /* A station's five buffers. */
@@ -140,7 +141,7 @@ static unsigned station_begin(unsigned node, uint32_t timestamp, unsigned minute
     memcpy(all_before, all, sizeof all);
     got = senna_station_begin(records, sizeof records, own, sizeof own, all, sizeof all, (uint8_t)node, SENNA_ALL, distances, sizeof distances,
                               timestamp, 5, (uint16_t)minute);
-    check(memcmp(all, all_before, sizeof all) == 0, "a begin leaves the settings");
+    check(memcmp(all, all_before, sizeof all) == 0, "a begin leaves settings in which nothing waits");
     check(got.number == SENNA_OK || memcmp(records, records_before, sizeof records) == 0, "a refusal leaves the records");
     return got.number;
 }
@@ -170,7 +171,7 @@ static void station(void)
     check(station_begin(6, 1, OPENS - 1) == SENNA_OK && station_begin(4, 1, OPENS) == SENNA_OK, "open at their neighbour, and at its first minute");
     check(station_begin(4, 2, CLOSES) == SENNA_BUSY, "10 comes before 13");
     check(station_load(4, never, sizeof never) == SENNA_OK, "a table while a booking is open");
-    check(senna_station_open_read(records, sizeof records, own, sizeof own, 4, 7).number == SENNA_OK, "which goes on");
+    check(senna_station_open_read(records, sizeof records, own, sizeof own, all, sizeof all, 4, 7).number == SENNA_OK, "which goes on");
     check(senna_station_send(records, sizeof records, pool, sizeof pool, own, sizeof own, 4, 0, 7).number == SENNA_OK, "a fetch");
     check(senna_station_abort(records, sizeof records, own, sizeof own, 4).number == SENNA_OK, "and is given up");
     check(station_load(13, never, sizeof never) == SENNA_STRANGER && station_load(13, never, 1) == SENNA_LENGTH, "4, and 1 before it");

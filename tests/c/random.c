@@ -2,11 +2,13 @@
  * Random bytes at every function of include/senna.h. Half of the calls are clean: right lengths, and bytes of a station that such calls keep
  * going. In the others lengths go from 0 to beyond the right one, and bytes are right, nearly right (one byte changed, or four of them 255), one
  * byte repeated, or random. After each call: no number outside the table, nothing lent altered on a refusal or where it is lent as const, nothing
- * written outside what is lent, and a refusal answers 0 beside its number; a begin was accepted in packing hours, and closed outside of them.
+ * written outside what is lent, and a refusal answers 0 beside its number, but where votes asked for on a batch have given it up; a begin and a batch
+ * were accepted in packing hours, and closed outside of them; no more than 9 tenths wait.
  *
  * What is lent lies against a page that may not be touched, at its end or at its start, or in a heap block of exactly its length, so that the
  * address sanitizer and valgrind see its ends too. --calls N and --seed S: 200,000 calls and seed 1 where nothing is said. So many calls must
- * also have come to every number, to every function's acceptance, to every number of a begin and of a load, and to all that a delivery brings about.
+ * also have come to every number, to every function's acceptance, to every number of a begin, a batch and a load, to a batch given up, and to all that a
+ * delivery brings about.
  */
 #include "check.h"
 
@@ -17,13 +19,14 @@
     F(is_read_quorum) F(is_write_quorum) F(nearest_read) F(nearest_write)                                                                          \
     F(check_message) F(check_image) F(check_record) F(check_settings) F(blank_image) F(blank_record) F(blank_settings)                             \
     F(write_fetch) F(write_copy) F(write_ask) F(write_vote) F(write_outcome) F(write_done) F(write_yield)                                          \
-    F(replica_receive) F(replica_answers) F(load_hours)                                                                                            \
-    F(coordinator_begin) F(coordinator_reselect) F(coordinator_open_read) F(coordinator_open_write) F(coordinator_set_value)                       \
+    F(replica_receive) F(replica_answers) F(load_hours) F(load_classes) F(settings_kind) F(coordinator_waiting)                                    \
+    F(coordinator_begin) F(coordinator_batch) F(coordinator_reselect) F(coordinator_open_read) F(coordinator_open_write) F(coordinator_set_value)  \
     F(coordinator_found) F(coordinator_request_commit) F(coordinator_abort) F(coordinator_receive) F(coordinator_due)                              \
     F(coordinator_phase) F(coordinator_serial) F(coordinator_timestamp) F(coordinator_outcome) F(coordinator_participants)                         \
     F(coordinator_count) F(coordinator_object) F(coordinator_mode) F(coordinator_is_ready)                                                         \
-    F(station_blank) F(station_begin) F(station_reselect) F(station_open_read) F(station_open_write) F(station_set_value)                          \
-    F(station_found) F(station_request_commit) F(station_abort) F(station_load_hours) F(station_send) F(station_deliver)                           \
+    F(station_blank) F(station_begin) F(station_batch) F(station_reselect) F(station_open_read) F(station_open_write)                              \
+    F(station_set_value) F(station_found) F(station_request_commit) F(station_abort)                                                               \
+    F(station_load_hours) F(station_load_classes) F(station_send) F(station_deliver)                                                               \
     F(station_drop) F(station_switch) F(station_waiting) F(station_message)
 
 #define NUMBERED(name) AT_##name,
@@ -33,7 +36,7 @@ static const char *const names[] = {FUNCTIONS(NAMED)};
 
 #define USUAL 200000ul /* calls */
 
-enum { LENDERS = 5, ROOM = 20480, PAGE = 4096, GUARD = 64, RECENT = 16 };
+enum { LENDERS = 5, ROOM = 20480, PAGE = 4096, GUARD = 64, RECENT = 16, LAST_NUMBER = SENNA_TALLY_TWICE };
 
 /* A lent buffer: where it stands, what stood there before the call, and where its bytes came from, if the call is clean. */
 typedef struct lent {
@@ -52,14 +55,15 @@ static unsigned lending;
 
 /* The station that clean calls keep going, and the last messages that were written. */
 static uint8_t images[SENNA_IMAGES], records[SENNA_RECORDS], pool[SENNA_POOL], own[SENNA_OWN], settings[SENNA_STATION_SETTINGS];
-static uint8_t eight_open[SENNA_RECORD], used_up[SENNA_RECORD]; /* records that the station seldom has */
+static uint8_t eight_open[SENNA_RECORD], used_up[SENNA_RECORD], brim[SENNA_RECORD]; /* records that the station seldom has */
+static uint8_t brim_settings[SENNA_SETTINGS];
 static uint8_t recent[RECENT][SENNA_MESSAGE_MAX];
 static size_t recent_length[RECENT];
 static uint32_t timestamps;
 
 static unsigned current;
 static int clean;
-static unsigned long accepted_of[COUNT], faults_of[COUNT], numbers_of[COUNT][SENNA_CLOSED + 1], brought[SENNA_FINISHED + 1];
+static unsigned long accepted_of[COUNT], faults_of[COUNT], numbers_of[COUNT][LAST_NUMBER + 1], brought[SENNA_FINISHED + 1], given_up;
 
 /* ---- Random numbers (xorshift) ---- */
 
@@ -120,6 +124,12 @@ static uint32_t serial(void)
 static uint32_t timestamp(void)
 {
     return below(16) == 0 ? serial() : ++timestamps;
+}
+
+/* A value, now and then at the range's end. */
+static int64_t value(void)
+{
+    return below(4) == 0 ? INT64_MAX - (int64_t)below(40) : (int64_t)draw();
 }
 
 /* A day, mostly one of four; a minute, mostly at an edge of a window that tables often have. */
@@ -278,6 +288,53 @@ static lent *lend_table(void)
     return lend_read(list, size - (below(16) == 0));
 }
 
+/* A table of weight classes: of few bounds, or as many as there may be, in the objects that are booked; now and then with a fault. */
+static lent *lend_classes(void)
+{
+    uint8_t list[SENNA_CLASS_TABLE_MAX];
+    unsigned i, size = 1, count = below(4) == 0 ? below(SENNA_BOUNDS_MAX + 1) : below(3), bound = 0;
+    list[0] = (uint8_t)count;
+    for (i = 0; i < count; i++, size += 2) {
+        bound += 1 + below(200);
+        list[size] = (uint8_t)bound, list[size + 1] = (uint8_t)(bound >> 8);
+    }
+    list[size++] = (uint8_t)(count + 1);
+    for (i = 0; i <= count; i++) {
+        list[size++] = (uint8_t)i;
+    }
+    switch (below(8)) {
+    case 0: list[below(size)] = byte(); break;
+    case 1: list[size - 1] = (uint8_t)(count == 0 ? 64 : 0); break; /* an object twice, or none */
+    case 2: list[1] = 0, list[2] = below(2) ? 0 : list[2]; break;
+    default: break;
+    }
+    return lend_read(list, size - (below(16) == 0));
+}
+
+/* A batch: few weights, none, as many as there may be, or more; now and then too heavy. */
+static lent *lend_batch(void)
+{
+    static uint8_t list[SENNA_BATCH_MAX + 2];
+    unsigned i, kind = below(32), count = kind == 0 ? SENNA_WEIGHTS_MAX : kind == 1 ? SENNA_WEIGHTS_MAX + 1 : below(6);
+    list[0] = (uint8_t)count, list[1] = (uint8_t)(count >> 8);
+    for (i = 0; i < count; i++) {
+        unsigned weight = kind == 2 && i == 0 ? 2000 + below(63536) : below(2000);
+        list[2 + 2 * i] = (uint8_t)weight, list[3 + 2 * i] = (uint8_t)(weight >> 8);
+    }
+    return lend_read(list, 2 + 2 * count);
+}
+
+/* Whether a batch of the length that it says is too long or too heavy. */
+static int is_garbled(const lent *l)
+{
+    size_t i;
+    int heavy = l->length > SENNA_BATCH_MAX;
+    for (i = 2; i + 1 < l->length; i += 2) {
+        heavy |= (l->at[i] | l->at[i + 1] << 8) > 1999;
+    }
+    return heavy;
+}
+
 /* Where a node's settings stand, or any where it is none. */
 static uint8_t *settings_of(unsigned at)
 {
@@ -336,14 +393,19 @@ static void settle(int refused)
     lending = 0;
 }
 
-static void answered(unsigned number)
+static void counts(unsigned number)
 {
-    must(number <= SENNA_CLOSED, "a number outside the table");
+    must(number <= LAST_NUMBER, "a number outside the table");
     must(strcmp(senna_word((uint8_t)number), "unknown") != 0, "a number without a word");
-    if (number <= SENNA_CLOSED) {
+    if (number <= LAST_NUMBER) {
         numbers_of[current][number]++;
     }
     accepted_of[current] += number == SENNA_OK;
+}
+
+static void answered(unsigned number)
+{
+    counts(number);
     settle(number != SENNA_OK);
 }
 
@@ -367,12 +429,25 @@ static void called(senna_called c)
     answered(c.number);
 }
 
-/* A begin, with the settings of its node, if it is one: accepted where they are open, and closed where they are not. */
-static void begun(senna_called c, const uint8_t *s, uint32_t on, unsigned at)
+/* A begin or a batch, with the settings of its node, if it is one: accepted where they are open, and closed where they are not. */
+static void begun(senna_called c, const uint8_t *s, uint32_t on, unsigned at, int garbled)
 {
-    must(c.number != SENNA_OK || (at < SENNA_MINUTES && is_open(s, on, at)), "a begin outside packing hours");
+    must(c.number != SENNA_OK || (at < SENNA_MINUTES && is_open(s, on, at) && !garbled), "a begin outside packing hours, or of a garbled batch");
     must(c.number != SENNA_CLOSED || (at < SENNA_MINUTES && !is_open(s, on, at)), "a begin that is closed in packing hours");
-    must(c.number != SENNA_GARBLED || at >= SENNA_MINUTES, "a minute of the week is refused");
+    must(c.number != SENNA_GARBLED || at >= SENNA_MINUTES || garbled, "a minute of the week is refused");
+    must(c.number != SENNA_OK || senna_check_settings(s, SENNA_SETTINGS) == SENNA_OK, "settings stay settings");
+    called(c);
+}
+
+/* Votes asked for. A batch that is given up is the one refusal that alters something: the record. */
+static void asked(senna_called c)
+{
+    if (c.number == SENNA_USED_UP && c.answer == SENNA_ABORTED) {
+        given_up++;
+        counts(c.number);
+        settle(0);
+        return;
+    }
     called(c);
 }
 
@@ -523,14 +598,37 @@ static void call_replica(void)
     answered(r.number);
 }
 
-/* A table for a lone node. */
-static void call_load(void)
+/* A table for a lone node; what its settings say. */
+static void call_settings(void)
 {
-    uint8_t *home = settings_of(node());
-    lent *s = lend_write(home, SENNA_SETTINGS), *table = lend_table();
-    unsigned number = senna_load_hours(s->at, s->length, table->at, table->length);
-    must(number != SENNA_OK || senna_check_settings(s->at, s->length) == SENNA_OK, "settings stay settings");
-    answered(number);
+    uint8_t me = node(), *home = settings_of(me);
+    lent *s = lend(home, SENNA_SETTINGS, home, current == AT_load_hours || current == AT_load_classes), *r, *table;
+    unsigned number;
+    senna_called c;
+    switch (current) {
+    case AT_load_hours:
+        table = lend_table();
+        number = senna_load_hours(s->at, s->length, table->at, table->length);
+        must(number != SENNA_OK || senna_check_settings(s->at, s->length) == SENNA_OK, "settings stay settings");
+        answered(number);
+        return;
+    case AT_load_classes:
+        r = lend_read(records + (me < SENNA_NODES ? me : 0u) * SENNA_RECORD, SENNA_RECORD);
+        table = lend_classes();
+        c = senna_load_classes(r->at, r->length, s->at, s->length, me, table->at, table->length);
+        must(c.answer == 0 && (c.number != SENNA_OK || senna_check_settings(s->at, s->length) == SENNA_OK), "settings stay settings");
+        break;
+    case AT_settings_kind:
+        c = senna_settings_kind(s->at, s->length);
+        must(c.answer <= SENNA_KIND_BATCH, "a kind");
+        break;
+    default:
+        r = lend_read(records + (me < SENNA_NODES ? me : 0u) * SENNA_RECORD, SENNA_RECORD);
+        c = senna_coordinator_waiting(r->at, r->length, s->at, s->length, below(8) == 0 ? byte() : (uint8_t)below(3));
+        must(c.answer <= 9, "the tenths that wait");
+        break;
+    }
+    called(c);
 }
 
 /* A record of the station, with the number of its node, or of the two others. What does not belong together is not taken home. */
@@ -545,29 +643,63 @@ static lent *lend_record(uint8_t *me)
     return lend(home, SENNA_RECORD, kind == 0 || (current == AT_coordinator_abort && below(8) != 0) ? NULL : home, 1);
 }
 
+/* A batch whose value stands at the range's end, and whose votes are asked for. */
+static void call_brim(void)
+{
+    lent *r = lend(brim, SENNA_RECORD, NULL, 1), *s = lend_read(brim_settings, SENNA_SETTINGS);
+    senna_called c = senna_coordinator_request_commit(r->at, r->length, s->at, s->length, below(8) == 0 ? byte() : 3);
+    must(!clean || c.number == SENNA_STRANGER || (c.number == SENNA_USED_UP && c.answer == SENNA_ABORTED), "a batch past the range is given up");
+    record_stays(r, c.answer == SENNA_ABORTED ? SENNA_OK : c.number);
+    asked(c);
+}
+
 static void call_coordinator(void)
 {
     uint8_t me;
-    lent *r = lend_record(&me), *other, *s;
+    lent *r = lend_record(&me), *other, *s, *list;
     uint32_t on = day();
     uint16_t at = minute();
     senna_called c;
     switch (current) {
     case AT_coordinator_begin:
+    case AT_coordinator_batch:
         other = lend_distances();
-        s = lend_read(settings_of(me), SENNA_SETTINGS);
-        c = senna_coordinator_begin(r->at, r->length, s->at, s->length, me, mask(), other->at, other->length, timestamp(), on, at);
+        s = lend_write(settings_of(me), SENNA_SETTINGS);
+        s->home = r->home == NULL ? NULL : s->home; /* both, or none */
+        if (current == AT_coordinator_begin) {
+            c = senna_coordinator_begin(r->at, r->length, s->at, s->length, me, mask(), other->at, other->length, timestamp(), on, at);
+            record_stays(r, c.number);
+            begun(c, s->at, on, at, 0);
+            return;
+        }
+        list = lend_batch();
+        c = senna_coordinator_batch(r->at, r->length, s->at, s->length, me, mask(), other->at, other->length, timestamp(), on, at, list->at,
+                                    list->length);
         record_stays(r, c.number);
-        begun(c, s->at, on, at);
+        begun(c, s->at, on, at, is_garbled(list));
         return;
     case AT_coordinator_reselect:
         other = lend_distances();
         c = senna_coordinator_reselect(r->at, r->length, me, mask(), other->at, other->length);
         break;
-    case AT_coordinator_open_read: c = senna_coordinator_open_read(r->at, r->length, me, object()); break;
-    case AT_coordinator_open_write: c = senna_coordinator_open_write(r->at, r->length, me, object()); break;
-    case AT_coordinator_set_value: c = senna_coordinator_set_value(r->at, r->length, me, object(), (int64_t)draw()); break;
-    case AT_coordinator_request_commit: c = senna_coordinator_request_commit(r->at, r->length, me); break;
+    case AT_coordinator_open_read:
+        s = lend_read(settings_of(me), SENNA_SETTINGS);
+        c = senna_coordinator_open_read(r->at, r->length, s->at, s->length, me, object());
+        break;
+    case AT_coordinator_open_write:
+        s = lend_read(settings_of(me), SENNA_SETTINGS);
+        c = senna_coordinator_open_write(r->at, r->length, s->at, s->length, me, object());
+        break;
+    case AT_coordinator_set_value:
+        s = lend_read(settings_of(me), SENNA_SETTINGS);
+        c = senna_coordinator_set_value(r->at, r->length, s->at, s->length, me, object(), value());
+        break;
+    case AT_coordinator_request_commit:
+        s = lend_read(settings_of(me), SENNA_SETTINGS);
+        c = senna_coordinator_request_commit(r->at, r->length, s->at, s->length, me);
+        record_stays(r, c.answer == SENNA_ABORTED ? SENNA_OK : c.number);
+        asked(c);
+        return;
     case AT_coordinator_abort: c = senna_coordinator_abort(r->at, r->length, me); break;
     default:
         other = lend_message();
@@ -607,30 +739,46 @@ static void call_record(void)
 /* The host's calls at a station's node. */
 static void call_host(void)
 {
-    lent *r = lend_write(records, SENNA_RECORDS), *o = lend_read(own, SENNA_OWN), *d, *s;
+    lent *r = lend_write(records, SENNA_RECORDS), *o = lend_read(own, SENNA_OWN), *d, *s, *list;
     uint8_t at = node();
     uint32_t today = day();
     uint16_t now = minute();
     senna_called c;
+    s = current == AT_station_begin || current == AT_station_batch ? lend_write(settings, SENNA_STATION_SETTINGS)
+                                                                   : lend_read(settings, SENNA_STATION_SETTINGS);
     switch (current) {
     case AT_station_begin:
         d = lend_distances();
-        s = lend_read(settings, SENNA_STATION_SETTINGS);
         c = senna_station_begin(r->at, r->length, o->at, o->length, s->at, s->length, at, mask(), d->at, d->length, timestamp(), today, now);
-        begun(c, s->at + (at < SENNA_NODES ? at * SENNA_SETTINGS : 0), today, now);
+        begun(c, s->at + (at < SENNA_NODES ? at * SENNA_SETTINGS : 0), today, now, 0);
+        break;
+    case AT_station_batch:
+        d = lend_distances();
+        list = lend_batch();
+        c = senna_station_batch(r->at, r->length, o->at, o->length, s->at, s->length, at, mask(), d->at, d->length, timestamp(), today, now, list->at,
+                                list->length);
+        begun(c, s->at + (at < SENNA_NODES ? at * SENNA_SETTINGS : 0), today, now, is_garbled(list));
         break;
     case AT_station_reselect:
         d = lend_distances();
         called(senna_station_reselect(r->at, r->length, o->at, o->length, at, mask(), d->at, d->length));
         break;
-    case AT_station_open_read: called(senna_station_open_read(r->at, r->length, o->at, o->length, at, object())); break;
-    case AT_station_open_write: called(senna_station_open_write(r->at, r->length, o->at, o->length, at, object())); break;
-    case AT_station_set_value: called(senna_station_set_value(r->at, r->length, o->at, o->length, at, object(), (int64_t)draw())); break;
+    case AT_station_open_read:
+        called(senna_station_open_read(r->at, r->length, o->at, o->length, s->at, s->length, at, object()));
+        break;
+    case AT_station_open_write:
+        called(senna_station_open_write(r->at, r->length, o->at, o->length, s->at, s->length, at, object()));
+        break;
+    case AT_station_set_value:
+        called(senna_station_set_value(r->at, r->length, o->at, o->length, s->at, s->length, at, object(), value()));
+        break;
     case AT_station_found:
         r->writable = 0;
         valued(senna_station_found(r->at, r->length, o->at, o->length, at, object()));
         break;
-    case AT_station_request_commit: called(senna_station_request_commit(r->at, r->length, o->at, o->length, at)); break;
+    case AT_station_request_commit:
+        asked(senna_station_request_commit(r->at, r->length, o->at, o->length, s->at, s->length, at));
+        break;
     default:
         r->home = below(8) == 0 ? r->home : NULL;
         called(senna_station_abort(r->at, r->length, o->at, o->length, at));
@@ -641,9 +789,17 @@ static void call_host(void)
 /* A table for a station's node. */
 static void call_station_load(void)
 {
-    lent *o = lend_read(own, SENNA_OWN), *s = lend_write(settings, SENNA_STATION_SETTINGS), *table = lend_table();
+    lent *o = lend_read(own, SENNA_OWN), *s = lend_write(settings, SENNA_STATION_SETTINGS), *r, *table;
     uint8_t at = node();
-    senna_called c = senna_station_load_hours(o->at, o->length, s->at, s->length, at, table->at, table->length);
+    senna_called c;
+    if (current == AT_station_load_hours) {
+        table = lend_table();
+        c = senna_station_load_hours(o->at, o->length, s->at, s->length, at, table->at, table->length);
+    } else {
+        r = lend_read(records, SENNA_RECORDS);
+        table = lend_classes();
+        c = senna_station_load_classes(r->at, r->length, o->at, o->length, s->at, s->length, at, table->at, table->length);
+    }
     must(c.number != SENNA_OK || senna_check_settings(s->at + at * SENNA_SETTINGS, SENNA_SETTINGS) == SENNA_OK, "settings stay settings");
     called(c);
 }
@@ -720,8 +876,10 @@ static void one_call(void)
         call_write();
     } else if (current <= AT_replica_answers) {
         call_replica();
-    } else if (current == AT_load_hours) {
-        call_load();
+    } else if (current <= AT_coordinator_waiting) {
+        call_settings();
+    } else if (current == AT_coordinator_request_commit && below(8) == 0) {
+        call_brim();
     } else if (current == AT_coordinator_found || (current >= AT_coordinator_due && current <= AT_coordinator_is_ready)) {
         call_record();
     } else if (current <= AT_coordinator_receive) {
@@ -730,11 +888,26 @@ static void one_call(void)
         call_blank();
     } else if (current <= AT_station_abort) {
         call_host();
-    } else if (current == AT_station_load_hours) {
+    } else if (current <= AT_station_load_classes) {
         call_station_load();
     } else {
         call_station();
     }
+}
+
+/* A batch of node 3 that adds 1 gram to an object whose value is the highest there is. */
+static void prepare_brim(const uint8_t *distances)
+{
+    static const uint8_t table[] = {0, 1, 9}, weights[] = {1, 0, 10, 0};
+    uint8_t message[SENNA_MESSAGE_MAX];
+    senna_called c = senna_load_classes(brim, SENNA_RECORD, brim_settings, SENNA_SETTINGS, 3, table, sizeof table);
+    senna_written w;
+    check(c.number == SENNA_OK, "a table of classes");
+    c = senna_coordinator_batch(brim, SENNA_RECORD, brim_settings, SENNA_SETTINGS, 3, SENNA_ALL, distances, SENNA_DISTANCES, 1, 0, 0, weights, sizeof weights);
+    check(c.number == SENNA_OK, "a batch");
+    w = senna_write_copy(message, sizeof message, 0, 3, 1, 1, entry(9, SENNA_WRITE, 4, INT64_MAX));
+    c = senna_coordinator_receive(brim, SENNA_RECORD, 3, message, w.length);
+    check(c.number == SENNA_OK && c.answer == SENNA_READY, "its copy");
 }
 
 /* A record with eight objects open, and one whose last serial is the last there is. */
@@ -745,12 +918,13 @@ static void prepare_records(void)
         senna_coordinator_begin(eight_open, SENNA_RECORD, blank, SENNA_SETTINGS, 3, SENNA_ALL, distances, sizeof distances, 1, 0, 0);
     check(c.number == SENNA_OK, "begin");
     for (i = 0; i < SENNA_ENTRIES; i++) {
-        check(senna_coordinator_open_read(eight_open, SENNA_RECORD, 3, (uint8_t)(20 + i)).number == SENNA_OK, "open");
+        check(senna_coordinator_open_read(eight_open, SENNA_RECORD, blank, SENNA_SETTINGS, 3, (uint8_t)(20 + i)).number == SENNA_OK, "open");
     }
     memset(used_up, 255, 4);
     used_up[4] = 1; /* the last timestamp */
     used_up[8] = SENNA_COMMITTED;
     check(senna_check_record(used_up, SENNA_RECORD) == SENNA_OK, "a record at its last serial");
+    prepare_brim(distances);
 }
 
 static void prepare(void)
@@ -779,6 +953,9 @@ static const struct {
 } reached[] = {
     {AT_coordinator_begin, 0x273f, 0x273f}, {AT_station_begin, 0x273f, 0x253f}, {AT_load_hours, 0x7, 0x7},    {AT_station_load_hours, 0x37, 0x37},
     {AT_check_settings, 0x7, 0x7},          {AT_blank_settings, 0x3, 0x3},      {AT_station_blank, 0x13, 0x13},
+    {AT_coordinator_batch, 0x273f, 0x253f}, {AT_station_batch, 0x273f, 0x253f}, {AT_load_classes, 0xc457, 0xc457},
+    {AT_station_load_classes, 0xc477, 0xc477}, {AT_coordinator_waiting, 0x47, 0x47}, {AT_settings_kind, 0x7, 0x7},
+    {AT_coordinator_request_commit, 0xb37, 0xa37}, {AT_station_request_commit, 0xb37, 0x837},
 };
 
 static void report_reached(void)
@@ -786,7 +963,7 @@ static void report_reached(void)
     unsigned i, number;
     for (i = 0; i < sizeof reached / sizeof reached[0]; i++) {
         const unsigned long *seen = numbers_of[reached[i].function];
-        for (number = 0; number <= SENNA_CLOSED; number++) {
+        for (number = 0; number <= LAST_NUMBER; number++) {
             check(seen[number] == 0 ? (reached[i].must >> number & 1) == 0 : (reached[i].may >> number & 1) != 0, names[reached[i].function]);
         }
     }
@@ -800,12 +977,12 @@ static void report(unsigned long calls)
     for (i = 0; i < COUNT; i++) {
         check(faults_of[i] == 0 && (!enough || accepted_of[i] > 0), names[i]);
     }
-    for (number = 0; number <= SENNA_CLOSED; number++) {
+    for (number = 0; number <= LAST_NUMBER; number++) {
         unsigned long seen = 0;
         for (i = 0; i < COUNT; i++) {
             seen += numbers_of[i][number];
         }
-        printf("%lu %s%s", seen, senna_word((uint8_t)number), number < SENNA_CLOSED ? ", " : "\n");
+        printf("%lu %s%s", seen, senna_word((uint8_t)number), number < LAST_NUMBER ? ", " : "\n");
         check(!enough || seen > 0, senna_word((uint8_t)number));
     }
     if (enough) {
@@ -814,7 +991,8 @@ static void report(unsigned long calls)
     for (i = 0; enough && i <= SENNA_FINISHED; i++) {
         check(brought[i] > 0, "each thing that a delivery brings about");
     }
-    printf("%lu calls of %d functions, %lu committed\n", calls, COUNT, brought[SENNA_COMMITTED]);
+    check(!enough || given_up > 0, "a batch that is given up");
+    printf("%lu calls of %d functions, %lu committed, %lu batches given up\n", calls, COUNT, brought[SENNA_COMMITTED], given_up);
 }
 
 int main(int count, char **words)

@@ -95,14 +95,14 @@ static void one_booking(void)
     refused(deliver(0, 0), SENNA_OUT_OF_TURN, "nothing waits yet");
     taken(begin(ME, 3), 1, "begin chooses the root");
     refused(begin(ME, 4), SENNA_BUSY, "a second begin");
-    taken(senna_station_open_write(it.records, sizeof it.records, it.own, sizeof it.own, ME, OBJECT), 0, "open to write");
-    taken(senna_station_set_value(it.records, sizeof it.records, it.own, sizeof it.own, ME, OBJECT, -250), 0, "a new value");
+    taken(senna_station_open_write(it.records, sizeof it.records, it.own, sizeof it.own, it.settings, sizeof it.settings, ME, OBJECT), 0, "open to write");
+    taken(senna_station_set_value(it.records, sizeof it.records, it.own, sizeof it.own, it.settings, sizeof it.settings, ME, OBJECT, -250), 0, "a new value");
     found = senna_station_found(it.records, sizeof it.records, it.own, sizeof it.own, ME, OBJECT);
     check(found.number == SENNA_NOT_READY && found.value == 0, "nothing came yet");
     there_and_back(0, OBJECT, 1, SENNA_READY);
     found = senna_station_found(it.records, sizeof it.records, it.own, sizeof it.own, ME, OBJECT);
     check(found.number == SENNA_OK && found.value == 0, "the blank value is found");
-    taken(senna_station_request_commit(it.records, sizeof it.records, it.own, sizeof it.own, ME), PARTY, "the participants");
+    taken(senna_station_request_commit(it.records, sizeof it.records, it.own, sizeof it.own, it.settings, sizeof it.settings, ME), PARTY, "the participants");
     for (node = 0; node < SENNA_NODES; node++) {
         if ((PARTY >> node) % 2 == 1) {
             there_and_back(node, 0, 3, node == 8 ? SENNA_COMMITTED : SENNA_NOTHING);
@@ -126,7 +126,7 @@ static void one_booking(void)
 static void off_and_on(void)
 {
     taken(begin(ME, 9), 1, "a second booking");
-    taken(senna_station_open_read(it.records, sizeof it.records, it.own, sizeof it.own, ME, OBJECT), 0, "open to read");
+    taken(senna_station_open_read(it.records, sizeof it.records, it.own, sizeof it.own, it.settings, sizeof it.settings, ME, OBJECT), 0, "open to read");
     taken(send_to(0, OBJECT), 0, "a fetch");
     taken(senna_station_switch(it.own, sizeof it.own, 0, 0), 0, "the root is switched off");
     taken(senna_station_switch(it.own, sizeof it.own, 0, 0), 0, "and again");

@@ -4,14 +4,15 @@
 #include "check.h"
 
 static const char *const words[] = {"ok",         "length",    "damaged",        "garbled", "stranger",  "out of turn", "no such tally",
-                                    "eight open", "no quorum", "number used up", "busy",    "not ready", "pool full",   "closed"};
+                                    "eight open", "no quorum", "number used up", "busy",    "not ready", "pool full",   "closed",
+                                    "bounds",     "tally twice"};
 
 int main(void)
 {
     unsigned number;
-    check(sizeof words / sizeof words[0] == SENNA_CLOSED + 1, "a word for each number");
+    check(sizeof words / sizeof words[0] == SENNA_TALLY_TWICE + 1, "a word for each number");
     for (number = 0; number <= 255; number++) {
-        const char *expected = number <= SENNA_CLOSED ? words[number] : "unknown";
+        const char *expected = number <= SENNA_TALLY_TWICE ? words[number] : "unknown";
         check(strcmp(senna_word((uint8_t)number), expected) == 0, expected);
     }
     return closing();

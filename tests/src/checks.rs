@@ -1,5 +1,6 @@
 //! The checks, a module for each part of the product.
 
+pub mod classes;
 pub mod coordinator;
 pub mod hours;
 pub mod image;

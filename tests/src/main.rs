@@ -49,6 +49,7 @@ fn main() -> ExitCode {
     checks::replica::run(&mut runner);
     checks::coordinator::run(&mut runner);
     checks::hours::run(&mut runner);
+    checks::classes::run(&mut runner);
     checks::station::run(&mut runner);
     checks::program::run(&mut runner, &program);
     checks::station_program::run(&mut runner, &station_program);

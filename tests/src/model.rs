@@ -4,6 +4,7 @@
 
 pub mod buffers;
 mod bytes;
+pub mod classes;
 pub mod coordinator;
 pub mod history;
 pub mod hours;
@@ -14,6 +15,7 @@ pub mod quorum;
 pub mod record;
 pub mod replica;
 pub mod script;
+pub mod settings;
 pub mod station;
 
 /// Objects (document 01: tallies) are 0 to 63.
@@ -35,9 +37,11 @@ pub mod number {
     pub const NOT_READY: u8 = 11;
     pub const POOL_FULL: u8 = 12;
     pub const CLOSED: u8 = 13;
+    pub const BOUNDS: u8 = 14;
+    pub const TALLY_TWICE: u8 = 15;
 
     /// How many there are, 0 too.
-    pub const COUNT: usize = 14;
+    pub const COUNT: usize = 16;
 }
 
 /// A rule broken on purpose, to see that the check of demand 3 notices. The model itself has none.

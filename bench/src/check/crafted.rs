@@ -127,7 +127,10 @@ pub fn at_coordinator(random: &mut Random, station: &Station, counts: &mut Count
         same("due: bytes", one, other)?;
     }
     let (mut one, mut other) = (record.clone(), record.clone());
-    same("request_commit", Product::request_commit(&mut one, me), Fast::request_commit(&mut other, me))?;
+    let mut settings = station.settings(usize::from(me)).to_vec();
+    settings[211] = random.below(2) as u8;
+    let asked = Product::request_commit(&mut one, &settings, me);
+    same("request_commit", asked, Fast::request_commit(&mut other, &settings, me))?;
     same("request_commit: bytes", one, other)?;
     for _ in 0..3 {
         let message = answer_to(random, &record, me);

@@ -1,6 +1,7 @@
 //! The coordinator's calls and deliveries, on a record that was found in order. Each finds its refusal, then changes a few bytes.
 
 use super::bytes::{get_u16, get_u32, get_u64, put_u16, put_u32, put_u64};
+use super::classes;
 use super::hours::{self, Settings};
 use super::kind::{COPY, DONE, VOTE, YIELD};
 use super::message::{self, SHORTEST};
@@ -37,6 +38,17 @@ pub fn on_bytes_with(record: &mut [u8], distances: &[u8], call: impl FnOnce(&mut
     call(checked(record)?, distances)
 }
 
+/// A call on the bytes of a record and of settings, which is told whether the transaction is the host's own.
+#[inline(always)]
+pub fn on_both<T>(record: &mut [u8], settings: &[u8], call: impl FnOnce(&mut Record, bool) -> Result<T, u8>) -> Result<T, u8> {
+    let settings: &Settings = settings.try_into().map_err(|_| number::LENGTH)?;
+    let record = checked(record)?;
+    if !hours::is_valid(settings) {
+        return Err(number::DAMAGED);
+    }
+    call(record, settings[classes::KIND] == classes::OWN)
+}
+
 /// The first refusals of most calls: 4 for what is no node, 5 where it is off or the phase is another.
 #[inline(always)]
 fn turn(me: u8, on: bool, fits: bool) -> Result<(), u8> {
@@ -57,22 +69,40 @@ fn select(record: &mut Record, live: u16, distances: &[u8; DISTANCES], quorum: u
     put_u16(record, record::QUORUM, quorum);
 }
 
-/// A begin on the bytes of a record and of settings.
+/// The weights of a batch, if it is one.
+pub type Weights<'a> = Option<&'a [[u8; 2]]>;
+
+/// A begin on the bytes of a record and of settings; with a list it is a batch.
 #[inline(always)]
-pub fn begin_call(record: &mut [u8], settings: &[u8], me: u8, with: BeginWith) -> Answer {
-    let settings: &Settings = settings.try_into().map_err(|_| number::LENGTH)?;
+pub fn begin_call(record: &mut [u8], settings: &mut [u8], me: u8, with: BeginWith, list: Option<&[u8]>) -> Answer {
+    let settings: &mut Settings = settings.try_into().map_err(|_| number::LENGTH)?;
+    let weights = list.map(classes::weights).transpose()?;
     on_bytes_with(record, with.distances, |record, distances| {
         if !hours::is_valid(settings) {
             return Err(number::DAMAGED);
         }
-        begin(record, settings, me, true, distances, with)
+        begin(record, settings, me, true, distances, with, weights)
     })
 }
 
+/// 3 of a begin or a batch, whatever its node.
 #[inline(always)]
-pub fn begin(record: &mut Record, settings: &Settings, me: u8, on: bool, distances: &[u8; DISTANCES], with: BeginWith) -> Answer {
+pub fn is_garbled(minute: u16, weights: Weights) -> bool {
+    minute > hours::LAST_MINUTE || weights.is_some_and(classes::is_garbled)
+}
+
+#[inline(always)]
+pub fn begin(
+    record: &mut Record,
+    settings: &mut Settings,
+    me: u8,
+    on: bool,
+    distances: &[u8; DISTANCES],
+    with: BeginWith,
+    weights: Weights,
+) -> Answer {
     let BeginWith { live, timestamp, day, minute, .. } = with;
-    if minute > hours::LAST_MINUTE {
+    if is_garbled(minute, weights) {
         return Err(number::GARBLED);
     }
     if me > 12 || live > ALL {
@@ -81,7 +111,8 @@ pub fn begin(record: &mut Record, settings: &Settings, me: u8, on: bool, distanc
     if record[record::PHASE] != IDLE {
         return Err(number::BUSY);
     }
-    if !on || timestamp <= get_u32(record, record::TIMESTAMP) {
+    let no_table = || classes::kept(settings).is_none_or(|table| table.is_none());
+    if !on || timestamp <= get_u32(record, record::TIMESTAMP) || (weights.is_some() && no_table()) {
         return Err(number::OUT_OF_TURN);
     }
     let (quorum, _) = quorum::nearest_read(live, distances).ok_or(number::NO_QUORUM)?;
@@ -92,10 +123,24 @@ pub fn begin(record: &mut Record, settings: &Settings, me: u8, on: bool, distanc
     if hours::is_closed(settings, day, minute) {
         return Err(number::CLOSED);
     }
+    let waited = classes::tenths(record, settings);
     put_u32(record, record::SERIAL, serial + 1);
     put_u32(record, record::TIMESTAMP, timestamp);
     record[record::PHASE] = OPEN;
     select(record, live, distances, quorum);
+    match weights.zip(classes::kept(settings)) {
+        None => classes::settle(settings, classes::OWN, waited, [0; 8]),
+        Some((weights, table)) => {
+            let (grams, left) = table.split(waited, weights);
+            record[record::COUNT] = table.objects.len() as u8;
+            put_u16(record, record::CONTACTED, quorum);
+            for ((opened, &object), grams) in record::objects_mut(record).iter_mut().zip(table.objects).zip(grams) {
+                (opened[0], opened[record::MODE], opened[record::GIVEN]) = (object, 1, 1);
+                put_u64(opened, record::NEW, grams);
+            }
+            classes::settle(settings, classes::BATCH, waited, left);
+        }
+    }
     Ok(u64::from(quorum))
 }
 
@@ -157,8 +202,9 @@ pub fn found(record: &Record, me: u8, on: bool, object: u8) -> Answer {
     }
 }
 
+/// Participants; none where it is a batch that is given up.
 #[inline(always)]
-pub fn request_commit(record: &mut Record, me: u8, on: bool) -> Answer {
+pub fn request_commit(record: &mut Record, me: u8, on: bool, own: bool) -> Result<Option<u64>, u8> {
     turn(me, on, record[record::PHASE] == OPEN)?;
     let objects = record::objects(record);
     if objects.is_empty() || !objects.iter().all(record::is_settled) {
@@ -169,10 +215,28 @@ pub fn request_commit(record: &mut Record, me: u8, on: bool) -> Answer {
     if objects.iter().any(record::is_used_up) {
         return Err(number::USED_UP);
     }
+    if !own && !add(record) {
+        give_up(record);
+        return Ok(None);
+    }
     let participants = quorum | get_u16(record, record::CONTACTED);
     record[record::PHASE] = VOTING;
     put_u16(record, record::PARTICIPANTS, participants);
-    Ok(u64::from(participants))
+    Ok(Some(u64::from(participants)))
+}
+
+/// Each amount of a batch becomes the value found and the amount; false where one is past the range, and then nothing has changed.
+#[inline(always)]
+fn add(record: &mut Record) -> bool {
+    let sum = |opened: &[u8; record::OBJECT]| (get_u64(opened, record::VALUE) as i64).checked_add(get_u64(opened, record::NEW) as i64);
+    let fits = record::objects(record).iter().all(|opened| sum(opened).is_some());
+    if fits {
+        for opened in record::objects_mut(record).iter_mut().filter(|opened| opened[record::MODE] == 1) {
+            let sum = sum(opened).unwrap_or(0);
+            put_u64(opened, record::NEW, sum as u64);
+        }
+    }
+    fits
 }
 
 /// Only serial, timestamp and outcome stay.

@@ -1,7 +1,7 @@
 //! Packing hours where they stand: a table as it is lent, and the settings that keep it.
 
 use super::bytes::{get_u16, get_u32};
-use super::number;
+use super::{classes, number};
 use crate::library::SETTINGS;
 
 pub type Settings = [u8; SETTINGS];
@@ -37,15 +37,16 @@ fn is_sound(table: &Table) -> bool {
     table.windows.len() <= 14 && table.dates.len() <= 32 && table.windows.iter().all(sound)
 }
 
+/// Settings in order, behind the hours too.
 #[inline(always)]
 pub fn is_valid(settings: &Settings) -> bool {
-    settings[0] <= 1 && front(&settings[1..]).is_some_and(|table| is_sound(&table))
+    settings[0] <= 1 && front(&settings[1..KEPT]).is_some_and(|table| is_sound(&table)) && classes::is_valid(settings)
 }
 
 /// Whether settings that are valid are closed.
 #[inline(always)]
 pub fn is_closed(settings: &Settings, day: u32, minute: u16) -> bool {
-    let Some(table) = front(&settings[1..]).filter(|_| settings[0] != 0) else { return false };
+    let Some(table) = front(&settings[1..KEPT]).filter(|_| settings[0] != 0) else { return false };
     let has = |window: &[u8; 4]| get_u16(window, 0) <= minute && minute < get_u16(window, 2);
     !table.windows.iter().any(has) || table.dates.iter().any(|date| get_u32(date, 0) == day)
 }

@@ -7,7 +7,7 @@ use super::kind::{ASK, FETCH, OUTCOME};
 use super::pool::{self, Pool};
 use super::record::{self, Record};
 use super::replica::{self, Plan};
-use super::{coordinator, due, hours, message, number, Answer};
+use super::{classes, coordinator, due, hours, message, number, Answer};
 use crate::library::{BeginWith, Lent, ALL, DISTANCES, IMAGES, OWN, RECORDS, STATION_SETTINGS, WAITING};
 
 /// Lent bytes of a length, or 1.
@@ -59,19 +59,60 @@ pub fn host(records: &mut [u8], own: &[u8], node: u8, call: impl FnOnce(&mut Rec
     call(record_of(records, node)?, is_on(on, node))
 }
 
-pub fn begin(records: &mut [u8], own: &[u8], settings: &[u8], node: u8, with: BeginWith) -> Answer {
-    let (distances, settings) = (sized::<DISTANCES>(with.distances)?, sized::<STATION_SETTINGS>(settings)?);
+/// A host call at a node that goes by its settings: it is told whether the node is on and whether the transaction is the host's own.
+#[inline(always)]
+pub fn front<T>(
+    records: &mut [u8],
+    own: &[u8],
+    settings: &[u8],
+    node: u8,
+    call: impl FnOnce(&mut Record, bool, bool) -> Result<T, u8>,
+) -> Result<T, u8> {
     let (records, own) = (sized_mut(records)?, sized(own)?);
+    let settings = sized::<STATION_SETTINGS>(settings)?;
     let on = nodes_on(own)?;
-    if node > 12 && with.minute > hours::LAST_MINUTE {
-        return Err(number::GARBLED);
-    }
     let record = record_of(records, node)?;
     let settings: &Settings = &settings.as_chunks().0[usize::from(node)];
     if !hours::is_valid(settings) {
         return Err(number::DAMAGED);
     }
-    coordinator::begin(record, settings, node, is_on(on, node), distances, with)
+    call(record, is_on(on, node), settings[classes::KIND] == classes::OWN)
+}
+
+/// A begin; with a list it is a batch.
+pub fn begin(records: &mut [u8], own: &[u8], settings: &mut [u8], node: u8, with: BeginWith, list: Option<&[u8]>) -> Answer {
+    let (distances, settings) = (sized::<DISTANCES>(with.distances)?, sized_mut::<STATION_SETTINGS>(settings)?);
+    let (records, own) = (sized_mut(records)?, sized(own)?);
+    let weights = list.map(classes::weights).transpose()?;
+    let on = nodes_on(own)?;
+    if node > 12 && coordinator::is_garbled(with.minute, weights) {
+        return Err(number::GARBLED);
+    }
+    let record = record_of(records, node)?;
+    let settings: &mut Settings = &mut settings.as_chunks_mut().0[usize::from(node)];
+    if !hours::is_valid(settings) {
+        return Err(number::DAMAGED);
+    }
+    coordinator::begin(record, settings, node, is_on(on, node), distances, with, weights)
+}
+
+pub fn load_classes(records: &[u8], own: &[u8], settings: &mut [u8], node: u8, list: &[u8]) -> Answer {
+    let (records, own) = (sized::<RECORDS>(records)?, sized(own)?);
+    let settings = sized_mut::<STATION_SETTINGS>(settings)?;
+    let table = classes::lent(list)?;
+    let on = nodes_on(own)?;
+    if node > 12 {
+        return Err(number::STRANGER);
+    }
+    let record: &Record = &records.as_chunks().0[usize::from(node)];
+    let settings: &mut Settings = &mut settings.as_chunks_mut().0[usize::from(node)];
+    if !record::is_valid(record) || !hours::is_valid(settings) {
+        return Err(number::DAMAGED);
+    }
+    if !is_on(on, node) {
+        return Err(number::OUT_OF_TURN);
+    }
+    classes::load(settings, record[record::PHASE] == record::IDLE, &table, list)
 }
 
 pub fn load_hours(own: &[u8], settings: &mut [u8], node: u8, list: &[u8]) -> Answer {

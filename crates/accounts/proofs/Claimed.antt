@@ -1,156 +1,112 @@
--- Demand 3 and the numbers of deliveries of every list of the service's steps, from crate history's theorem of the machine's steps that it makes. The idea:
--- the service's account is, by one path, the account whose every part is read from the machine (Same); the claims of that one are the machine's own.
-use mathlib.Core.Path.{_≡_, refl, sym, ap₂, subst, toPathP}
-use mathlib.Core.Bool.{Bool, true, false, cond, Bool-set}
-use mathlib.Core.List.{List, [], _∷_, _++_}
+-- Demand 3, the numbers of deliveries and the sums of every list of the service's steps, from an origin that is at rest: the claims with replay as the
+-- machine has it (OnMachine), where replay that adds is the same (Effects). The blank service is an origin, and so is what a list leaves at rest.
+use mathlib.Core.Path.{_≡_, refl, sym, subst, _∙_}
+use mathlib.Core.Logic.{inl, inr}
+use mathlib.Core.List.{List, []}
 use Prim.Native.Nat.{ℕ}
-use lib.Dec.{eqb}
+use native.Mathlib.Omega.{arith}
+use Rattle.parts.specs.Parts.{part}
+use Rattle.wire.specs.declared.Entry.{Entry}
+use Rattle.settings.proofs.Sound.{blank-number}
 use Rattle.steps.specs.Station.{Station, Quiescent}
-use Rattle.steps.specs.Step.{delivery, found}
-use Rattle.steps.specs.Step.{Call as Step, begin as beginStep}
-use Rattle.coordinator.specs.State.{committed}
-use Rattle.protocol.specs.Table.{Suffix}
+use Rattle.protocol.specs.Table.{In, Suffix}
 use Rattle.protocol.specs.State.{Tx}
-use Rattle.protocol.specs.Proof.Tables.{clash}
-use Rattle.history.specs.Ledger.{Ledger, givenTo}
+use Rattle.protocol.specs.Proof.Lists.{suffix-tail}
+use Rattle.history.specs.Ledger.{ledgerFrom}
+use Rattle.history.specs.Ledger.{lastValue as machineLast, givenTo as machineGiven}
+use Rattle.history.specs.Origin.{ledgerOf}
 use Rattle.history.specs.Origin.{Rested as MachineRested, originOf as machineOf}
-use Rattle.history.specs.Claims.{Account, Demand3, DeliveryNumbers, Finds, Ripe, Commits, Ripens}
-use Rattle.history.specs.Claims.{reached as machineReached, told as machineTold, votes as machineVotes, account as machineAccount}
-use Rattle.history.proofs.Claimed.{demand-3 as machine-demand-3}
-use Rattle.history.proofs.Numbered.{delivery-number as machine-delivery-number}
+use Rattle.history.specs.Claims.{Demand3, DeliveryNumbers, Finds, Carries, Sourced}
+use Rattle.history.specs.Claims.{AllTyped as AllStepsTyped}
+use Rattle.history.proofs.Claimed.{typed-suffix}
+use Rattle.history.proofs.Resting.{carried-last}
 use Rattle.history.proofs.Resting.{rests as machine-rests}
 use Rattle.history.proofs.Origins.{blank-rested as machine-blank-rested}
-use Rattle.service.specs.Service.{Service, Call, begin, loadHours, plain, isBegin, begunNumber, step}
-use Rattle.accounts.specs.Accounts.{Origin, Rested, blankOrigin, originOf, AllTyped, reached, told, account}
-use Rattle.accounts.proofs.Expand.{expand, expand-suffix, suffix-expand, expand-typed}
-use Rattle.accounts.proofs.Same.{same-machine, same-told, same-votes}
+use Rattle.service.specs.Service.{Call}
+use Rattle.accounts.specs.Accounts.{Origin, Rested, blankOrigin, AllTyped, reached, expand, told, effects, lastValue, gaveTo, account}
+use Rattle.accounts.specs.Claims.{AddsExactly}
+use Rattle.accounts.specs.Weighed.{originOf}
+use Rattle.accounts.proofs.Expand.{same-machine, expand-suffix}
+use Rattle.accounts.proofs.OnMachine.{plain-demand, plain-numbers}
+use Rattle.accounts.proofs.Typed.{settings-sound, settings-long, expand-typed}
+use Rattle.accounts.proofs.Weighed.{weighs}
+use Rattle.accounts.proofs.Effects.{last-same, given-same, gave-same, gives-exactly}
 
--- which step of the machine a plain one is, is all that it is
-plain-same : (c d : Step) (p : isBegin c ≡ false) (q : isBegin d ≡ false) → c ≡ d → plain c p ≡ plain d q
-plain-same c d p q e =
-    let s = toPathP (λ i. isBegin (e i) ≡ false) (Bool-set _ _ _ q) in
-    λ i. plain (e i) (s i)
+-- before the first step nothing adds: replay is the machine's
+first-last : (o : Origin) (t : ℕ) → account o .last [] t ≡ machineLast (ledgerOf (o .machine)) t
+unfolding lastValue machineLast ledgerFrom
+first-last o t = refl
 
-module _ (o : Origin) where
-  -- ---- the account read from the machine
-  abbrev serviceOn : List Call → Service
-  serviceOn cs = record { machine = machineReached (o .machine) (expand o cs); settings = reached o cs .settings }
-
-  abbrev onMachine : Account Call
-  onMachine =
-      record {
-        carried = o .machine .carried .txs;
-        reached = λ cs. machineReached (o .machine) (expand o cs);
-        told = λ cs. machineTold (o .machine) (expand o cs);
-        votes = λ cs. machineVotes (o .machine) (expand o cs);
-        number = λ ds c. step (serviceOn ds) c .number;
-        answer = λ ds c. step (serviceOn ds) c .answer;
-        put = λ ds c. step (serviceOn ds) c .put;
-        deliver = λ k kept. plain (delivery k kept) refl;
-        find = λ n t. plain (found n t) refl;
-      }
-
-  same-service : (cs : List Call) → reached o cs ≡ serviceOn cs
-  same-service cs = λ i. record { machine = same-machine o cs i; settings = reached o cs .settings }
-
-  same-account : account o ≡ onMachine
-  same-account = λ i. record {
-    carried = o .machine .carried .txs;
-    reached = λ cs. same-machine o cs i;
-    told = λ cs. same-told o cs i;
-    votes = λ cs. same-votes o cs i;
-    number = λ ds c. step (same-service ds i) c .number;
-    answer = λ ds c. step (same-service ds i) c .answer;
-    put = λ ds c. step (same-service ds i) c .put;
-    deliver = λ k kept. plain (delivery k kept) refl;
-    find = λ n t. plain (found n t) refl;
-  }
-
-  module _ (r : Rested o) (cs : List Call) (a : AllTyped cs) where
-    machine-claims : Demand3 (machineAccount (o .machine)) (expand o cs)
-    machine-claims = machine-demand-3 (o .machine) r (expand o cs) (expand-typed o cs a)
-
-    -- ---- what 'committed' means
-    commits-ripen : (x : Tx) (c : Call) (ds : List Call) → Suffix (c ∷ ds) cs → Commits onMachine ds c x → Ripens onMachine ds c x
-    unfolding step
-    commits-ripen x c ds s z =
-        subst (λ (e : Call). Suffix (e ∷ ds) cs → onMachine .number ds e ≡ 0 → onMachine .answer ds e ≡ committed → Ripens onMachine ds e x)
-        (sym (z .a-delivery))
-        (λ t p q. machine-claims .committed-ripens x (delivery (z .place) (z .kept)) (expand o ds)
-        (expand-suffix o (plain (delivery (z .place) (z .kept)) refl ∷ ds) cs t)
-        (record { place = z .place; kept = z .kept; a-delivery = refl; accepted = p; says-so = q; names = z .names }))
-        s (z .accepted) (z .says-so)
-
-    -- a begin makes none ripe: what does is a delivery
-    ripe-commits : (x : Tx) (c : Call) (ds : List Call) → Suffix (c ∷ ds) cs → Ripens onMachine ds c x → Commits onMachine ds c x
-    unfolding step
-    ripe-commits x (begin n w day minute) ds s z =
-        absurd (never (eqb (begunNumber (reached o ds) n w day minute) 0) (expand-suffix o (begin n w day minute ∷ ds) cs s) z)
-      where
-        never : (b : Bool) → Suffix (cond b (beginStep n w ∷ []) [] ++ expand o ds) (expand o cs)
-            → (Ripe (machineTold (o .machine) (expand o ds)) (machineVotes (o .machine) (expand o ds)) x → ⊥)
-            × Ripe (machineTold (o .machine) (cond b (beginStep n w ∷ []) [] ++ expand o ds))
-            (machineVotes (o .machine) (cond b (beginStep n w ∷ []) [] ++ expand o ds)) x → ⊥
-        never true t y = let q = machine-claims .ripens-committed x (beginStep n w) (expand o ds) t y .a-delivery in clash (cc)
-        never false t y = y .0 (y .1)
-    ripe-commits x (loadHours n list) ds s z = absurd (z .0 (z .1))
-    ripe-commits x (plain c p) ds s z =
-        let y = machine-claims .ripens-committed x c (expand o ds) (expand-suffix o (plain c p ∷ ds) cs s) z in
-        record {
-          place = y .place;
-          kept = y .kept;
-          a-delivery = plain-same c (delivery (y .place) (y .kept)) p refl (y .a-delivery);
-          accepted = y .accepted;
-          says-so = y .says-so;
-          names = y .names;
-        }
-
-    -- ---- the claims of the account read from the machine
-    machine-demand : Demand3 onMachine cs
-    unfolding step
-    machine-demand = let d = machine-claims in record {
-      committed-ripens = commits-ripen;
-      ripens-committed = ripe-commits;
-      logged-once = d .logged-once;
-      fed-once = d .fed-once;
-      entries-as = d .entries-as;
-      commits-only = d .commits-only;
-      was-ready = λ x t i n q.
-          let z = d .was-ready x t i n q in
-          let y = suffix-expand o (z .0) cs (z .1) in (
-            y .0,
-            y .1,
-            subst (λ (es : List Step). Finds (machineReached (o .machine) es) x t (givenTo (machineTold (o .machine) (expand o cs)) x t)) (sym (y .2)) (z .2),
-          );
-      serial = λ x t v ds i s. d .serial x t v (expand o ds) i (expand-suffix o ds cs s);
-      shown = λ x n t ds i s. d .shown x n t (expand o ds) i (expand-suffix o (plain (found n t) refl ∷ ds) cs s);
-      sourced = λ x t v ds s. d .sourced x t v (expand o ds) (expand-suffix o ds cs s);
-      shown-sourced = λ n t ds s. d .shown-sourced n t (expand o ds) (expand-suffix o (plain (found n t) refl ∷ ds) cs s);
-      newest = d .newest;
+module _ (o : Origin) (r : Rested o) where
+  -- ---- replay that adds, where the machine's is told
+  module _ (cs : List Call) (a : AllStepsTyped (expand o cs)) where
+    carries-same : (x : Tx) (es : List Entry) → In x (told o cs .committed) → Carries (told o cs) (told o cs .new) x es
+        → Carries (told o cs) (gaveTo (told o cs) (effects o cs)) x es
+    carries-same x es i c = record {
+      each-object = c .each-object;
+      each-mode = c .each-mode;
+      each-value = λ e j m. gave-same o (r .machine) (settings-long o r) cs a x i (e .object) m ∙ c .each-value e j m;
     }
 
-    machine-numbers : DeliveryNumbers onMachine cs
-    unfolding step
-    machine-numbers = let d = machine-delivery-number (o .machine) r (expand o cs) (expand-typed o cs a) in
-        record { none-waits = d .none-waits; one-waits = d .one-waits }
+    sourced-same : (t v : ℕ) → Sourced (told o cs) (told o cs .new) t v → Sourced (told o cs) (gaveTo (told o cs) (effects o cs)) t v
+    sourced-same t v (inl e) = inl e
+    sourced-same t v (inr z) = inr (z .0, z .1, z .2, z .3 ∙ sym (gave-same o (r .machine) (settings-long o r) cs a (z .0) (z .1) t (z .2)))
 
--- ---- THE THEOREMS: for every list of the service's steps, whichever nodes are on
-pub demand-3 : (o : Origin) → Rested o → (cs : List Call) → AllTyped cs → Demand3 (account o) cs
-demand-3 o r cs a = subst (λ (A : Account Call). Demand3 A cs) (sym (same-account o)) (machine-demand o r cs a)
+  module _ (cs : List Call) (typed : AllTyped cs) where
+    a : AllStepsTyped (expand o cs)
+    a = expand-typed o r cs typed
 
-pub delivery-number : (o : Origin) → Rested o → (cs : List Call) → AllTyped cs → DeliveryNumbers (account o) cs
-delivery-number o r cs a = subst (λ (A : Account Call). DeliveryNumbers A cs) (sym (same-account o)) (machine-numbers o r cs a)
+    before : (ds : List Call) → Suffix ds cs → AllStepsTyped (expand o ds)
+    before ds s = typed-suffix (o .machine) (r .machine) (expand o ds) (expand o cs) (expand-suffix o ds cs s) a
 
--- ---- origins: a blank service is one, whichever nodes are on; what a list of steps leaves at rest is another
-pub blank-rested : (on : ℕ) → Rested (blankOrigin on)
-blank-rested on = machine-blank-rested on
+    given : (x : Tx) (t : ℕ) → account o .given cs x t ≡ machineGiven (told o cs) x t
+    given = given-same o (r .machine) (settings-long o r) cs a
 
-pub from-blank : (on : ℕ) (cs : List Call) → AllTyped cs → Demand3 (account (blankOrigin on)) cs
-from-blank on = demand-3 (blankOrigin on) (blank-rested on)
+    -- ---- THE THEOREMS: for every list of the service's steps, whichever nodes are on
+    pub demand-3 : Demand3 (account o) cs
+    demand-3 = let d = plain-demand o (r .machine) cs a in record {
+      committed-ripens = d .committed-ripens;
+      ripens-committed = d .ripens-committed;
+      logged-once = d .logged-once;
+      fed-once = d .fed-once;
+      entries-as = λ x b i j e q. carries-same cs a x _ i (d .entries-as x b i j e q);
+      commits-only = d .commits-only;
+      was-ready = λ x t i n q. let z = d .was-ready x t i n q in
+          (z .0, z .1, subst (Finds (reached o (z .0) .machine) x t) (sym (given x t)) (z .2));
+      serial = λ x t v ds i s f. d .serial x t v ds i s f ∙ sym (given x t);
+      shown = λ x n t ds i s e q. d .shown x n t ds i s e q ∙ sym (given x t);
+      sourced = λ x t v ds s f. sourced-same ds (before ds s) t v (d .sourced x t v ds s f);
+      shown-sourced = λ n t ds s q. sourced-same ds (before ds (suffix-tail _ ds cs s)) t _ (d .shown-sourced n t ds s q);
+      newest = λ s q e n t h i u w. d .newest s q e n t h i u w ∙ sym (last-same o (r .machine) (settings-long o r) cs a t);
+    }
 
-pub rests : (o : Origin) → Rested o → (cs : List Call) → AllTyped cs → Quiescent (reached o cs .machine)
-    → Rested (originOf (reached o cs) (told o cs))
-rests o r cs a =
-    subst (λ (T : Type 0). T)
-    (sym (ap₂ (λ (st : Station) (L : Ledger). Quiescent st → MachineRested (machineOf st L)) (same-machine o cs) (same-told o cs)))
-    (machine-rests (o .machine) r (expand o cs) (expand-typed o cs a))
+    pub delivery-number : DeliveryNumbers (account o) cs
+    delivery-number = let d = plain-numbers o (r .machine) cs a in record { none-waits = d .none-waits; one-waits = d .one-waits }
+
+    pub adds-exactly : AddsExactly o cs
+    adds-exactly = gives-exactly o (r .machine) (settings-long o r) cs a
+
+    -- ---- what it leaves at rest is an origin again, and replay goes on where it was
+    pub rests : Quiescent (reached o cs .machine) → Rested (originOf o cs)
+    rests q = record {
+      machine = subst (λ (st : Station). MachineRested (machineOf st (told o cs))) (sym (same-machine o cs))
+          (machine-rests (o .machine) (r .machine) (expand o cs) a (subst Quiescent (same-machine o cs) q));
+      settings = settings-sound o r cs;
+      weighs = weighs o r cs typed .kept;
+    }
+
+    pub rests-last : (t : ℕ) → account (originOf o cs) .last [] t ≡ account o .last cs t
+    rests-last t = first-last (originOf o cs) t
+        ∙ carried-last (reached o cs .machine) (told o cs) t ∙ sym (last-same o (r .machine) (settings-long o r) cs a t)
+
+-- ---- the blank service is an origin, whichever nodes are on
+pub blank-rested : (up : ℕ) → Rested (blankOrigin up)
+unfolding part
+blank-rested up = record {
+  machine = machine-blank-rested up;
+  settings = λ n. blank-number;
+  weighs = λ n i h. absurd (let z : ⊥ = omega (arith, h) in z);
+}
+
+pub from-blank : (up : ℕ) (cs : List Call) → AllTyped cs → Demand3 (account (blankOrigin up)) cs
+from-blank up = demand-3 (blankOrigin up) (blank-rested up)

@@ -44,7 +44,7 @@ fn bound_count(list: &[u8]) -> usize
     wide(octets::get_u8(list, 0))
 }
 
-fn tally_place(list: &[u8]) -> usize
+fn objects_place(list: &[u8]) -> usize
     ensures { λ r. ⌜ (r ≡ tallyPlace (now (list .entry))) × (r < 512) ⌝ }
 {
     1 + 2 * bound_count(list)
@@ -54,14 +54,14 @@ fn tally_place(list: &[u8]) -> usize
 pub fn count(kept: &[u8]) -> usize
     ensures { λ r. ⌜ (r ≡ tallyCount (now (kept .entry))) × (r < 256) ⌝ }
 {
-    wide(octets::get_u8(kept, tally_place(kept)))
+    wide(octets::get_u8(kept, objects_place(kept)))
 }
 
 // The number of a table's length as it is lent: 1 another than the counts say. Ruled out: 0 for a byte behind the lists; 1 for a table without bounds.
 pub fn length_number(list: &[u8]) -> u8
     ensures { λ r. ⌜ r ≡ lengthNumber (now (list .entry)) ⌝ }
 {
-    let size = tally_place(list) + 1 + count(list);
+    let size = objects_place(list) + 1 + count(list);
     pick(list.len() == size, 0, numbers::LENGTH)
 }
 
@@ -71,7 +71,7 @@ fn is_strange(list: &[u8]) -> bool
 {
     let mut known = true;
     let mut left = count(list);
-    let mut at = tally_place(list) + 1;
+    let mut at = objects_place(list) + 1;
     while 0 < left {
         known = both(known, octets::get_u8(list, at) < numbers::OBJECTS_END);
         at += 1;
@@ -131,7 +131,7 @@ fn is_twice(list: &[u8]) -> bool
 {
     let mut found = false;
     let mut left = count(list);
-    let mut at = tally_place(list) + 1;
+    let mut at = objects_place(list) + 1;
     while 0 < left {
         let tally = octets::get_u8(list, at);
         at += 1;
@@ -173,12 +173,12 @@ pub fn is_sound(kept: &[u8]) -> bool
 }
 
 // The tally of a class; 0 where there is no such class.
-fn tally_of(kept: &[u8], i: usize) -> u8
+fn object_of(kept: &[u8], i: usize) -> u8
     requires { ⌜ i < mostClasses ⌝ }
     ensures { λ r. ⌜ r ≡ getD (tallies (now (kept .entry))) i 0 ⌝ }
 {
     if i < count(kept) {
-        return octets::get_u8(kept, tally_place(kept) + 1 + i);
+        return octets::get_u8(kept, objects_place(kept) + 1 + i);
     }
     0
 }
@@ -190,7 +190,7 @@ pub fn tallies(kept: &[u8]) -> [u8; MOST_CLASSES]
     let mut a = [0u8; MOST_CLASSES];
     let mut i = 0;
     while i < MOST_CLASSES {
-        a[i] = tally_of(kept, i);
+        a[i] = object_of(kept, i);
         i += 1;
     }
     a
@@ -316,7 +316,7 @@ fn split(waiting: [u8; MOST_CLASSES], sums: [u32; MOST_CLASSES]) -> Sorted
 }
 
 // Sorts a batch by a table, with the tenths that waited: whole grams and the tenths left over, by class. Ruled out: a weight on a bound counted in the lower
-// class; the tenths that waited lost.
+// class; the tenths that waited lost. A sound table is asked for: the front end, its one caller, has checked the settings that hold it.
 pub fn sort(kept: &[u8], waiting: [u8; MOST_CLASSES], list: &[u8]) -> Sorted
     requires { ⌜ sound (now kept) ≡ true ⌝ }
     ensures { λ r. ⌜ r .grams ≡ gramsOf (now (kept .entry)) waiting (now (list .entry)) ⌝ }

@@ -1,4 +1,5 @@
--- The end of a scenario has at most 7,072 bytes, whatever the buffers are: a line has at most 110, and there are 64 of them.
+-- The end of a scenario has at most 9,438 bytes, whatever the buffers are: an object's line has at most 110, and there are 64 of them; a node's line of tenths
+-- has at most 182.
 use mathlib.Core.Path.{_≡_, refl, sym, subst}
 use mathlib.Core.Bool.{Bool, true, false, cond, _&&_}
 use mathlib.Core.List.{List, [], _∷_, _++_}
@@ -8,7 +9,11 @@ use lib.Bits.{or-lt}
 use lib.Dec.{eqb}
 use lib.ListN.{length, length-append}
 use lib.Pow.{pow-lt}
-use Rattle.buffers.specs.Buffers.{imagesSize}
+use Rattle.classes.specs.Classes.{mostClasses}
+use Rattle.record.specs.declared.Called.{Called}
+use Rattle.buffers.specs.Buffers.{imagesSize, recordsSize, recordAt}
+use Rattle.frontend.specs.Tell.{waitingOf}
+use Rattle.service_calls.specs.Lent.{allSettings, settingsAt}
 use Rattle.numbers.specs.Sizes.{nodes, objects}
 use Rattle.mask.specs.Mask.{only}
 use Rattle.mask.proofs.Laws.{only-small}
@@ -16,13 +21,15 @@ use Rattle.decimal.specs.Decimal.{decimal, putAt}
 use Rattle.decimal.specs.Laws.{decimal-short}
 use Rattle.replay.specs.Sheet.{valueOf}
 use Rattle.report.specs.Page.{page, joined, inks-fit}
-use Rattle.report.specs.Texts.{Text, numberTexts, valueTexts, versionText, valueText}
+use Rattle.report.specs.Each.{eachFrom}
+use Rattle.report.specs.Texts.{Text, spaceText, numberTexts, valueTexts, versionText, valueText}
 use Rattle.report.proofs.Long.{long, long-append, number-as, number-long, value-long, each-long}
 use Rattle.closing.specs.declared.Best.{Best}
 use Rattle.closing.specs.Copies.{copyAt, newerOf, newestOf, newest}
 use Rattle.closing.specs.State.{atRest, settled}
 use Rattle.closing.specs.Texts.{endText, objectText, nodesText, replayText, lineEnd, restText, settledText, yesText, noText, copyTexts, objectTexts}
-use Rattle.closing.specs.Texts.{nthObjectTexts, objectsTexts, answerTexts, closingTexts, closed}
+use Rattle.closing.specs.Texts.{nthObjectTexts, objectsTexts, waitingText, classTexts, nthClassTexts, nodeTexts, nthNodeTexts, waitingTexts}
+use Rattle.closing.specs.Texts.{answerTexts, closingTexts, closed}
 use Rattle.closing.proofs.Newest.{Newer, second, both, first, newer}
 
 -- ---- the nodes are a mask of thirteen
@@ -85,16 +92,53 @@ unfolding answerTexts joined
 answer-long label true h = let e = length-append label (yesText ++ []) in omega arith
 answer-long label false h = let e = length-append label (noText ++ []) in omega arith
 
+-- ---- the tenths of a node
+class-long : (w : Called) → long (classTexts w) ≤ 21
+unfolding classTexts joined
+class-long w = by (eqb (w .number) 0)
+  where
+    by : (x : Bool) → long (cond x (numberTexts spaceText (w .answer)) []) ≤ 21
+    by true = number-long spaceText (w .answer)
+    by false = omega arith
+
+node-long : (bytes settings : List ℕ) (n : ℕ) → n < nodes → long (nodeTexts bytes settings n) ≤ 182
+unfolding nodeTexts joined
+node-long bytes settings n h = by (eqb (waitingOf bytes settings 0 .number) 0)
+  where
+    by : (x : Bool)
+        → long (cond x (numberTexts waitingText n ++ eachFrom (nthClassTexts bytes settings) mostClasses 0 ++ (lineEnd ∷ [])) []) ≤ 182
+    by true =
+        let one = numberTexts waitingText n in
+        let two = eachFrom (nthClassTexts bytes settings) mostClasses 0 in
+        let e = long-append (one ++ two) (lineEnd ∷ []) in
+        let f = long-append one two in
+        let p = number-as waitingText n in
+        let short : length (decimal n) ≤ 2 = decimal-short 2 n (omega arith) (omega arith) in
+        let q : long two ≤ 21 * mostClasses = each-long (nthClassTexts bytes settings) 21 mostClasses 0 (λ j k. class-long (waitingOf bytes settings j)) in
+        omega arith
+    by false = omega arith
+
+waiting-long : (records settings : List ℕ) → long (waitingTexts records settings) ≤ 182 * nodes
+unfolding waitingTexts joined
+waiting-long records settings = by (eqb (length records) recordsSize && eqb (length settings) allSettings)
+  where
+    by : (x : Bool) → long (cond x (eachFrom (nthNodeTexts records settings) nodes 0) []) ≤ 182 * nodes
+    by true = each-long (nthNodeTexts records settings) 182 nodes 0 (λ n h. node-long (recordAt records n) (settingsAt settings n) n (omega arith))
+    by false = omega arith
+
 -- THEOREM
-pub closing-long : (images records sheet : List ℕ) → long (closingTexts images records sheet) ≤ 7072
+pub closing-long : (images records settings sheet : List ℕ) → long (closingTexts images records settings sheet) ≤ 9438
 unfolding closingTexts objectsTexts joined
-closing-long images records sheet =
+closing-long images records settings sheet =
     let lines = objectsTexts images sheet in
+    let tenths = waitingTexts records settings in
     let third = answerTexts restText (atRest records) in
     let last = answerTexts settledText (settled images records) in
-    let e = long-append ((endText ∷ []) ++ lines ++ third) last in
-    let f = long-append ((endText ∷ []) ++ lines) third in
+    let e = long-append ((endText ∷ []) ++ lines ++ tenths ++ third) last in
+    let f = long-append ((endText ∷ []) ++ lines ++ tenths) third in
+    let k = long-append ((endText ∷ []) ++ lines) tenths in
     let g = long-append (endText ∷ []) lines in
+    let t = waiting-long records settings in
     let p : long lines ≤ 110 * objects = each-long (nthObjectTexts images sheet) 110 objects 0
     (λ t h. object-long t (newest images t) (valueOf sheet t) (omega arith) (nodes-lt images t)) in
     let q = answer-long restText (atRest records) refl in
@@ -102,7 +146,7 @@ closing-long images records sheet =
     omega arith
 
 -- so in a buffer with that much room all of it is put, and nothing else is changed
-pub closing-fits : (images records sheet out : List ℕ) (at : ℕ) → at + 7072 ≤ length out → closed (page out at) images records sheet
-    ≡ page (putAt out at (joined (closingTexts images records sheet))) (at + long (closingTexts images records sheet))
-closing-fits images records sheet out at h =
-    inks-fit (closingTexts images records sheet) out at (let k = closing-long images records sheet in omega arith)
+pub closing-fits : (images records settings sheet out : List ℕ) (at : ℕ) → at + 9438 ≤ length out → closed (page out at) images records settings sheet
+    ≡ page (putAt out at (joined (closingTexts images records settings sheet))) (at + long (closingTexts images records settings sheet))
+closing-fits images records settings sheet out at h =
+    inks-fit (closingTexts images records settings sheet) out at (let k = closing-long images records settings sheet in omega arith)

@@ -1,13 +1,20 @@
--- The end of a scenario in texts: a line for each object with a version above 0 or a value in replay, and whether the station is at rest and settled.
+-- The end of a scenario in texts: a line for each object with a version above 0 or a value in replay, one for each node with a table of classes, and whether
+-- the station is at rest and settled.
 use mathlib.Core.Bool.{Bool, cond, _&&_}
 use mathlib.Core.List.{List, [], _∷_, _++_}
 use Prim.Native.Nat.{ℕ}
 use lib.Dec.{eqb}
-use Rattle.numbers.specs.Sizes.{objects}
+use lib.ListN.{length}
+use Rattle.numbers.specs.Sizes.{nodes, objects}
+use Rattle.classes.specs.Classes.{mostClasses}
+use Rattle.record.specs.declared.Called.{Called}
+use Rattle.buffers.specs.Buffers.{recordsSize, recordAt}
+use Rattle.frontend.specs.Tell.{waitingOf}
+use Rattle.service_calls.specs.Lent.{allSettings, settingsAt}
 use Rattle.replay.specs.Sheet.{valueOf}
 use Rattle.report.specs.Page.{Page, inks}
 use Rattle.report.specs.Each.{eachFrom}
-use Rattle.report.specs.Texts.{Text, numberTexts, valueTexts, versionText, valueText}
+use Rattle.report.specs.Texts.{Text, spaceText, numberTexts, valueTexts, versionText, valueText}
 use Rattle.closing.specs.declared.Best.{Best}
 use Rattle.closing.specs.Copies.{newest}
 use Rattle.closing.specs.State.{atRest, settled}
@@ -27,6 +34,10 @@ nodesText = 32 ∷ 110 ∷ 111 ∷ 100 ∷ 101 ∷ 115 ∷ 32 ∷ []
 -- ` replay `
 abbrev pub replayText : Text
 replayText = 32 ∷ 114 ∷ 101 ∷ 112 ∷ 108 ∷ 97 ∷ 121 ∷ 32 ∷ []
+
+-- `  waiting `
+abbrev pub waitingText : Text
+waitingText = 32 ∷ 32 ∷ 119 ∷ 97 ∷ 105 ∷ 116 ∷ 105 ∷ 110 ∷ 103 ∷ 32 ∷ []
 
 -- `\n`
 abbrev pub lineEnd : Text
@@ -64,15 +75,36 @@ nthObjectTexts images sheet t = objectTexts t (newest images t) (valueOf sheet t
 unfoldable pub objectsTexts : List ℕ → List ℕ → List Text
 objectsTexts images sheet = eachFrom (nthObjectTexts images sheet) objects 0
 
+-- ---- `  waiting 4 3 0 7`: the tenths that wait at a node, class by class, as its host is told; none for a node without a table
+unfoldable pub classTexts : Called → List Text
+classTexts w = cond (eqb (w .number) 0) (numberTexts spaceText (w .answer)) []
+
+abbrev pub nthClassTexts : List ℕ → List ℕ → ℕ → List Text
+nthClassTexts bytes settings i = classTexts (waitingOf bytes settings i)
+
+unfoldable pub nodeTexts : List ℕ → List ℕ → ℕ → List Text
+nodeTexts bytes settings n =
+    cond (eqb (waitingOf bytes settings 0 .number) 0)
+    (numberTexts waitingText n ++ eachFrom (nthClassTexts bytes settings) mostClasses 0 ++ (lineEnd ∷ [])) []
+
+-- all nodes; none for buffers of another length
+abbrev pub nthNodeTexts : List ℕ → List ℕ → ℕ → List Text
+nthNodeTexts records settings n = nodeTexts (recordAt records n) (settingsAt settings n) n
+
+unfoldable pub waitingTexts : List ℕ → List ℕ → List Text
+waitingTexts records settings =
+    cond (eqb (length records) recordsSize && eqb (length settings) allSettings) (eachFrom (nthNodeTexts records settings) nodes 0) []
+
 -- ---- `  at rest yes`
 unfoldable pub answerTexts : Text → Bool → List Text
 answerTexts label said = label ∷ cond said yesText noText ∷ []
 
 -- ---- all of it
-unfoldable pub closingTexts : List ℕ → List ℕ → List ℕ → List Text
-closingTexts images records sheet =
-    (endText ∷ []) ++ objectsTexts images sheet ++ answerTexts restText (atRest records) ++ answerTexts settledText (settled images records)
+unfoldable pub closingTexts : List ℕ → List ℕ → List ℕ → List ℕ → List Text
+closingTexts images records settings sheet =
+    (endText ∷ []) ++ objectsTexts images sheet ++ waitingTexts records settings ++ answerTexts restText (atRest records)
+    ++ answerTexts settledText (settled images records)
 
 -- put on a page
-abbrev pub closed : Page → List ℕ → List ℕ → List ℕ → Page
-closed p images records sheet = inks p (closingTexts images records sheet)
+abbrev pub closed : Page → List ℕ → List ℕ → List ℕ → List ℕ → Page
+closed p images records settings sheet = inks p (closingTexts images records settings sheet)

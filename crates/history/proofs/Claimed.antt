@@ -101,7 +101,7 @@ module _ (st : Station) (L : Ledger) (F : Past) (g : Good st L F) where
   is-fed-once x i = ap (times Tx-discrete x) fed-as ∙ base .fed-once x (d .told-so x i)
 
   -- what was asked votes for is what the events tell
-  carried-as : (x : Tx) (es : List Entry) → σ .history .phase x ≡ committed → Match (σ .history .contents x) es → Carries L x es
+  carried-as : (x : Tx) (es : List Entry) → σ .history .phase x ≡ committed → Match (σ .history .contents x) es → Carries L (L .new) x es
   carried-as x es p m = record {
     each-object = λ t q. m .lists t (λ e. q (d .its-mode x p t ∙ e));
     each-mode = λ e i. d .its-mode x p (e .object) ∙ m .mode-as e i;
@@ -109,7 +109,7 @@ module _ (st : Station) (L : Ledger) (F : Past) (g : Good st L F) where
   }
 
   pub entries-are : (x : Tx) (b : List ℕ) → In x (L .committed) → In b (L .puts) → txOf b ≡ x → (kindOf b ≡ ask) ⊎ ((kindOf b ≡ outcome) × (wordOf b ≡ 1))
-      → Carries L x (decode b .entries)
+      → Carries L (L .new) x (decode b .entries)
   entries-are x b i j e k =
       let t = w .books .puts-true b j in
       let m : Match (σ .history .contents (txOf b)) (decode b .entries) = on k (λ q. t .an-ask q .1) (λ q. t .a-commit (q .0) (q .1) .1) in
@@ -134,11 +134,11 @@ module _ (st : Station) (L : Ledger) (F : Past) (g : Good st L F) where
   -- ---- (b)
   source-as : (t v : ℕ) → (v ≡ 0) ⊎ ((y : Tx) × (σ .history .phase y ≡ committed) × (σ .history .contents y .mode t ≡ write) ×
       (v ≡ σ .history .contents y .new t))
-      → Sourced L t v
+      → Sourced L (L .new) t v
   source-as t v (inl e) = inl e
   source-as t v (inr z) = inr (z .0, d .is-told (z .0) (z .1), d .its-mode (z .0) (z .1) t ∙ z .2, z .3 ∙ sym (d .its-new (z .0) (z .1) t))
 
-  pub is-sourced : (x : Tx) (t v : ℕ) → Finds st x t v → Sourced L t v
+  pub is-sourced : (x : Tx) (t v : ℕ) → Finds st x t v → Sourced L (L .new) t v
   is-sourced x t v f =
       let c = st .records (x .owner) in
       let z = place-open (c .objects) (c .count) t (ltb-true (placeOf c t) mostOpen (f .opened)) in
@@ -223,7 +223,7 @@ shown-by st n t s e q =
 -- ---- every list of steps from an origin
 module _ (o : Origin) (r : Rested o) where
   -- found after some earlier list, or carried
-  abbrev Earlier : List Call → Past
+  abbrev pub Earlier : List Call → Past
   Earlier cs x t v = Had o x t v ⊎ ((ds : List Call) × Suffix ds cs × Finds (reached o ds) x t v)
 
   only-carried : (x : Tx) (t v : ℕ) → Earlier [] x t v → Had o x t v
@@ -247,7 +247,7 @@ module _ (o : Origin) (r : Rested o) where
       good-past (reached o (c ∷ cs)) (told o (c ∷ cs)) (More (Earlier cs) (reached o (c ∷ cs))) (Earlier (c ∷ cs)) (longer c cs) (shorter c cs)
       (good-next (reached o cs) (told o cs) (Earlier cs) (always-good cs (a .1)) c (a .0))
 
-  typed-suffix : (ds cs : List Call) → Suffix ds cs → AllTyped cs → AllTyped ds
+  pub typed-suffix : (ds cs : List Call) → Suffix ds cs → AllTyped cs → AllTyped ds
   typed-suffix ds [] e a = subst AllTyped (sym e) tt
   typed-suffix ds (c ∷ cs) (inl e) a = subst AllTyped (sym e) a
   typed-suffix ds (c ∷ cs) (inr s) a = typed-suffix ds cs s (a .1)

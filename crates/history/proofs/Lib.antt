@@ -30,7 +30,7 @@
 --   InTurn            why nothing that waits is out of turn: what is kept, over one record, one image or another pool
 --   Going, Turned     coordinators keep it; every step does
 --   Room, Numbered    the pool has at most 128 messages; the number of every delivery
---   Spare             the record of what is no node stays idle
+--   Spare             only a begin ends idleness and opens; the record of what is no node stays idle
 --   Resting           at rest every newest copy has replay's last value, and what is at rest is an origin again
 -- Replay's last values in bounded memory:
 --   Ranks             places in a list; what one more commit makes of the values held

@@ -1,6 +1,7 @@
--- A number above 12 is no node: its record is idle and stays so. No call there is taken, and a message finds an idle record as it was.
-use mathlib.Core.Path.{_≡_, refl, sym, subst}
-use mathlib.Core.Bool.{Bool, cond, not, _&&_}
+-- No step but a begin ends a record's idleness, and none but a begin opens a transaction. So the record of a number above 12, which is no node, stays
+-- idle: no begin there is taken.
+use mathlib.Core.Path.{_≡_, refl, sym, subst, _∙_}
+use mathlib.Core.Bool.{Bool, true, false, cond, not, _&&_}
 use mathlib.Core.List.{List, []}
 use Prim.Native.Nat.{ℕ, suc, _≤_}
 use native.Mathlib.Omega.{arith}
@@ -37,125 +38,186 @@ use Rattle.protocol.specs.Proof.Tables.{on}
 use Rattle.history.proofs.Tests.{no-both, not-false}
 use Rattle.history.proofs.Carry.{put-all}
 
-abbrev pub Spare : Station → Type 0
-Spare st = (n : ℕ) → nodes ≤ n → st .records n .phase ≡ idlePhase
-
--- an idle record where no node is stays idle
-abbrev Stays : ℕ → Coordinator → Coordinator → Type 0
-Stays n c d = nodes ≤ n → c .phase ≡ idlePhase → d .phase ≡ idlePhase
+-- an idle record stays idle, and what is open was open
+pub record Still (c d : Coordinator) : Type 0 where
+  pub stays-idle : c .phase ≡ idlePhase → d .phase ≡ idlePhase
+  pub was-open : d .phase ≡ openPhase → c .phase ≡ openPhase
 
 -- what was busy is no case of an idle one
 not-idle : {P : Type 0} (c : Coordinator) (k : ℕ) → c .phase ≡ suc k → c .phase ≡ idlePhase → P
 not-idle c k p e = absurd (let z : ⊥ = omega (arith, p, e) in z)
 
+-- what is open now is no case of one that is not
+not-open : {P : Type 0} (n : ℕ) → (n ≡ openPhase → ⊥) → n ≡ openPhase → P
+not-open n f e = absurd (f e)
+
 module _ (s : System) (c : Coordinator) (n : ℕ) where
-  same : Stays n c c
-  same h e = e
+  same : (d : Coordinator) → d .phase ≡ c .phase → Still c d
+  same d p = record { stays-idle = λ e. p ∙ e; was-open = λ e. sym p ∙ e }
 
-  begin-stays : (a : BeginWith) → Stays n c (beginOf s c n a .coordinator)
-  unfolding beginOf beginRefusals
-  begin-stays a = let q = s .nearestRead (a .live) (a .distances) in
-      step-keeps (Stays n c) (beginRefusals c n a q) (maskOf q) c (begun c a (maskOf q)) tt same
-      (λ k h e. absurd (no-both (not-false (ltb n nodes) (neither-left (noNode n) (tooWide (a .live)) (k .0))) (le-ltb n nodes h)))
+  -- from a busy phase to one that is not open
+  on-from : (k : ℕ) → c .phase ≡ suc k → (d : Coordinator) → (d .phase ≡ openPhase → ⊥) → Still c d
+  on-from k p d f = record { stays-idle = not-idle c k p; was-open = not-open (d .phase) f }
 
-  open-stays : (t mode : ℕ) → Stays n c (openOf c n t mode .coordinator)
+  pub open-still : (t mode : ℕ) → Still c (openOf c n t mode .coordinator)
   unfolding openOf openRefusals opened
-  open-stays t mode = step-keeps (Stays n c) (openRefusals c n t) 0 c (opened c t mode) tt same (λ k. same)
+  open-still t mode = step-keeps (Still c) (openRefusals c n t) 0 c (opened c t mode) tt (same c refl) (λ k. same _ refl)
 
-  set-stays : (t v : ℕ) → Stays n c (setOf c n t v .coordinator)
+  pub set-still : (t v : ℕ) → Still c (setOf c n t v .coordinator)
   unfolding setOf setRefusals withNew
-  set-stays t v = step-keeps (Stays n c) (setRefusals c n t) 0 c (withNew c t v) tt same (λ k. same)
+  set-still t v = step-keeps (Still c) (setRefusals c n t) 0 c (withNew c t v) tt (same c refl) (λ k. same _ refl)
 
-  found-stays : (t : ℕ) → Stays n c (foundOf s c n t .coordinator)
-  found-stays t = subst (Stays n c) (sym (found-leaves s c n t)) same
+  found-still : (t : ℕ) → Still c (foundOf s c n t .coordinator)
+  found-still t = subst (Still c) (sym (found-leaves s c n t)) (same c refl)
 
-  reselect-stays : (live : ℕ) (d : List ℕ) → Stays n c (reselectOf s c n live d .coordinator)
+  reselect-still : (live : ℕ) (d : List ℕ) → Still c (reselectOf s c n live d .coordinator)
   unfolding reselectOf reselectRefusals reselected
-  reselect-stays live d = let q = s .nearestRead live d in
-      step-keeps (Stays n c) (reselectRefusals c n live q) (maskOf q) c (reselected c live d (maskOf q)) tt same (λ k. same)
+  reselect-still live d = let q = s .nearestRead live d in
+      step-keeps (Still c) (reselectRefusals c n live q) (maskOf q) c (reselected c live d (maskOf q)) tt (same c refl) (λ k. same _ refl)
 
-  request-stays : Stays n c (requestCommitOf s c n .coordinator)
-  unfolding requestCommitOf requestCommitRefusals
-  request-stays =
+  pub request-still : Still c (requestCommitOf s c n .coordinator)
+  unfolding requestCommitOf requestCommitRefusals requested
+  request-still =
       let q = s .nearestWrite (c .live) (c .distances) in
       let party = joined (maskOf q) (c .contacted) in
-      step-keeps (Stays n c) (requestCommitRefusals s c n q) party c (requested c party) tt same
-      (λ k h. not-idle c 0 (eqb-true (c .phase) openPhase (not-false _ (k .1 .0))))
+      step-keeps (Still c) (requestCommitRefusals s c n q) party c (requested c party) tt (same c refl)
+      (λ k. on-from 0 (eqb-true (c .phase) openPhase (not-false _ (k .1 .0))) _ (λ e. let z : ⊥ = omega (arith, e) in z))
 
-  idle-again : (stamp outcome : ℕ) → Stays n c (idleAfter (c .serial) stamp outcome)
+  idle-again : (stamp outcome : ℕ) → Still c (idleAfter (c .serial) stamp outcome)
   unfolding idleAfter
-  idle-again stamp outcome h e = refl
+  idle-again stamp outcome = record { stays-idle = λ e. refl; was-open = not-open 0 (λ e. let z : ⊥ = omega (arith, e) in z) }
 
-  ends-stay : Endings (Stays n c) c
-  ends-stay = record { gone = λ u a. idle-again (c .timestamp) 2; aborting = λ u a h. on u (not-idle c 0) (not-idle c 1) }
+  ends-still : Endings (Still c) c
+  ends-still = record {
+    gone = λ u a. idle-again (c .timestamp) 2;
+    aborting = λ u a. on u (λ p. on-from 0 p _ (λ e. let z : ⊥ = omega (arith, e) in z)) (λ p. on-from 1 p _ (λ e. let z : ⊥ = omega (arith, e) in z));
+  }
 
-  abort-stays : Stays n c (abortOf c n .coordinator)
-  abort-stays = abort-cases (Stays n c) c n same ends-stay
+  pub abort-still : Still c (abortOf c n .coordinator)
+  abort-still = abort-cases (Still c) c n (same c refl) ends-still
 
-  receive-stays : (b : List ℕ) → Stays n c (receiveOf s c n b .coordinator)
-  receive-stays b = receive-cases (λ (x : Step). Stays n c (x .coordinator)) s c n b (record {
-    as-before = λ number. same;
-    copied = λ f. same;
-    endings = λ r. ends-stay;
-    last-yes = λ f t h. not-idle c 1 (f .answer .in-phase);
-    one-yes = λ f t h. not-idle c 1 (f .answer .in-phase);
+  receive-still : (b : List ℕ) → Still c (receiveOf s c n b .coordinator)
+  receive-still b = receive-cases (λ (x : Step). Still c (x .coordinator)) s c n b (record {
+    as-before = λ number. same c refl;
+    copied = λ f. same _ refl;
+    endings = λ r. ends-still;
+    last-yes = λ f t. on-from 1 (f .answer .in-phase) _ (λ e. let z : ⊥ = omega (arith, e) in z);
+    one-yes = λ f t. on-from 1 (f .answer .in-phase) _ (λ e. let z : ⊥ = omega (arith, e) in z);
     last-done = λ f t. idle-again (c .timestamp) (c .outcome);
-    one-done = λ f t. same;
+    one-done = λ f t. same _ refl;
   })
 
--- ---- one step
-module _ (st : Station) (w : Spare st) where
+-- ---- one step that is no begin
+abbrev pub isBegin : Call → Bool
+isBegin (begin n a) = true
+isBegin (openRead n x) = false
+isBegin (openWrite n x) = false
+isBegin (setValue n x v) = false
+isBegin (found n x) = false
+isBegin (reselect n live d) = false
+isBegin (requestCommit n) = false
+isBegin (abort n) = false
+isBegin (send n to x) = false
+isBegin (delivery k kept) = false
+isBegin (drop k) = false
+isBegin (switch n up) = false
+
+module _ (st : Station) (i : ℕ) where
   abbrev Kept : Outcome → Type 0
-  Kept r = Spare (r .station)
+  Kept r = Still (st .records i) (r .station .records i)
 
-  record-spare : (n : ℕ) (c : Coordinator) → Stays n (st .records n) c → (i : ℕ) → nodes ≤ i → putAt (st .records) n c i .phase ≡ idlePhase
-  record-spare n c f = put-all (λ (i : ℕ) (d : Coordinator). nodes ≤ i → d .phase ≡ idlePhase) (st .records) n c (λ h. f h (w n h)) (λ i e. w i)
+  as-it-was : Still (st .records i) (st .records i)
+  as-it-was = record { stays-idle = λ e. e; was-open = λ e. e }
 
-  hosted-spare : (n : ℕ) (x : Step) → Stays n (st .records n) (x .coordinator) → Kept (hosted st n x)
+  record-still : (n : ℕ) (c : Coordinator) → Still (st .records n) c → Still (st .records i) (putAt (st .records) n c i)
+  record-still n c f = put-all (λ (k : ℕ) (d : Coordinator). Still (st .records k) d) (st .records) n c f
+      (λ k e. record { stays-idle = λ q. q; was-open = λ q. q }) i
+
+  hosted-still : (n : ℕ) (x : Step) → Still (st .records n) (x .coordinator) → Kept (hosted st n x)
   unfolding hosted
-  hosted-spare n x f = either-way Kept (contains (st .own .on) n) _ _
-      (either-way Kept (eqb (x .number) 0) _ _ (record-spare n (x .coordinator) f) w) w
+  hosted-still n x f = either-way Kept (contains (st .own .on) n) _ _
+      (either-way Kept (eqb (x .number) 0) _ _ (record-still n (x .coordinator) f) as-it-was) as-it-was
 
-  answered-spare : (k : ℕ) (kept : Bool) (n : ℕ) (l : List ℕ) (a : Answer) → Kept (answered st k kept n l a)
+  answered-still : (k : ℕ) (kept : Bool) (n : ℕ) (l : List ℕ) (a : Answer) → Kept (answered st k kept n l a)
   unfolding answered
-  answered-spare k kept n l silent = w
-  answered-spare k kept n l (says m) = either-way Kept (kept && full st) _ _ w w
+  answered-still k kept n l silent = as-it-was
+  answered-still k kept n l (says m) = either-way Kept (kept && full st) _ _ as-it-was as-it-was
 
-  arriving-spare : (k : ℕ) (kept : Bool) (b : List ℕ) → Kept (arriving st k kept b)
+  arriving-still : (k : ℕ) (kept : Bool) (b : List ℕ) → Kept (arriving st k kept b)
   unfolding arriving atReplica atCoordinator
-  arriving-spare k kept b =
+  arriving-still k kept b =
       let n = toOf b in
       let d = deliver longestMessage (st .images n) n b in
       either-way Kept (contains (st .own .on) n) _ _
       (either-way Kept (forReplica (kindOf b)) _ _
-      (either-way Kept (eqb (d .number) 0) _ _ (answered-spare k kept n (d .image) (d .answer)) w)
-      (either-way Kept (eqb (receiveOf (system st) (st .records n) n b .number) 0) _ _ (record-spare n _ (receive-stays (system st) (st .records n) n b)) w)) w
+      (either-way Kept (eqb (d .number) 0) _ _ (answered-still k kept n (d .image) (d .answer)) as-it-was)
+      (either-way Kept (eqb (receiveOf (system st) (st .records n) n b .number) 0) _ _
+      (record-still n _ (receive-still (system st) (st .records n) n b)) as-it-was)) as-it-was
 
-  delivery-spare : (k : ℕ) (kept : Bool) → Kept (deliveryOf st k kept)
+  delivery-still : (k : ℕ) (kept : Bool) → Kept (deliveryOf st k kept)
   unfolding deliveryOf
-  delivery-spare k kept = let b = getD (st .pool) k [] in
-      either-way Kept (ltb k (length (st .pool))) _ _ (either-way Kept (eqb (checkOf b) 0) _ _ (arriving-spare k kept b) w) w
+  delivery-still k kept = let b = getD (st .pool) k [] in
+      either-way Kept (ltb k (length (st .pool))) _ _ (either-way Kept (eqb (checkOf b) 0) _ _ (arriving-still k kept b) as-it-was) as-it-was
 
-  send-spare : (n to t : ℕ) → Kept (sendOf st n to t)
+  send-still : (n to t : ℕ) → Kept (sendOf st n to t)
   unfolding sendOf
-  send-spare n to t =
+  send-still n to t =
       let kind = dueKind (system st) (st .records n) to t in
       let m = messageDue (st .records n) n to t kind in
       let due = not (eqb kind 0) in
       either-way Kept (eqb (sendNumber st n to t m due) 0) (cond due (putting (encode m) st) (taken 0 st)) (refusedWith (sendNumber st n to t m due) st)
-      (either-way Kept due (putting (encode m) st) (taken 0 st) w w) w
+      (either-way Kept due (putting (encode m) st) (taken 0 st) as-it-was as-it-was) as-it-was
 
-  pub spare-next : (c : Call) → Kept (step st c)
+  pub still-next : (c : Call) → isBegin c ≡ false → Kept (step st c)
   unfolding step dropOf switchOf
-  spare-next (begin n a) = hosted-spare n _ (begin-stays (system st) (st .records n) n a)
-  spare-next (openRead n x) = hosted-spare n _ (open-stays (system st) (st .records n) n x 0)
-  spare-next (openWrite n x) = hosted-spare n _ (open-stays (system st) (st .records n) n x 1)
-  spare-next (setValue n x v) = hosted-spare n _ (set-stays (system st) (st .records n) n x v)
-  spare-next (found n x) = hosted-spare n _ (found-stays (system st) (st .records n) n x)
-  spare-next (reselect n live d) = hosted-spare n _ (reselect-stays (system st) (st .records n) n live d)
-  spare-next (requestCommit n) = hosted-spare n _ (request-stays (system st) (st .records n) n)
-  spare-next (abort n) = hosted-spare n _ (abort-stays (system st) (st .records n) n)
-  spare-next (send n to x) = send-spare n to x
-  spare-next (delivery k kept) = delivery-spare k kept
-  spare-next (drop k) = either-way Kept (ltb k (length (st .pool))) _ _ w w
-  spare-next (switch n up) = either-way Kept (noNode n) _ _ w w
+  still-next (begin n a) e = absurd (no-both refl e)
+  still-next (openRead n x) e = hosted-still n _ (open-still (system st) (st .records n) n x 0)
+  still-next (openWrite n x) e = hosted-still n _ (open-still (system st) (st .records n) n x 1)
+  still-next (setValue n x v) e = hosted-still n _ (set-still (system st) (st .records n) n x v)
+  still-next (found n x) e = hosted-still n _ (found-still (system st) (st .records n) n x)
+  still-next (reselect n live d) e = hosted-still n _ (reselect-still (system st) (st .records n) n live d)
+  still-next (requestCommit n) e = hosted-still n _ (request-still (system st) (st .records n) n)
+  still-next (abort n) e = hosted-still n _ (abort-still (system st) (st .records n) n)
+  still-next (send n to x) e = send-still n to x
+  still-next (delivery k kept) e = delivery-still k kept
+  still-next (drop k) e = either-way Kept (ltb k (length (st .pool))) _ _ as-it-was as-it-was
+  still-next (switch n up) e = either-way Kept (noNode n) _ _ as-it-was as-it-was
+
+-- ---- what is no node
+abbrev pub Spare : Station → Type 0
+Spare st = (n : ℕ) → nodes ≤ n → st .records n .phase ≡ idlePhase
+
+-- no begin is taken there
+begin-spare : (s : System) (c : Coordinator) (n : ℕ) (a : BeginWith) → nodes ≤ n → c .phase ≡ idlePhase
+    → beginOf s c n a .coordinator .phase ≡ idlePhase
+unfolding beginOf beginRefusals
+begin-spare s c n a h e = let q = s .nearestRead (a .live) (a .distances) in
+    step-keeps (λ (d : Coordinator). d .phase ≡ idlePhase) (beginRefusals c n a q) (maskOf q) c (begun c a (maskOf q)) tt e
+    (λ k. absurd (no-both (not-false (ltb n nodes) (neither-left (noNode n) (tooWide (a .live)) (k .0))) (le-ltb n nodes h)))
+
+module _ (st : Station) (w : Spare st) where
+  begun-spare : (n : ℕ) (a : BeginWith) → Spare (step st (begin n a) .station)
+  unfolding step hosted
+  begun-spare n a =
+      let x = beginOf (system st) (st .records n) n a in
+      let P : Outcome → Type 0 = λ (r : Outcome). Spare (r .station) in
+      either-way P (contains (st .own .on) n) _ _ (either-way P (eqb (x .number) 0) _ _
+      (put-all (λ (i : ℕ) (d : Coordinator). nodes ≤ i → d .phase ≡ idlePhase) (st .records) n (x .coordinator)
+      (λ h. begin-spare (system st) (st .records n) n a h (w n h)) (λ i e. w i)) w) w
+
+  idle-still : (c : Call) → isBegin c ≡ false → Spare (step st c .station)
+  idle-still c e n h = still-next st n c e .stays-idle (w n h)
+
+  pub spare-next : (c : Call) → Spare (step st c .station)
+  spare-next (begin n a) = begun-spare n a
+  spare-next (openRead n x) = idle-still (openRead n x) refl
+  spare-next (openWrite n x) = idle-still (openWrite n x) refl
+  spare-next (setValue n x v) = idle-still (setValue n x v) refl
+  spare-next (found n x) = idle-still (found n x) refl
+  spare-next (reselect n live d) = idle-still (reselect n live d) refl
+  spare-next (requestCommit n) = idle-still (requestCommit n) refl
+  spare-next (abort n) = idle-still (abort n) refl
+  spare-next (send n to x) = idle-still (send n to x) refl
+  spare-next (delivery k kept) = idle-still (delivery k kept) refl
+  spare-next (drop k) = idle-still (drop k) refl
+  spare-next (switch n up) = idle-still (switch n up) refl

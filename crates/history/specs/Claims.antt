@@ -65,11 +65,11 @@ pub record Shows (s : System) (c : Coordinator) (serial t v : ℕ) : Type 0 wher
 abbrev pub Finds : Station → Tx → ℕ → ℕ → Type 0
 Finds st x t v = Shows (system st) (st .records (x .owner)) (x .serial) t v
 
--- the entries of a message are a transaction's objects with their modes, and of what it writes the new values
-pub record Carries (L : Ledger) (x : Tx) (es : List Entry) : Type 0 where
+-- the entries of a message are a transaction's objects with their modes, and of what it writes the new values that it gave
+pub record Carries (L : Ledger) (gave : Tx → ℕ → ℕ) (x : Tx) (es : List Entry) : Type 0 where
   pub each-object : (t : ℕ) → L .mode x t ≢ unused → (e : Entry) × In e es × (e .object ≡ t)
   pub each-mode : (e : Entry) → In e es → L .mode x (e .object) ≡ cond (eqb (e .mode) 0) read write
-  pub each-value : (e : Entry) → In e es → L .mode x (e .object) ≡ write → L .new x (e .object) ≡ e .value
+  pub each-value : (e : Entry) → In e es → L .mode x (e .object) ≡ write → gave x (e .object) ≡ e .value
 
 -- every participant of each committed transaction has put a done on a delivery of its commit
 abbrev pub Settled : Ledger → Type 0
@@ -86,16 +86,20 @@ pub record Ripe (L : Ledger) (B : Ballots) (x : Tx) : Type 0 where
   pub unspoilt : B .spoilt x ≡ false
 
 -- the value is 0, or the new value that a transaction told committed gave the object
-abbrev pub Sourced : Ledger → ℕ → ℕ → Type 0
-Sourced L t v = (v ≡ 0) ⊎ ((y : Tx) × In y (L .committed) × (L .mode y t ≡ write) × (v ≡ L .new y t))
+abbrev pub Sourced : Ledger → (Tx → ℕ → ℕ) → ℕ → ℕ → Type 0
+Sourced L gave t v = (v ≡ 0) ⊎ ((y : Tx) × In y (L .committed) × (L .mode y t ≡ write) × (v ≡ gave y t))
 
 -- What is seen of lists of steps of a kind C: the transactions carried to their origin; after a list the station, what it told of transactions and what of
--- votes; of one more step its number, its answer and the message that it put; and which steps are a delivery, kept or not, and a found call at a node.
+-- votes; what replay of it gives a transaction for an object, the new value that the transaction gives the object there, and the last values; of one more
+-- step its number, its answer and the message that it put; and which steps are a delivery, kept or not, and a found call at a node.
 pub record Account (C : Type 0) : Type 0 where
   pub carried : List Tx
   pub reached : List C → Station
   pub told : List C → Ledger
   pub votes : List C → Ballots
+  pub given : List C → Tx → ℕ → ℕ
+  pub gave : List C → Tx → ℕ → ℕ
+  pub last : List C → ℕ → ℕ
   pub number : List C → C → ℕ
   pub answer : List C → C → ℕ
   pub put : List C → C → Option (List ℕ)
@@ -135,26 +139,26 @@ module _ {C : Type 0} (A : Account C) where
     pub fed-once : (x : Tx) → In x (A .told cs .committed) → times Tx-discrete x (fed (A .told cs)) ≡ 1
     -- and its entries are those of every ask and every commit put for it; a commit was put for no other transaction
     pub entries-as : (x : Tx) (b : List ℕ) → In x (A .told cs .committed) → In b (A .told cs .puts) → txOf b ≡ x
-        → (kindOf b ≡ ask) ⊎ ((kindOf b ≡ outcome) × (wordOf b ≡ 1)) → Carries (A .told cs) x (decode b .entries)
+        → (kindOf b ≡ ask) ⊎ ((kindOf b ≡ outcome) × (wordOf b ≡ 1)) → Carries (A .told cs) (A .gave cs) x (decode b .entries)
     pub commits-only : (b : List ℕ) → In b (A .told cs .puts) → kindOf b ≡ outcome → wordOf b ≡ 1 → In (txOf b) (A .told cs .committed)
     -- (a) if it was not carried, some earlier list has each of its objects ready; after every one that does, the value found is what replay gives it
     pub was-ready : (x : Tx) (t : ℕ) → In x (A .told cs .committed) → (In x (A .carried) → ⊥) → A .told cs .mode x t ≢ unused
-        → (ds : List C) × Suffix ds cs × Finds (A .reached ds) x t (givenTo (A .told cs) x t)
+        → (ds : List C) × Suffix ds cs × Finds (A .reached ds) x t (A .given cs x t)
     pub serial : (x : Tx) (t v : ℕ) (ds : List C) → In x (A .told cs .committed) → Suffix ds cs → Finds (A .reached ds) x t v
-        → v ≡ givenTo (A .told cs) x t
+        → v ≡ A .given cs x t
     -- and every accepted found call for it answered that value
     pub shown : (x : Tx) (n t : ℕ) (ds : List C) → In x (A .told cs .committed) → Suffix (A .find n t ∷ ds) cs → current (A .told ds) n ≡ x
-        → A .number ds (A .find n t) ≡ 0 → A .answer ds (A .find n t) ≡ givenTo (A .told cs) x t
+        → A .number ds (A .find n t) ≡ 0 → A .answer ds (A .find n t) ≡ A .given cs x t
     -- (b) whatever a transaction found, committed or not, after any earlier list is 0 or the new value that one committed by then gave the object
-    pub sourced : (x : Tx) (t v : ℕ) (ds : List C) → Suffix ds cs → Finds (A .reached ds) x t v → Sourced (A .told ds) t v
+    pub sourced : (x : Tx) (t v : ℕ) (ds : List C) → Suffix ds cs → Finds (A .reached ds) x t v → Sourced (A .told ds) (A .gave ds) t v
     -- and so is the answer of every accepted found call
     pub shown-sourced : (n t : ℕ) (ds : List C) → Suffix (A .find n t ∷ ds) cs → A .number ds (A .find n t) ≡ 0
-        → Sourced (A .told ds) t (A .answer ds (A .find n t))
+        → Sourced (A .told ds) (A .gave ds) t (A .answer ds (A .find n t))
     -- (c) if it is settled, then in every read quorum of the station (from blank the tree's, larger sets too; no step changes them: `lasting-system`,
     -- proofs/Lasting), whichever nodes are on, every newest copy has replay's last value
     pub newest : Settled (A .told cs) → (q : ℕ) → system (A .reached cs) .isRead q ≡ true → (n t : ℕ) → n < nodes → contains q n ≡ true
         → t < objects → Newest (A .reached cs) q n t
-        → value (A .reached cs .images n) t ≡ lastValue (A .told cs) t
+        → value (A .reached cs .images n) t ≡ A .last cs t
 
   -- The numbers of deliveries: 5 only where no such message waits, 12 as above, else 0. So whatever waits is accepted where it goes: it is never garbled,
   -- for another node or out of turn, and no image is damaged.
@@ -186,6 +190,9 @@ module _ (o : Origin) where
         reached = reached;
         told = told;
         votes = votes;
+        given = λ cs. givenTo (told cs);
+        gave = λ cs. told cs .new;
+        last = λ cs. lastValue (told cs);
         number = λ ds c. step (reached ds) c .number;
         answer = λ ds c. step (reached ds) c .answer;
         put = λ ds c. step (reached ds) c .put;

@@ -19,7 +19,7 @@ use Rattle.holding.specs.Held.{Holds, Claimed}
 use Rattle.holding.proofs.After.{Proper, goes}
 
 -- a station that steps reached is proper
-proper : (o : Origin) → Rested o → (cs : List Call) → AllTyped cs → Proper (reached o cs)
+pub proper : (o : Origin) → Rested o → (cs : List Call) → AllTyped cs → Proper (reached o cs)
 proper o r cs a = let g = always-good o r cs a in record {
   fits = g .wide .fits;
   meets = g .world .valid .records;

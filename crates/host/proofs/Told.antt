@@ -1,27 +1,29 @@
 -- A call that takes distances as bytes, on a record and at a station: with 26 of them it is the call by itself. Two answers with equal
 -- fields are equal. And a look at a waiting message, refusal by refusal.
-use mathlib.Core.Path.{_≡_, ap}
+use mathlib.Core.Path.{_≡_, ap, _∙_}
 use mathlib.Core.List.{List}
 use Prim.Native.Nat.{ℕ, _<_, _≤_}
 use borrow.Author.Tests.{eq-eqb, ne-eqb, le-leb, lt-leb}
 use lib.ListN.{length}
-use Rattle.coordinator.specs.declared.BeginWith.{BeginWith}
 use Rattle.coordinator.specs.declared.Coordinator.{Coordinator}
 use Rattle.coordinator.specs.declared.Step.{Step}
 use Rattle.record.specs.Call.{calledOf, recordAfter}
-use Rattle.frontend.specs.Calls.{begunOf, begunAfter}
+use Rattle.frontend.specs.Plan.{frontTold, frontRecord, frontSettings}
+use Rattle.frontend.specs.Plan.{Call as Front}
 use Rattle.host.specs.declared.records.Value.{Value}
 use Rattle.parts.specs.Parts.{part}
 use Rattle.pool.specs.Pool.{messagePlace, count, lengthAt, messageAt, check}
 use Rattle.pool.specs.Change.{removeNumber, removeRefusals}
 use Rattle.steps.specs.Step.{Call}
+use Rattle.buffers.specs.declared.Answer.{Answer}
 use Rattle.buffers.specs.Buffers.{Buffers}
 use Rattle.station_calls.specs.Calls.{hostTold, hostRecords}
-use Rattle.service_calls.specs.Lent.{Lent, beginTold, beginRecords}
-use Rattle.host.specs.Records.{answerWith, bytesWith, begunWith, bytesBegun}
+use Rattle.service_calls.specs.Lent.{Lent}
+use Rattle.service_calls.specs.Lent.{frontTold as stepTold, frontRecords as stepRecords, frontSettings as stepSettings}
+use Rattle.host.specs.Records.{answerWith, bytesWith, begunWith, bytesBegun, settingsBegun}
 use Rattle.host.specs.declared.stations.Waiting.{Waiting}
 use Rattle.host.specs.Distances.{distancesOf}
-use Rattle.host.specs.Stations.{toldWith, recordsWith, beginToldWith, beginRecordsWith, waitingAt}
+use Rattle.host.specs.Stations.{toldWith, recordsWith, beginToldWith, beginRecordsWith, beginSettingsWith, waitingAt}
 
 module _ (d l : List ℕ) (f g : Coordinator → Step) (e : length d ≡ 26) (p : f ≡ g) where
   pub taken-answer : calledOf f l ≡ answerWith d g l
@@ -32,23 +34,41 @@ module _ (d l : List ℕ) (f g : Coordinator → Step) (e : length d ≡ 26) (p 
   unfolding bytesWith
   taken-bytes = simp (eq-eqb (length d) 26 e) (ap (λ (x : Coordinator → Step). recordAfter x l) p)
 
-  module _ (s : List ℕ) (day minute : ℕ) where
-    pub taken-begun : begunOf f l s day minute ≡ begunWith d g l s day minute
-    unfolding begunWith
-    taken-begun = simp (eq-eqb (length d) 26 e) (ap (λ (x : Coordinator → Step). begunOf x l s day minute) p)
+-- a begin or a batch, on a record and settings and at a station
+module _ (d l s : List ℕ) (me : ℕ) (f g : Front) (e : length d ≡ 26) (p : f ≡ g) where
+  pub taken-begun : frontTold l s me f ≡ begunWith d l s me g
+  unfolding begunWith
+  taken-begun = simp (eq-eqb (length d) 26 e) (ap (frontTold l s me) p)
 
-    pub taken-begun-bytes : begunAfter f l s day minute ≡ bytesBegun d g l s day minute
-    unfolding bytesBegun
-    taken-begun-bytes = simp (eq-eqb (length d) 26 e) (ap (λ (x : Coordinator → Step). begunAfter x l s day minute) p)
+  pub taken-begun-bytes : frontRecord l s me f ≡ bytesBegun d l s me g
+  unfolding bytesBegun
+  taken-begun-bytes = simp (eq-eqb (length d) 26 e) (ap (frontRecord l s me) p)
 
-module _ (d : List ℕ) (b : Lent) (n day minute : ℕ) (v w : BeginWith) (e : length d ≡ 26) (p : v ≡ w) where
-  pub taken-begin-told : beginTold b n v day minute ≡ beginToldWith d b n w day minute
+  pub taken-begun-settings : frontSettings l s me f ≡ settingsBegun d l s me g
+  unfolding settingsBegun
+  taken-begun-settings = simp (eq-eqb (length d) 26 e) (ap (frontSettings l s me) p)
+
+module _ (d : List ℕ) (b : Lent) (n : ℕ) (f g : Front) (e : length d ≡ 26) (p : f ≡ g) where
+  pub taken-begin-told : stepTold b n f ≡ beginToldWith d b n g
   unfolding beginToldWith
-  taken-begin-told = simp (eq-eqb (length d) 26 e) (ap (λ (x : BeginWith). beginTold b n x day minute) p)
+  taken-begin-told = simp (eq-eqb (length d) 26 e) (ap (stepTold b n) p)
 
-  pub taken-begin-records : beginRecords b n v day minute ≡ beginRecordsWith d b n w day minute
+  pub taken-begin-records : stepRecords b n f ≡ beginRecordsWith d b n g
   unfolding beginRecordsWith
-  taken-begin-records = simp (eq-eqb (length d) 26 e) (ap (λ (x : BeginWith). beginRecords b n x day minute) p)
+  taken-begin-records = simp (eq-eqb (length d) 26 e) (ap (stepRecords b n) p)
+
+  pub taken-begin-settings : stepSettings b n f ≡ beginSettingsWith d b n g
+  unfolding beginSettingsWith
+  taken-begin-settings = simp (eq-eqb (length d) 26 e) (ap (stepSettings b n) p)
+
+-- a station's step by another word for its call
+abbrev pub Stepped : Lent → ℕ → Front → Answer → List ℕ → List ℕ → Type 0
+Stepped b n f r records settings = (r ≡ stepTold b n f) × ((records ≡ stepRecords b n f) × (settings ≡ stepSettings b n f))
+
+pub step-same : (b : Lent) (n : ℕ) (f g : Front) (r : Answer) (records settings : List ℕ) → f ≡ g
+    → Stepped b n f r records settings → Stepped b n g r records settings
+step-same b n f g r records settings p w =
+    (w .0 ∙ ap (stepTold b n) p, (w .1 .0 ∙ ap (stepRecords b n) p, w .1 .1 ∙ ap (stepSettings b n) p))
 
 module _ (d x : List ℕ) (b : Buffers) (n : ℕ) (f : List ℕ → Call) (e : length d ≡ 26) (p : x ≡ distancesOf d) where
   pub taken-told : hostTold b n (f x) ≡ toldWith d b n f

@@ -4,7 +4,8 @@ use mathlib.Core.Bool.{Bool, cond, not}
 use mathlib.Core.List.{List}
 use Prim.Native.Nat.{ℕ}
 use lib.Dec.{eqb}
-use lib.ListN.{length}
+use lib.ListN.{length, replicate}
+use Rattle.numbers.specs.Sizes.{nodes}
 use Rattle.numbers.specs.Numbers.{wrongLength}
 use Rattle.octets.specs.Signed.{signedOf}
 use Rattle.pool.specs.Pool.{messagePlace, count, lengthAt, check}
@@ -14,7 +15,10 @@ use Rattle.buffers.specs.declared.Answer.{Answer}
 use Rattle.steps.specs.Step.{Call}
 use Rattle.buffers.specs.Buffers.{Buffers, answerWith}
 use Rattle.station_calls.specs.Calls.{hostTold, hostRecords}
-use Rattle.service_calls.specs.Lent.{Lent, beginTold, beginRecords}
+use Rattle.frontend.specs.declared.Act.{Act}
+use Rattle.frontend.specs.declared.Ask.{Ask}
+use Rattle.frontend.specs.Plan.{Call as Front}
+use Rattle.service_calls.specs.Lent.{Lent, frontTold, frontRecords, frontSettings}
 use Rattle.host.specs.declared.records.Value.{Value}
 use Rattle.host.specs.declared.stations.Waiting.{Waiting}
 use Rattle.host.specs.Distances.{distancesOf}
@@ -27,12 +31,25 @@ toldWith distances b n f = cond (eqb (length distances) 26) (hostTold b n (f (di
 unfoldable pub recordsWith : List ℕ → Buffers → ℕ → (List ℕ → Call) → List ℕ
 recordsWith distances b n f = cond (eqb (length distances) 26) (hostRecords b n (f (distancesOf distances))) (b .records)
 
--- a begin at node n, on a day, at a minute, which takes distances too
-unfoldable pub beginToldWith : List ℕ → Lent → ℕ → BeginWith → ℕ → ℕ → Answer
-beginToldWith distances b n w day minute = cond (eqb (length distances) 26) (beginTold b n w day minute) (answerWith wrongLength 0)
+-- a begin or a batch at node n, which takes distances too; and the settings after it
+unfoldable pub beginToldWith : List ℕ → Lent → ℕ → Front → Answer
+beginToldWith distances b n a = cond (eqb (length distances) 26) (frontTold b n a) (answerWith wrongLength 0)
 
-unfoldable pub beginRecordsWith : List ℕ → Lent → ℕ → BeginWith → ℕ → ℕ → List ℕ
-beginRecordsWith distances b n w day minute = cond (eqb (length distances) 26) (beginRecords b n w day minute) (b .station .records)
+unfoldable pub beginRecordsWith : List ℕ → Lent → ℕ → Front → List ℕ
+beginRecordsWith distances b n a = cond (eqb (length distances) 26) (frontRecords b n a) (b .station .records)
+
+unfoldable pub beginSettingsWith : List ℕ → Lent → ℕ → Front → List ℕ
+beginSettingsWith distances b n a = cond (eqb (length distances) 26) (frontSettings b n a) (b .settings)
+
+-- what a front end is asked: to begin with distances as bytes, or something of an object; what the call does not have is 0
+abbrev pub askBegin : Act → BeginWith → ℕ → ℕ → Ask
+askBegin act w day minute = record { act = act; with = w; object = 0; value = 0; day = day; minute = minute }
+
+abbrev pub noBegin : BeginWith
+noBegin = record { live = 0; distances = replicate nodes 0; timestamp = 0 }
+
+abbrev pub askObject : Act → ℕ → ℕ → Ask
+askObject act object value = record { act = act; with = noBegin; object = object; value = value; day = 0; minute = 0 }
 
 -- an answer that is a value
 abbrev pub valueOf : Answer → Value

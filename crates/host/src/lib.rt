@@ -4,7 +4,7 @@ mod images;
 mod messages;
 mod records;
 mod replicas;
-mod settings;
+mod setup;
 mod stations;
 
 ghost use mathlib.Core.Path.{_≡_};

@@ -1,5 +1,5 @@
-// A coordinator's record for C: checked, made blank, each call on it (a begin by the settings beside it), what is due, and what it says. Each function
-// states the same equation as what it wraps.
+// A coordinator's record for C: checked, made blank, each call on it (some by the settings beside it), what is due, what it says, and what waits. Each
+// function states the same equation as what it wraps.
 ghost use mathlib.Core.Path.{_≡_};
 ghost use mathlib.Core.Bool.{cond};
 ghost use lib.ListN.{length, getD};
@@ -7,13 +7,16 @@ ghost use Rattle.octets.specs.Signed.{bitsOf};
 ghost use Rattle.coordinator.specs.declared.Coordinator.{Coordinator};
 ghost use Rattle.coordinator.specs.System.{tree};
 ghost use Rattle.coordinator.specs.State.{noObject, ready};
-ghost use Rattle.coordinator.specs.Calls.{openOf, setOf, foundOf, requestCommitOf, abortOf};
+ghost use Rattle.coordinator.specs.Calls.{foundOf, abortOf};
 ghost use Rattle.arrivals.specs.Receive.{receiveOf};
 ghost use Rattle.record.specs.Record.{check, shown};
 ghost use Rattle.record.specs.Call.{calledOf, recordAfter, blankNumber, blankAfter};
 ghost use Rattle.record_arrive.specs.Call.{receivedOf};
 ghost use Rattle.record_due.specs.Call.{recordDue, recordDueBuffer};
-ghost use Rattle.host.specs.Records.{answerWith, bytesWith, begunWith, bytesBegun, beginStep, reselectStep, valueOf};
+ghost use Rattle.increments.specs.Deeds.{reads, writes, values};
+ghost use Rattle.frontend.specs.Plan.{begin, batch, edit, request, frontTold, frontRecord};
+ghost use Rattle.frontend.specs.Tell.{waitingOf};
+ghost use Rattle.host.specs.Records.{answerWith, bytesWith, begunWith, bytesBegun, settingsBegun, beginWith, reselectStep, valueOf};
 use crate::DISTANCES;
 use crate::distances_of;
 use coordinator::BeginWith;
@@ -54,11 +57,12 @@ fn wrong_length() -> Called
     }
 }
 
-// Begins a transaction on a day, at a minute; answers the chosen read quorum. Ruled out: 10 for distances of 25 bytes; 13 where the record is busy.
+// Begins a transaction of the host's own on a day, at a minute; answers the chosen read quorum. Ruled out: 10 for distances of 25 bytes; 13 where the record
+// is busy.
 #[no_mangle]
 pub extern "C" fn senna_coordinator_begin(
     bytes: &mut [u8],
-    settings: &[u8],
+    settings: &mut [u8],
     me: u8,
     live: u16,
     distances: &[u8],
@@ -66,10 +70,12 @@ pub extern "C" fn senna_coordinator_begin(
     day: u32,
     minute: u16,
 ) -> Called
-    ensures { λ r. ⌜ r ≡ begunWith (now (distances .entry)) (beginStep me live (now (distances .entry)) timestamp)
-        (now (bytes .entry)) (now (settings .entry)) day minute ⌝ }
-    ensures { λ r. ⌜ now (bytes .exit) ≡ bytesBegun (now (distances .entry)) (beginStep me live (now (distances .entry)) timestamp)
-        (now (bytes .entry)) (now (settings .entry)) day minute ⌝ }
+    ensures { λ r. ⌜ r ≡ begunWith (now (distances .entry)) (now (bytes .entry)) (now (settings .entry)) me
+        (begin (beginWith live (now (distances .entry)) timestamp) day minute) ⌝ }
+    ensures { λ r. ⌜ now (bytes .exit) ≡ bytesBegun (now (distances .entry)) (now (bytes .entry)) (now (settings .entry)) me
+        (begin (beginWith live (now (distances .entry)) timestamp) day minute) ⌝ }
+    ensures { λ r. ⌜ now (settings .exit) ≡ settingsBegun (now (distances .entry)) (now (bytes .entry)) (now (settings .entry)) me
+        (begin (beginWith live (now (distances .entry)) timestamp) day minute) ⌝ }
 {
     if distances.len() != DISTANCES {
         return wrong_length();
@@ -81,6 +87,39 @@ pub extern "C" fn senna_coordinator_begin(
         timestamp,
     };
     frontend::begin(bytes, settings, me, w, day, minute)
+}
+
+// Begins a batch of weights on a day, at a minute; answers the chosen read quorum. Ruled out: 2 for distances of 25 bytes beside damaged settings; a class
+// left out that gets no gram.
+#[no_mangle]
+pub extern "C" fn senna_coordinator_batch(
+    bytes: &mut [u8],
+    settings: &mut [u8],
+    me: u8,
+    live: u16,
+    distances: &[u8],
+    timestamp: u32,
+    day: u32,
+    minute: u16,
+    list: &[u8],
+) -> Called
+    ensures { λ r. ⌜ r ≡ begunWith (now (distances .entry)) (now (bytes .entry)) (now (settings .entry)) me
+        (batch (beginWith live (now (distances .entry)) timestamp) day minute (now (list .entry))) ⌝ }
+    ensures { λ r. ⌜ now (bytes .exit) ≡ bytesBegun (now (distances .entry)) (now (bytes .entry)) (now (settings .entry)) me
+        (batch (beginWith live (now (distances .entry)) timestamp) day minute (now (list .entry))) ⌝ }
+    ensures { λ r. ⌜ now (settings .exit) ≡ settingsBegun (now (distances .entry)) (now (bytes .entry)) (now (settings .entry)) me
+        (batch (beginWith live (now (distances .entry)) timestamp) day minute (now (list .entry))) ⌝ }
+{
+    if distances.len() != DISTANCES {
+        return wrong_length();
+    }
+    let d = distances_of(distances);
+    let w = BeginWith {
+        live,
+        distances: d,
+        timestamp,
+    };
+    frontend::batch(bytes, settings, me, w, day, minute, list)
 }
 
 // Takes a fresh live mask and distances; answers the chosen read quorum. Ruled out: 8 for distances of 25 bytes; the old quorum answered.
@@ -101,45 +140,60 @@ pub extern "C" fn senna_coordinator_reselect(
     record_calls::reselect(bytes, me, live, d)
 }
 
-// Opens an object to read it. Ruled out: an open to write; the record written back at a refusal.
+// Opens an object to read it. Ruled out: an object opened on a batch; the record written back at a refusal.
 #[no_mangle]
-pub extern "C" fn senna_coordinator_open_read(bytes: &mut [u8], me: u8, object: u8) -> Called
-    ensures { λ r. ⌜ r ≡ calledOf (λ (c : Coordinator). openOf c me object 0) (now (bytes .entry)) ⌝ }
-    ensures { λ r. ⌜ now (bytes .exit) ≡ recordAfter (λ (c : Coordinator). openOf c me object 0) (now (bytes .entry)) ⌝ }
+pub extern "C" fn senna_coordinator_open_read(
+    bytes: &mut [u8],
+    settings: &[u8],
+    me: u8,
+    object: u8,
+) -> Called
+    ensures { λ r. ⌜ r ≡ frontTold (now (bytes .entry)) (now (settings .entry)) me (edit (reads object)) ⌝ }
+    ensures { λ r. ⌜ now (bytes .exit) ≡ frontRecord (now (bytes .entry)) (now (settings .entry)) me (edit (reads object)) ⌝ }
 {
-    record_calls::open_read(bytes, me, object)
+    frontend::open_read(bytes, settings, me, object)
 }
 
 // Opens an object to write it. Ruled out: an open to read; a ninth object taken.
 #[no_mangle]
-pub extern "C" fn senna_coordinator_open_write(bytes: &mut [u8], me: u8, object: u8) -> Called
-    ensures { λ r. ⌜ r ≡ calledOf (λ (c : Coordinator). openOf c me object 1) (now (bytes .entry)) ⌝ }
-    ensures { λ r. ⌜ now (bytes .exit) ≡ recordAfter (λ (c : Coordinator). openOf c me object 1) (now (bytes .entry)) ⌝ }
+pub extern "C" fn senna_coordinator_open_write(
+    bytes: &mut [u8],
+    settings: &[u8],
+    me: u8,
+    object: u8,
+) -> Called
+    ensures { λ r. ⌜ r ≡ frontTold (now (bytes .entry)) (now (settings .entry)) me (edit (writes object)) ⌝ }
+    ensures { λ r. ⌜ now (bytes .exit) ≡ frontRecord (now (bytes .entry)) (now (settings .entry)) me (edit (writes object)) ⌝ }
 {
-    record_calls::open_write(bytes, me, object)
+    frontend::open_write(bytes, settings, me, object)
 }
 
-// Gives a written object its new value. Ruled out: the value with its sign lost; a value set on a read.
+// Gives a written object its new value. Ruled out: the value with its sign lost; a batch's grams overwritten.
 #[no_mangle]
 pub extern "C" fn senna_coordinator_set_value(
     bytes: &mut [u8],
+    settings: &[u8],
     me: u8,
     object: u8,
     value: i64,
 ) -> Called
-    ensures { λ r. ⌜ r ≡ calledOf (λ (c : Coordinator). setOf c me object (bitsOf value)) (now (bytes .entry)) ⌝ }
-    ensures { λ r. ⌜ now (bytes .exit) ≡ recordAfter (λ (c : Coordinator). setOf c me object (bitsOf value)) (now (bytes .entry)) ⌝ }
+    ensures { λ r. ⌜ r ≡ frontTold (now (bytes .entry)) (now (settings .entry)) me (edit (values object (bitsOf value))) ⌝ }
+    ensures { λ r. ⌜ now (bytes .exit) ≡ frontRecord (now (bytes .entry)) (now (settings .entry)) me (edit (values object (bitsOf value))) ⌝ }
 {
-    record_calls::set_value(bytes, me, object, octets::bits(value))
+    frontend::set_value(bytes, settings, me, object, octets::bits(value))
 }
 
-// Asks for votes; answers the participants. Ruled out: 8 before 11; a set without the contacted nodes.
+// Asks for votes; answers the participants, or aborted beside 9 where a batch is given up. Ruled out: 8 before 11; a sum that wraps.
 #[no_mangle]
-pub extern "C" fn senna_coordinator_request_commit(bytes: &mut [u8], me: u8) -> Called
-    ensures { λ r. ⌜ r ≡ calledOf (λ (c : Coordinator). requestCommitOf tree c me) (now (bytes .entry)) ⌝ }
-    ensures { λ r. ⌜ now (bytes .exit) ≡ recordAfter (λ (c : Coordinator). requestCommitOf tree c me) (now (bytes .entry)) ⌝ }
+pub extern "C" fn senna_coordinator_request_commit(
+    bytes: &mut [u8],
+    settings: &[u8],
+    me: u8,
+) -> Called
+    ensures { λ r. ⌜ r ≡ frontTold (now (bytes .entry)) (now (settings .entry)) me request ⌝ }
+    ensures { λ r. ⌜ now (bytes .exit) ≡ frontRecord (now (bytes .entry)) (now (settings .entry)) me request ⌝ }
 {
-    record_calls::request_commit(bytes, me)
+    frontend::request_commit(bytes, settings, me)
 }
 
 // Gives the transaction up. Ruled out: a finishing one aborted; a damaged record taken.
@@ -250,4 +304,12 @@ pub extern "C" fn senna_coordinator_is_ready(bytes: &[u8], i: u8) -> u8
     ensures { λ r. ⌜ r ≡ cond (ready tree (getD (shown (now (bytes .entry)) .objects) i noObject)) 1 0 ⌝ }
 {
     if record::is_ready(bytes, i) { 1 } else { 0 }
+}
+
+// The tenths that wait in a class. Ruled out: those that a batch leaves over before it is committed; 0 for a class that the table does not have.
+#[no_mangle]
+pub extern "C" fn senna_coordinator_waiting(bytes: &[u8], settings: &[u8], class: u8) -> Called
+    ensures { λ r. ⌜ r ≡ waitingOf (now (bytes .entry)) (now (settings .entry)) class ⌝ }
+{
+    frontend::waiting(bytes, settings, class)
 }

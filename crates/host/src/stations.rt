@@ -1,20 +1,27 @@
-// A station for C: made blank, every step, and what waits. Each function states the same equation as what it wraps.
+// A station for C: made blank, every step, and what waits. Each function states the same equation as what it wraps; and a buffer that is const in C is as it
+// was.
 ghost use mathlib.Core.Path.{_≡_};
 ghost use mathlib.Core.List.{[]};
 ghost use Rattle.octets.specs.Signed.{bitsOf};
-ghost use Rattle.steps.specs.Step.{openRead, openWrite, setValue, found, reselect, requestCommit, abort};
+ghost use Rattle.increments.specs.Deeds.{reads, writes, values};
+ghost use Rattle.frontend.specs.Plan.{begin, batch, edit, request, loadClasses};
+ghost use Rattle.steps.specs.Step.{found, reselect, abort};
 ghost use Rattle.buffers.specs.Buffers.{all, ends, answerWith};
 ghost use Rattle.station_calls.specs.Calls.{hostTold, hostRecords, switching, switchTold, switchOwn};
 ghost use Rattle.station.specs.Messages.{sending, sendTold, sendPool, deliveryTold, deliveryImages, deliveryRecords, deliveryPool, dropping, dropTold};
 ghost use Rattle.station.specs.Messages.{dropPool};
-ghost use Rattle.service_calls.specs.Lent.{lent, loadTold, loadSettings, blankNumber, blankAfter};
+ghost use Rattle.service_calls.specs.Lent.{lent, frontTold, frontRecords, frontSettings, loadTold, loadSettings, blankNumber, blankAfter};
 ghost use Rattle.host.specs.Records.{beginWith};
-ghost use Rattle.host.specs.Stations.{toldWith, recordsWith, beginToldWith, beginRecordsWith, valueOf, yes, waitingIn, waitingAt};
+ghost use Rattle.host.specs.Stations.{toldWith, recordsWith, beginToldWith, beginRecordsWith, beginSettingsWith, askBegin, askObject};
+ghost use Rattle.host.specs.Stations.{valueOf, yes, waitingIn, waitingAt};
 use crate::DISTANCES;
 use crate::distances_of;
 use crate::records::Value;
 use buffers::Answer;
 use coordinator::BeginWith;
+use frontend::Act;
+use frontend::Ask;
+use numbers::NODES;
 
 // Where a waiting message stands in the pool and how long it is; on a refusal both are 0.
 #[repr(C)]
@@ -53,13 +60,52 @@ fn wrong_length() -> Answer
     }
 }
 
-// Begins a transaction at a node, on a day, at a minute; answers the chosen read quorum. Ruled out: 10 for distances of 25 bytes; a begin by another
-// node's hours.
+// What a front end is asked that begins; what a begin does not have is 0.
+fn ask_begin(act: Act, live: u16, distances: &[u8], timestamp: u32, day: u32, minute: u16) -> Ask
+    ensures { λ r. ⌜ r ≡ askBegin act (beginWith live (now (distances .entry)) timestamp) day minute ⌝ }
+{
+    let d = distances_of(distances);
+    let with = BeginWith {
+        live,
+        distances: d,
+        timestamp,
+    };
+    Ask {
+        act,
+        with,
+        object: 0,
+        value: 0,
+        day,
+        minute,
+    }
+}
+
+// What a front end is asked that does not begin; what it has no use for is 0.
+fn ask_object(act: Act, object: u8, value: u64) -> Ask
+    ensures { λ r. ⌜ r ≡ askObject act object value ⌝ }
+{
+    let with = BeginWith {
+        live: 0,
+        distances: [0; NODES],
+        timestamp: 0,
+    };
+    Ask {
+        act,
+        with,
+        object,
+        value,
+        day: 0,
+        minute: 0,
+    }
+}
+
+// Begins a transaction of the host's own at a node, on a day, at a minute; answers the chosen read quorum. Ruled out: 10 for distances of 25 bytes; a begin
+// by another node's hours.
 #[no_mangle]
 pub extern "C" fn senna_station_begin(
     records: &mut [u8],
     own: &[u8],
-    settings: &[u8],
+    settings: &mut [u8],
     node: u8,
     live: u16,
     distances: &[u8],
@@ -67,22 +113,51 @@ pub extern "C" fn senna_station_begin(
     day: u32,
     minute: u16,
 ) -> Answer
-    ensures { λ r. ⌜ r ≡ beginToldWith (now (distances .entry)) (lent [] (now (records .entry)) [] (now (own .entry)) (now (settings .entry)))
-        node (beginWith live (now (distances .entry)) timestamp) day minute ⌝ }
-    ensures { λ r. ⌜ now (records .exit)
-        ≡ beginRecordsWith (now (distances .entry)) (lent [] (now (records .entry)) [] (now (own .entry)) (now (settings .entry)))
-        node (beginWith live (now (distances .entry)) timestamp) day minute ⌝ }
+    ensures { λ r. ⌜ r ≡ beginToldWith (now (distances .entry)) (lent [] (now (records .entry)) [] (now (own .entry)) (now (settings .entry))) node
+        (begin (beginWith live (now (distances .entry)) timestamp) day minute) ⌝ }
+    ensures { λ r. ⌜ now (records .exit) ≡ beginRecordsWith (now (distances .entry))
+        (lent [] (now (records .entry)) [] (now (own .entry)) (now (settings .entry))) node
+        (begin (beginWith live (now (distances .entry)) timestamp) day minute) ⌝ }
+    ensures { λ r. ⌜ now (settings .exit) ≡ beginSettingsWith (now (distances .entry))
+        (lent [] (now (records .entry)) [] (now (own .entry)) (now (settings .entry))) node
+        (begin (beginWith live (now (distances .entry)) timestamp) day minute) ⌝ }
 {
     if distances.len() != DISTANCES {
         return wrong_length();
     }
-    let d = distances_of(distances);
-    let w = BeginWith {
-        live,
-        distances: d,
-        timestamp,
-    };
-    service_calls::begin(records, own, settings, node, w, day, minute)
+    let a = ask_begin(Act::Begin, live, distances, timestamp, day, minute);
+    service_calls::front(records, own, settings, node, a, &[])
+}
+
+// Begins a batch of weights at a node, on a day, at a minute; answers the chosen read quorum. Ruled out: a batch by another node's classes; 13 at a node that
+// is off.
+#[no_mangle]
+pub extern "C" fn senna_station_batch(
+    records: &mut [u8],
+    own: &[u8],
+    settings: &mut [u8],
+    node: u8,
+    live: u16,
+    distances: &[u8],
+    timestamp: u32,
+    day: u32,
+    minute: u16,
+    list: &[u8],
+) -> Answer
+    ensures { λ r. ⌜ r ≡ beginToldWith (now (distances .entry)) (lent [] (now (records .entry)) [] (now (own .entry)) (now (settings .entry))) node
+        (batch (beginWith live (now (distances .entry)) timestamp) day minute (now (list .entry))) ⌝ }
+    ensures { λ r. ⌜ now (records .exit) ≡ beginRecordsWith (now (distances .entry))
+        (lent [] (now (records .entry)) [] (now (own .entry)) (now (settings .entry))) node
+        (batch (beginWith live (now (distances .entry)) timestamp) day minute (now (list .entry))) ⌝ }
+    ensures { λ r. ⌜ now (settings .exit) ≡ beginSettingsWith (now (distances .entry))
+        (lent [] (now (records .entry)) [] (now (own .entry)) (now (settings .entry))) node
+        (batch (beginWith live (now (distances .entry)) timestamp) day minute (now (list .entry))) ⌝ }
+{
+    if distances.len() != DISTANCES {
+        return wrong_length();
+    }
+    let a = ask_begin(Act::Batch, live, distances, timestamp, day, minute);
+    service_calls::front(records, own, settings, node, a, list)
 }
 
 // Loads a table of packing hours for a node, in any phase. Ruled out: another node's hours replaced; a faulty table that takes the old one's place.
@@ -99,18 +174,57 @@ pub extern "C" fn senna_station_load_hours(
     service_calls::load_hours(own, settings, node, list)
 }
 
-// Opens an object to read it. Ruled out: an open to write; a byte of another node's record altered.
+// Loads a table of classes for a node; none waits there after it. Ruled out: a table loaded while the node's transaction is open; another node's classes
+// replaced.
+#[no_mangle]
+pub extern "C" fn senna_station_load_classes(
+    records: &mut [u8],
+    own: &[u8],
+    settings: &mut [u8],
+    node: u8,
+    list: &[u8],
+) -> Answer
+    ensures { λ r. ⌜ r ≡ frontTold (lent [] (now (records .entry)) [] (now (own .entry)) (now (settings .entry))) node (loadClasses (now (list .entry))) ⌝ }
+    ensures { λ r. ⌜ now (records .exit)
+        ≡ frontRecords (lent [] (now (records .entry)) [] (now (own .entry)) (now (settings .entry))) node (loadClasses (now (list .entry))) ⌝ }
+    ensures { λ r. ⌜ now (settings .exit)
+        ≡ frontSettings (lent [] (now (records .entry)) [] (now (own .entry)) (now (settings .entry))) node (loadClasses (now (list .entry))) ⌝ }
+    ensures { λ r. ⌜ now (records .exit) ≡ now (records .entry) ⌝ }
+{
+    service_calls::front(
+        records,
+        own,
+        settings,
+        node,
+        ask_object(Act::LoadClasses, 0, 0),
+        list,
+    )
+}
+
+// Opens an object to read it. Ruled out: an object opened on a batch; a byte of another node's record altered.
 #[no_mangle]
 pub extern "C" fn senna_station_open_read(
     records: &mut [u8],
     own: &[u8],
+    settings: &mut [u8],
     node: u8,
     object: u8,
 ) -> Answer
-    ensures { λ r. ⌜ r ≡ hostTold (ends (now (records .entry)) (now (own .entry))) node (openRead node object) ⌝ }
-    ensures { λ r. ⌜ now (records .exit) ≡ hostRecords (ends (now (records .entry)) (now (own .entry))) node (openRead node object) ⌝ }
+    ensures { λ r. ⌜ r ≡ frontTold (lent [] (now (records .entry)) [] (now (own .entry)) (now (settings .entry))) node (edit (reads object)) ⌝ }
+    ensures { λ r. ⌜ now (records .exit)
+        ≡ frontRecords (lent [] (now (records .entry)) [] (now (own .entry)) (now (settings .entry))) node (edit (reads object)) ⌝ }
+    ensures { λ r. ⌜ now (settings .exit)
+        ≡ frontSettings (lent [] (now (records .entry)) [] (now (own .entry)) (now (settings .entry))) node (edit (reads object)) ⌝ }
+    ensures { λ r. ⌜ now (settings .exit) ≡ now (settings .entry) ⌝ }
 {
-    station_calls::open_read(records, own, node, object)
+    service_calls::front(
+        records,
+        own,
+        settings,
+        node,
+        ask_object(Act::OpenRead, object, 0),
+        &[],
+    )
 }
 
 // Opens an object to write it. Ruled out: an open to read; 5 for a node above 12.
@@ -118,13 +232,25 @@ pub extern "C" fn senna_station_open_read(
 pub extern "C" fn senna_station_open_write(
     records: &mut [u8],
     own: &[u8],
+    settings: &mut [u8],
     node: u8,
     object: u8,
 ) -> Answer
-    ensures { λ r. ⌜ r ≡ hostTold (ends (now (records .entry)) (now (own .entry))) node (openWrite node object) ⌝ }
-    ensures { λ r. ⌜ now (records .exit) ≡ hostRecords (ends (now (records .entry)) (now (own .entry))) node (openWrite node object) ⌝ }
+    ensures { λ r. ⌜ r ≡ frontTold (lent [] (now (records .entry)) [] (now (own .entry)) (now (settings .entry))) node (edit (writes object)) ⌝ }
+    ensures { λ r. ⌜ now (records .exit)
+        ≡ frontRecords (lent [] (now (records .entry)) [] (now (own .entry)) (now (settings .entry))) node (edit (writes object)) ⌝ }
+    ensures { λ r. ⌜ now (settings .exit)
+        ≡ frontSettings (lent [] (now (records .entry)) [] (now (own .entry)) (now (settings .entry))) node (edit (writes object)) ⌝ }
+    ensures { λ r. ⌜ now (settings .exit) ≡ now (settings .entry) ⌝ }
 {
-    station_calls::open_write(records, own, node, object)
+    service_calls::front(
+        records,
+        own,
+        settings,
+        node,
+        ask_object(Act::OpenWrite, object, 0),
+        &[],
+    )
 }
 
 // Gives a written object its new value. Ruled out: the value with its sign lost; a value set at a node that is off.
@@ -132,14 +258,21 @@ pub extern "C" fn senna_station_open_write(
 pub extern "C" fn senna_station_set_value(
     records: &mut [u8],
     own: &[u8],
+    settings: &mut [u8],
     node: u8,
     object: u8,
     value: i64,
 ) -> Answer
-    ensures { λ r. ⌜ r ≡ hostTold (ends (now (records .entry)) (now (own .entry))) node (setValue node object (bitsOf value)) ⌝ }
-    ensures { λ r. ⌜ now (records .exit) ≡ hostRecords (ends (now (records .entry)) (now (own .entry))) node (setValue node object (bitsOf value)) ⌝ }
+    ensures { λ r. ⌜ r
+        ≡ frontTold (lent [] (now (records .entry)) [] (now (own .entry)) (now (settings .entry))) node (edit (values object (bitsOf value))) ⌝ }
+    ensures { λ r. ⌜ now (records .exit)
+        ≡ frontRecords (lent [] (now (records .entry)) [] (now (own .entry)) (now (settings .entry))) node (edit (values object (bitsOf value))) ⌝ }
+    ensures { λ r. ⌜ now (settings .exit)
+        ≡ frontSettings (lent [] (now (records .entry)) [] (now (own .entry)) (now (settings .entry))) node (edit (values object (bitsOf value))) ⌝ }
+    ensures { λ r. ⌜ now (settings .exit) ≡ now (settings .entry) ⌝ }
 {
-    station_calls::set_value(records, own, node, object, octets::bits(value))
+    let a = ask_object(Act::SetValue, object, octets::bits(value));
+    service_calls::front(records, own, settings, node, a, &[])
 }
 
 // Answers the value found for a ready object. Ruled out: the new value; a value with its sign lost.
@@ -174,13 +307,29 @@ pub extern "C" fn senna_station_reselect(
     station_calls::reselect(records, own, node, live, d)
 }
 
-// Asks for votes; answers the participants. Ruled out: 8 before 11; a set without the contacted nodes.
+// Asks for votes; answers the participants, or aborted beside 9 where a batch is given up. Ruled out: 8 before 11; a batch given up at a node that is off.
 #[no_mangle]
-pub extern "C" fn senna_station_request_commit(records: &mut [u8], own: &[u8], node: u8) -> Answer
-    ensures { λ r. ⌜ r ≡ hostTold (ends (now (records .entry)) (now (own .entry))) node (requestCommit node) ⌝ }
-    ensures { λ r. ⌜ now (records .exit) ≡ hostRecords (ends (now (records .entry)) (now (own .entry))) node (requestCommit node) ⌝ }
+pub extern "C" fn senna_station_request_commit(
+    records: &mut [u8],
+    own: &[u8],
+    settings: &mut [u8],
+    node: u8,
+) -> Answer
+    ensures { λ r. ⌜ r ≡ frontTold (lent [] (now (records .entry)) [] (now (own .entry)) (now (settings .entry))) node request ⌝ }
+    ensures { λ r. ⌜ now (records .exit)
+        ≡ frontRecords (lent [] (now (records .entry)) [] (now (own .entry)) (now (settings .entry))) node request ⌝ }
+    ensures { λ r. ⌜ now (settings .exit)
+        ≡ frontSettings (lent [] (now (records .entry)) [] (now (own .entry)) (now (settings .entry))) node request ⌝ }
+    ensures { λ r. ⌜ now (settings .exit) ≡ now (settings .entry) ⌝ }
 {
-    station_calls::request_commit(records, own, node)
+    service_calls::front(
+        records,
+        own,
+        settings,
+        node,
+        ask_object(Act::RequestCommit, 0, 0),
+        &[],
+    )
 }
 
 // Gives the transaction up. Ruled out: a finishing one aborted; 0 at a node that is off.

@@ -27,7 +27,7 @@ use Rattle.clauses.proofs.Keep.{open-keeps, set-keeps}
 use Rattle.record_calls.proofs.Number.{step-number}
 use Rattle.increments.specs.Deeds.{ran, deedOf, editOf, Amount, amounts, adding}
 use Rattle.increments.proofs.Deeds.{adding-last}
-use Rattle.increments.proofs.Summed.{below, set-alike, set-elsewhere, set-taken}
+use Rattle.increments.proofs.Summed.{below, set-alike, set-elsewhere, set-number, set-taken}
 
 -- an object that is opened to write and has its amount
 abbrev pub asAdded : ℕ → ℕ → Object
@@ -42,16 +42,20 @@ module _ (s : System) (q : Quorums s) (c : Coordinator) (me : ℕ) (m : Meets s 
   abbrev e : Coordinator
   e = setOf (openOf c me t 1 .coordinator) me t v .coordinator
 
-  is-opened : o ≡ opened c t 1
+  pub one-opens : openOf c me t 1 .number ≡ 0
   unfolding openOf openRefusals
-  is-opened =
+  one-opens =
       let a : ltb me nodes ≡ true = lt-ltb me nodes known in
       let b : eqb (c .phase) openPhase ≡ true = eq-eqb (c .phase) openPhase phase in
       let d : ltb t objectsEnd ≡ true = lt-ltb t objectsEnd small in
       let f : isOpen c t ≡ false = le-ltb (placeOf c t) mostOpen shut in
       let g : ltb (c .count) mostOpen ≡ true = lt-ltb (c .count) mostOpen room in
       let n : firstOf (openRefusals c me t) ≡ 0 = simp (a, b, d, f, g) in
-      taken-after (firstOf (openRefusals c me t)) 0 c (opened c t 1) (sym (step-number _ 0 c (opened c t 1)) ∙ n)
+      sym (step-number _ 0 c (opened c t 1)) ∙ n
+
+  is-opened : o ≡ opened c t 1
+  unfolding openOf
+  is-opened = taken-after (firstOf (openRefusals c me t)) 0 c (opened c t 1) one-opens
 
   meets-opened : Meets s o
   meets-opened = open-keeps s q c me m t 1 (omega arith)
@@ -87,6 +91,11 @@ module _ (s : System) (q : Quorums s) (c : Coordinator) (me : ℕ) (m : Meets s 
 
   same-set : e ≡ e'
   same-set = ap (λ (n : ℕ). setOf o me n v .coordinator) (sym named)
+
+  pub one-sets : setOf (openOf c me t 1 .coordinator) me t v .number ≡ 0
+  one-sets =
+      ap (λ (n : ℕ). setOf o me n v .number) (sym named)
+      ∙ set-number s o me meets-opened (c .count) inside v open-phase known (λ z. let w = ap (λ (x : Object). x .mode) last in omega arith)
 
   pub one-meets : Meets s (setOf (openOf c me t 1 .coordinator) me t v .coordinator)
   one-meets = set-keeps s q o me meets-opened t v
@@ -214,6 +223,21 @@ module _ (s : System) (q : Quorums s) (c : Coordinator) (me : ℕ) (m : Meets s 
       }
   adds-into (suc i) h =
       subst (λ (d : Coordinator). Into s c l d (suc i)) (sym (adds-next i (omega arith))) (next-into i (addsTo i) (omega arith) (adds-into i (omega arith)))
+
+  -- each is taken
+  pub adds-open : (i : ℕ) → i < length l → openOf (ran s c me (adding (take i l) [])) me (amountAt l i .object) 1 .number ≡ 0
+  adds-open i h =
+      let p = adds-into i (omega arith) in
+      one-opens s q (addsTo i) me (p .meets) (still-open i (addsTo i) h p) known (amountAt l i .object) (amountAt l i .grams) (small i h)
+      (shut i (addsTo i) h p) (room-left i (addsTo i) h p)
+
+  pub adds-set : (i : ℕ) → i < length l
+      → setOf (openOf (ran s c me (adding (take i l) [])) me (amountAt l i .object) 1 .coordinator) me (amountAt l i .object) (amountAt l i .grams) .number
+      ≡ 0
+  adds-set i h =
+      let p = adds-into i (omega arith) in
+      one-sets s q (addsTo i) me (p .meets) (still-open i (addsTo i) h p) known (amountAt l i .object) (amountAt l i .grams) (small i h)
+      (shut i (addsTo i) h p) (room-left i (addsTo i) h p)
 
   -- ---- all of them
   whole : Into s c l (ran s c me (adding l [])) (length l)

@@ -123,11 +123,11 @@ module _ (s : System) (q : Quorums s) (c : Coordinator) (me : ℕ) (m : Meets s 
   pub summed-rest : ran s c me (summing (inUse c) []) ≡ withObjects c (c .contacted) (c .count) (ran s c me (summing (inUse c) []) .objects)
   summed-rest = sums-partly s q c me m (c .count) (omega arith) .alike
 
-  -- ---- written objects of an open transaction: each new value is the sum, and nothing else changes
-  module _ (phase : c .phase ≡ openPhase) (known : me < nodes) (written : (j : ℕ) → j < c .count → at (c .objects) j .mode ≡ 1) where
-    sums-new : (i : ℕ) → i ≤ c .count → (j : ℕ) → j < i → at (sumsTo s c me i .objects) j ≡ renewed (at (c .objects) j) (sumOf (at (c .objects) j))
-    sums-new zero h j k = absurd (omega arith)
-    sums-new (suc i) h j k =
+  -- ---- a written object of an open transaction: its new value is the sum, and nothing else changes
+  module _ (phase : c .phase ≡ openPhase) (known : me < nodes) (j : ℕ) (written : at (c .objects) j .mode ≡ 0 → ⊥) where
+    sums-new : (i : ℕ) → i ≤ c .count → j < i → at (sumsTo s c me i .objects) j ≡ renewed (at (c .objects) j) (sumOf (at (c .objects) j))
+    sums-new zero h k = absurd (omega arith)
+    sums-new (suc i) h k =
         let x = at (c .objects) i in
         let e = sumsTo s c me i in
         let p = sums-partly s q c me m i (omega arith) in
@@ -142,11 +142,11 @@ module _ (s : System) (q : Quorums s) (c : Coordinator) (me : ℕ) (m : Meets s 
         (λ (n : ℕ). at (setOf e me (at (e .objects) i .object) (sumOf x) .coordinator .objects) n ≡ renewed (at (c .objects) n) (sumOf (at (c .objects) n)))
         (sym (eqb-true j i b))
         (set-taken s e me (p .meets) i (omega arith) (sumOf x) (ap (λ (b : Coordinator). b .phase) (p .alike) ∙ phase) known
-        (λ z. let w = ap (λ (y : Object). y .mode) here in let v = written i (omega arith) in omega arith)
+        (λ z. written (ap (λ (n : ℕ). at (c .objects) n .mode) (eqb-true j i b) ∙ sym (ap (λ (y : Object). y .mode) here) ∙ z))
         ∙ ap (λ (y : Object). renewed y (sumOf x)) here))
         (λ b. set-elsewhere s e me (p .meets) i (omega arith) (sumOf x) j (eqb-false j i b)
-        ∙ sums-new i (omega arith) j (let n = eqb-false j i b in below j i k n))
+        ∙ sums-new i (omega arith) (let n = eqb-false j i b in below j i k n))
 
-    pub summed-new : (j : ℕ) → j < c .count
+    pub summed-new : j < c .count
         → at (ran s c me (summing (inUse c) []) .objects) j ≡ renewed (at (c .objects) j) (sum64 (at (c .objects) j .value) (at (c .objects) j .new))
-    summed-new j h = sums-new (c .count) (omega arith) j h
+    summed-new h = sums-new (c .count) (omega arith) h

@@ -16,6 +16,7 @@ use Rattle.coordinator.specs.declared.Coordinator.{Coordinator}
 use Rattle.coordinator.specs.System.{System}
 use Rattle.coordinator.specs.State.{openPhase, noObject, placeOf, objectAt, isOpen}
 use Rattle.coordinator.specs.Calls.{withObjects, renewed, setRefusals, withNew, setOf}
+use Rattle.coordinator.proofs.Refusals.{clear}
 use Rattle.coordinator.proofs.Theorems.{taken-after}
 use Rattle.clauses.proofs.Parts.{by-test, neither-right}
 use Rattle.clauses.proofs.Places.{at, place-at}
@@ -68,18 +69,30 @@ module _ (s : System) (c : Coordinator) (me : ℕ) (m : Meets s c) (i : ℕ) (h 
       inr (λ e. written (ap (λ (y : Object). y .mode) found-here ∙ e), put-here))
 
   -- of a written object of an open transaction it is taken
-  pub set-taken : c .phase ≡ openPhase → me < nodes → (at (c .objects) i .mode ≡ 0 → ⊥)
-      → at (setOf c me t v .coordinator .objects) i ≡ renewed (at (c .objects) i) v
+  pub set-number : c .phase ≡ openPhase → me < nodes → (at (c .objects) i .mode ≡ 0 → ⊥) → setOf c me (at (c .objects) i .object) v .number ≡ 0
   unfolding setOf setRefusals
-  set-taken phase known written =
+  set-number phase known written =
       let a : ltb me nodes ≡ true = lt-ltb me nodes known in
       let b : eqb (c .phase) openPhase ≡ true = eq-eqb (c .phase) openPhase phase in
       let o : isOpen c t ≡ true = lt-ltb (placeOf c t) mostOpen (let p = placed in let k = m .objects .eight-at-most in omega arith) in
       let w : eqb (objectAt c t .mode) 0 ≡ false = ne-eqb (objectAt c t .mode) 0 (λ e. written (sym (ap (λ (y : Object). y .mode) found-here) ∙ e)) in
       let n : firstOf (setRefusals c me t) ≡ 0 = simp (a, b, o, w) in
+      sym (step-number _ 0 c (withNew c t v)) ∙ n
+
+  pub set-taken : c .phase ≡ openPhase → me < nodes → (at (c .objects) i .mode ≡ 0 → ⊥)
+      → at (setOf c me t v .coordinator .objects) i ≡ renewed (at (c .objects) i) v
+  unfolding setOf setRefusals
+  set-taken phase known written =
       ap (λ (x : Coordinator). at (x .objects) i)
-      (taken-after (firstOf (setRefusals c me t)) 0 c (withNew c t v) (sym (step-number _ 0 c (withNew c t v)) ∙ n))
-      ∙ put-here
+      (taken-after (firstOf (setRefusals c me t)) 0 c (withNew c t v) (set-number phase known written)) ∙ put-here
+
+  -- of one that is read it is not
+  pub set-refused : at (c .objects) i .mode ≡ 0 → setOf c me (at (c .objects) i .object) v .number ≡ 0 → ⊥
+  unfolding setOf setRefusals
+  set-refused e z =
+      let k = clear (setRefusals c me t) tt (step-number _ 0 c (withNew c t v) ∙ z) in
+      eqb-false (objectAt c t .mode) 0 (neither-right (not (isOpen c t)) (eqb (objectAt c t .mode) 0) (k .1 .1 .0))
+      (ap (λ (y : Object). y .mode) found-here ∙ e)
 
   pub set-elsewhere : (j : ℕ) → (j ≡ i → ⊥) → at (setOf c me t v .coordinator .objects) j ≡ at (c .objects) j
   unfolding setOf setRefusals withNew

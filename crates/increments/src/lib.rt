@@ -39,6 +39,7 @@ pub fn is_past(a: u64, g: u64) -> bool
 
 // Opens each object to write and gives it its amount, in this order. Ruled out: an amount given to the object beside; the last object left out.
 // The condition is a plain fact of a record that was checked; only the crates that work on one use it, and each proves it.
+// 'The check passed' is asked for: the front end, its one caller, has run it.
 pub fn add_all(
     bytes: &mut [u8],
     me: u8,
@@ -62,6 +63,7 @@ pub fn add_all(
 
 // Whether a new value is past the range. Ruled out: the last object left out; yes for an object past the count.
 // The condition is a plain fact of a record that was checked; only the crates that work on one use it, and each proves it.
+// 'The check passed' is asked for: the front end, its one caller, has run it.
 pub fn any_past(bytes: &[u8]) -> bool
     requires { ⌜ check (now bytes) ≡ 0 ⌝ }
     ensures { λ r. ⌜ r ≡ anyPast (recordOf (now (bytes .entry))) ⌝ }
@@ -80,6 +82,7 @@ pub fn any_past(bytes: &[u8]) -> bool
 
 // Adds each amount to the value found: the sum is the new value. Ruled out: the value found overwritten; an amount added twice.
 // The condition is a plain fact of a record that was checked; only the crates that work on one use it, and each proves it.
+// 'The check passed' is asked for: the front end, its one caller, has run it.
 pub fn sum_all(bytes: &mut [u8], me: u8)
     requires { ⌜ check (now bytes) ≡ 0 ⌝ }
     ensures { λ r. ⌜ now (bytes .exit) ≡ bytesOf (ran tree (recordOf (now (bytes .entry))) me (summing (inUse (recordOf (now (bytes .entry)))) [])) ⌝ }

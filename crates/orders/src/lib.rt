@@ -4,6 +4,7 @@ use coordinator::BeginWith;
 // The kinds of steps.
 pub enum Kind {
     Begin,
+    Batch,
     OpenRead,
     OpenWrite,
     SetValue,
@@ -12,6 +13,7 @@ pub enum Kind {
     RequestCommit,
     Abort,
     LoadHours,
+    LoadClasses,
     Send,
     Deliver,
     Drop,

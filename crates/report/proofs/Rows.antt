@@ -44,20 +44,20 @@ same-eq (x ∷ xs) [] e = absurd (subst T (sym e) tt)
 same-eq (x ∷ xs) (y ∷ ys) e = ap₂ _∷_ (eqb-true x y (left (eqb x y) _ e)) (same-eq xs ys (right (eqb x y) _ e))
 
 -- ---- a row lies within the bytes, and the kinds name rows
-pub row-fits : (k : ℕ) → k < 22 → (getD places k 0 ≤ getD places (k + 1) 0) × (getD places (k + 1) 0 ≤ 150)
+pub row-fits : (k : ℕ) → k < 24 → (getD places k 0 ≤ getD places (k + 1) 0) × (getD places (k + 1) 0 ≤ 167)
 unfolding allBelow
 row-fits k h =
-    let e = below 22 (λ (j : ℕ). leb (getD places j 0) (getD places (j + 1) 0) && leb (getD places (j + 1) 0) 150) refl k h in
+    let e = below 24 (λ (j : ℕ). leb (getD places j 0) (getD places (j + 1) 0) && leb (getD places (j + 1) 0) 167) refl k h in
     (leb-true _ _ (left (leb (getD places k 0) (getD places (k + 1) 0)) _ e), leb-true _ _ (right (leb (getD places k 0) (getD places (k + 1) 0)) _ e))
 
-pub kind-fits : (i : ℕ) → i < 14 → getD kinds i 0 < 22
+pub kind-fits : (i : ℕ) → i < 14 → getD kinds i 0 < 24
 unfolding allBelow
-kind-fits i h = ltb-true _ _ (below 14 (λ (j : ℕ). ltb (getD kinds j 0) 22) refl i h)
+kind-fits i h = ltb-true _ _ (below 14 (λ (j : ℕ). ltb (getD kinds j 0) 24) refl i h)
 
 -- ---- the rows of all numbers, and of all kinds
-pub number-row : (n : ℕ) → n < 256 → rowAt (cap 13 n) ≡ wordOfNumber n
+pub number-row : (n : ℕ) → n < 256 → rowAt (cap 15 n) ≡ wordOfNumber n
 unfolding allBelow same rowAt words wordOfNumber
-number-row n h = same-eq _ _ (below 256 (λ (k : ℕ). same (rowAt (cap 13 k)) (wordOfNumber k)) refl n h)
+number-row n h = same-eq _ _ (below 256 (λ (k : ℕ). same (rowAt (cap 15 k)) (wordOfNumber k)) refl n h)
 
 kind-as : (kind : ℕ) → kind < 256 → (rowAt (kindRow kind 0) ≡ kindWord kind 0) × (rowAt (kindRow kind 1) ≡ kindWord kind 1)
 unfolding allBelow same rowAt words kindWord

@@ -5,19 +5,20 @@ use mathlib.Core.List.{List, [], _∷_, _++_}
 use lib.Dec.{ltb, eqb}
 use lib.ListN.{getD, take, drop}
 use Rattle.report.specs.Texts.{Text, lengthWord, damagedWord, garbledWord, strangerWord, outOfTurnWord, noSuchWord, eightOpenWord, noQuorumWord}
-use Rattle.report.specs.Texts.{usedUpWord, busyWord, notReadyWord, poolFullWord, closedWord}
+use Rattle.report.specs.Texts.{usedUpWord, busyWord, notReadyWord, poolFullWord, closedWord, boundsWord, tallyTwiceWord}
 use Rattle.report.specs.Texts.{fetchWord, copyWord, askWord, yesWord, noWord, commitWord, abortWord, doneWord, yieldWord}
 
 -- the bytes, one row behind another
 unfoldable pub words : Text
 words =
-    closedWord ++ lengthWord ++ damagedWord ++ garbledWord ++ strangerWord ++ outOfTurnWord ++ noSuchWord ++ eightOpenWord ++ noQuorumWord ++ usedUpWord
-    ++ busyWord ++ notReadyWord ++ poolFullWord ++ fetchWord ++ copyWord ++ askWord ++ noWord ++ yesWord ++ abortWord ++ commitWord ++ doneWord ++ yieldWord
+    tallyTwiceWord ++ lengthWord ++ damagedWord ++ garbledWord ++ strangerWord ++ outOfTurnWord ++ noSuchWord ++ eightOpenWord ++ noQuorumWord ++ usedUpWord
+    ++ busyWord ++ notReadyWord ++ poolFullWord ++ closedWord ++ boundsWord
+    ++ fetchWord ++ copyWord ++ askWord ++ noWord ++ yesWord ++ abortWord ++ commitWord ++ doneWord ++ yieldWord
 
 -- where each row begins, and the end
 abbrev pub places : List ℕ
 places =
-    0 ∷ 6 ∷ 12 ∷ 19 ∷ 26 ∷ 34 ∷ 45 ∷ 58 ∷ 68 ∷ 77 ∷ 91 ∷ 95 ∷ 104 ∷ 113 ∷ 118 ∷ 122 ∷ 125 ∷ 127 ∷ 130 ∷ 135 ∷ 141 ∷ 145 ∷ 150 ∷ []
+    0 ∷ 11 ∷ 17 ∷ 24 ∷ 31 ∷ 39 ∷ 50 ∷ 63 ∷ 73 ∷ 82 ∷ 96 ∷ 100 ∷ 109 ∷ 118 ∷ 124 ∷ 130 ∷ 135 ∷ 139 ∷ 142 ∷ 144 ∷ 147 ∷ 152 ∷ 158 ∷ 162 ∷ 167 ∷ []
 
 unfoldable pub rowAt : ℕ → Text
 rowAt k = take (getD places (k + 1) 0 - getD places k 0) (drop (getD places k 0) words)
@@ -28,7 +29,7 @@ cap limit n = cond (ltb n limit) n 0
 
 -- the rows of each kind, for a word other than 1 and for 1
 abbrev pub kinds : List ℕ
-kinds = 21 ∷ 21 ∷ 13 ∷ 13 ∷ 14 ∷ 14 ∷ 15 ∷ 15 ∷ 16 ∷ 17 ∷ 18 ∷ 19 ∷ 20 ∷ 20 ∷ []
+kinds = 23 ∷ 23 ∷ 15 ∷ 15 ∷ 16 ∷ 16 ∷ 17 ∷ 17 ∷ 18 ∷ 19 ∷ 20 ∷ 21 ∷ 22 ∷ 22 ∷ []
 
 abbrev pub kindRow : ℕ → ℕ → ℕ
 kindRow kind word = cond (eqb word 1) (getD kinds (2 * cap 7 kind + 1) 0) (getD kinds (2 * cap 7 kind) 0)

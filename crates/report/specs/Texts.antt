@@ -147,6 +147,14 @@ poolFullWord = 112 ∷ 111 ∷ 111 ∷ 108 ∷ 32 ∷ 102 ∷ 117 ∷ 108 ∷ 10
 abbrev pub closedWord : Text
 closedWord = 99 ∷ 108 ∷ 111 ∷ 115 ∷ 101 ∷ 100 ∷ []
 
+-- `bounds`
+abbrev pub boundsWord : Text
+boundsWord = 98 ∷ 111 ∷ 117 ∷ 110 ∷ 100 ∷ 115 ∷ []
+
+-- `tally twice`
+abbrev pub tallyTwiceWord : Text
+tallyTwiceWord = 116 ∷ 97 ∷ 108 ∷ 108 ∷ 121 ∷ 32 ∷ 116 ∷ 119 ∷ 105 ∷ 99 ∷ 101 ∷ []
+
 -- ---- the word of a message: a vote is `yes` or `no`, an outcome `commit` or `abort`; any kind but 1 to 6 is `yield`
 unfoldable pub kindWord : ℕ → ℕ → Text
 kindWord kind word =
@@ -192,7 +200,7 @@ messageTexts m =
     routeTexts (headerOf m) (wordOf m) ++ nameTexts (headerOf m) ++ eachFrom (nthEntryTexts m) (entryCount m) 0
     ++ eachFrom (nthRivalTexts m) (rivalCount m) 0
 
--- ---- the words of the numbers; any number but 1 to 12 has that of 13
+-- ---- the words of the numbers; any number but 1 to 14 has that of 15
 unfoldable pub wordOfNumber : ℕ → Text
 wordOfNumber n =
     cond (eqb n 1) lengthWord
@@ -203,4 +211,7 @@ wordOfNumber n =
     (cond (eqb n 6) noSuchWord
     (cond (eqb n 7) eightOpenWord
     (cond (eqb n 8) noQuorumWord
-    (cond (eqb n 9) usedUpWord (cond (eqb n 10) busyWord (cond (eqb n 11) notReadyWord (cond (eqb n 12) poolFullWord closedWord)))))))))))
+    (cond (eqb n 9) usedUpWord
+    (cond (eqb n 10) busyWord
+    (cond (eqb n 11) notReadyWord
+    (cond (eqb n 12) poolFullWord (cond (eqb n 13) closedWord (cond (eqb n 14) boundsWord tallyTwiceWord)))))))))))))

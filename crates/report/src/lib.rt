@@ -47,7 +47,7 @@ pub fn value(out: &mut [u8], at: usize, label: &[u8], v: u64) -> usize
 }
 
 // The words of the numbers and of the kinds, a row each: `closed`, those of the numbers 1 to 12, those of the kinds.
-const WORDS: [u8; 150] = *b"closed\
+const WORDS: [u8; 167] = *b"tally twice\
     length\
     damaged\
     garbled\
@@ -60,6 +60,8 @@ const WORDS: [u8; 150] = *b"closed\
     busy\
     not ready\
     pool full\
+    closed\
+    bounds\
     fetch\
     copy\
     ask\
@@ -71,38 +73,40 @@ const WORDS: [u8; 150] = *b"closed\
     yield";
 
 // Where each row begins, and where the last one ends.
-const PLACES: [usize; 23] = [
+const PLACES: [usize; 25] = [
     0,
-    6,
-    12,
-    19,
-    26,
-    34,
-    45,
-    58,
-    68,
-    77,
-    91,
-    95,
-    104,
-    113,
+    11,
+    17,
+    24,
+    31,
+    39,
+    50,
+    63,
+    73,
+    82,
+    96,
+    100,
+    109,
     118,
-    122,
-    125,
-    127,
+    124,
     130,
     135,
-    141,
-    145,
-    150,
+    139,
+    142,
+    144,
+    147,
+    152,
+    158,
+    162,
+    167,
 ];
 
 // The rows of each kind, for a word other than 1 and for 1; first those of kinds that are none of 1 to 6.
-const KINDS: [usize; 14] = [21, 21, 13, 13, 14, 14, 15, 15, 16, 17, 18, 19, 20, 20];
+const KINDS: [usize; 14] = [23, 23, 15, 15, 16, 16, 17, 17, 18, 19, 20, 21, 22, 22];
 
 // Where a row begins.
 fn place(k: usize) -> usize
-    requires { ⌜ k < 23 ⌝ }
+    requires { ⌜ k < 25 ⌝ }
     ensures { λ r. ⌜ r ≡ getD places k 0 ⌝ }
 {
     PLACES[k]
@@ -110,7 +114,7 @@ fn place(k: usize) -> usize
 
 // Puts the word of a row.
 fn row(out: &mut [u8], at: usize, k: usize) -> usize
-    requires { ⌜ k < 22 ⌝ }
+    requires { ⌜ k < 24 ⌝ }
     ensures { λ r. ⌜ page (now (out .exit)) r ≡ ink (page (now (out .entry)) at) (rowAt k) ⌝ }
 {
     let a = place(k);
@@ -128,7 +132,7 @@ fn capped(n: u8, limit: u8) -> usize
 
 // The row of a kind, with the message's word.
 fn kind_row(kind: u8, word: u8) -> usize
-    ensures { λ r. ⌜ (r ≡ kindRow kind word) × (r < 22) ⌝ }
+    ensures { λ r. ⌜ (r ≡ kindRow kind word) × (r < 24) ⌝ }
 {
     let k = capped(kind, 7);
     if word == 1 {
@@ -234,5 +238,5 @@ pub fn message(out: &mut [u8], at: usize, m: &[u8]) -> usize
 pub fn word(out: &mut [u8], at: usize, n: u8) -> usize
     ensures { λ r. ⌜ page (now (out .exit)) r ≡ ink (page (now (out .entry)) at) (wordOfNumber n) ⌝ }
 {
-    row(out, at, capped(n, 13))
+    row(out, at, capped(n, 15))
 }

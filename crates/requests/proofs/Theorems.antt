@@ -8,12 +8,10 @@ use lib.Dec.{eqb}
 use lib.ListN.{length}
 use borrow.Author.Tests.{ne-eqb}
 use Rattle.numbers.specs.Numbers.{wrongLength}
-use Rattle.octets.specs.Signed.{bitsOf}
-use Rattle.coordinator.specs.declared.BeginWith.{BeginWith}
 use Rattle.coordinator.specs.declared.Step.{Step}
 use Rattle.coordinator.specs.System.{tree}
-use Rattle.coordinator.specs.Calls.{openOf, setOf, foundOf, reselectOf, requestCommitOf, abortOf}
-use Rattle.steps.specs.Step.{openRead, openWrite, setValue, found, reselect, requestCommit, abort, hosted}
+use Rattle.coordinator.specs.Calls.{foundOf, reselectOf, abortOf}
+use Rattle.steps.specs.Step.{found, reselect, abort, hosted}
 use Rattle.steps.specs.Step.{Call as StepCall, step as stepOf}
 use Rattle.buffers.specs.declared.Answer.{Answer}
 use Rattle.buffers.specs.Buffers.{Buffers, all, ends, recordIn, stationOf, answerWith}
@@ -21,18 +19,18 @@ use Rattle.station_calls.specs.Calls.{hostTold, hostRecords}
 use Rattle.holding.specs.Left.{toldOf as stepTold, leftOf as stepLeft}
 use Rattle.holding.proofs.Same.{host-told, host-records, send-same, drop-same, switch-same}
 use Rattle.service.specs.Service.{Call}
-use Rattle.service_calls.specs.Lent.{Lent, lent, beginTold, beginRecords, blankNumber, blankAfter}
+use Rattle.service_calls.specs.Lent.{Lent, lent, blankNumber, blankAfter}
 use Rattle.accounts.specs.Accounts.{Origin, blankOrigin}
 use Rattle.host.specs.Distances.{distancesOf}
-use Rattle.host.specs.Records.{beginWith}
-use Rattle.host.specs.Stations.{toldWith, recordsWith, beginToldWith, beginRecordsWith, yes}
+use Rattle.host.specs.Stations.{toldWith, recordsWith, beginToldWith, beginRecordsWith, beginSettingsWith, yes}
 use Rattle.runs.specs.Left.{toldOf, leftOf}
 use Rattle.runs.specs.Held.{Holds, Next}
-use Rattle.runs.proofs.Same.{begin-same, load-same}
+use Rattle.runs.proofs.Same.{front-told, front-records, front-settings, load-same}
 use Rattle.runs.proofs.Demand.{claimed, begun}
-use Rattle.requests.specs.Requests.{Request, stationBegin, stationOpenRead, stationOpenWrite, stationSetValue, stationFound, stationReselect}
-use Rattle.requests.specs.Requests.{stationRequestCommit, stationAbort, stationLoadHours, stationSend, stationDeliver, stationDrop, stationSwitch}
-use Rattle.requests.specs.Requests.{OfTypes, requestTold, withRecords, withPool, requestLeft, callOf, lentWell, callsAfter, leftBy, AllOfTypes}
+use Rattle.requests.specs.Requests.{Asked, stationBegin, stationBatch, stationOpenRead, stationOpenWrite, stationSetValue, stationRequestCommit}
+use Rattle.requests.specs.Requests.{stationLoadClasses, Request, stationFront, stationFound, stationReselect, stationAbort, stationLoadHours}
+use Rattle.requests.specs.Requests.{stationSend, stationDeliver, stationDrop, stationSwitch, OfTypes, frontOf, callOf, askedWell, lentWell, frontLent}
+use Rattle.requests.specs.Requests.{Words, words, wordsOf, requestTold, withEnds, withPool, requestLeft, callsAfter, leftBy, AllOfTypes}
 use Rattle.requests.proofs.Types.{typed}
 
 -- ---- 26 bytes of distances: the step by itself
@@ -45,13 +43,27 @@ module _ (d : List ℕ) (e : eqb (length d) 26 ≡ true) where
   unfolding recordsWith
   records-with b n f = simp e
 
-  begin-told-with : (b : Lent) (n : ℕ) (w : BeginWith) (day minute : ℕ) → beginToldWith d b n w day minute ≡ beginTold b n w day minute
-  unfolding beginToldWith
-  begin-told-with b n w day minute = simp e
+-- ---- a front end's function tells and leaves what the step tells and leaves; with distances of another length they are 1, and everything is left
+words-well : (a : Asked) (b : Lent) (n : ℕ) → askedWell a ≡ true → wordsOf a b n ≡ words b n (frontOf a)
+unfolding askedWell wordsOf frontOf beginToldWith beginRecordsWith beginSettingsWith
+words-well (stationBegin live d timestamp day minute) b n h = simp h
+words-well (stationBatch live d timestamp day minute list) b n h = simp h
+words-well (stationOpenRead t) b n h = refl
+words-well (stationOpenWrite t) b n h = refl
+words-well (stationSetValue t v) b n h = refl
+words-well stationRequestCommit b n h = refl
+words-well (stationLoadClasses list) b n h = refl
 
-  begin-records-with : (b : Lent) (n : ℕ) (w : BeginWith) (day minute : ℕ) → beginRecordsWith d b n w day minute ≡ beginRecords b n w day minute
-  unfolding beginRecordsWith
-  begin-records-with b n w day minute = simp e
+words-not : (a : Asked) (b : Lent) (n : ℕ) → askedWell a ≡ false
+    → wordsOf a b n ≡ record { told = answerWith wrongLength 0; records = b .station .records; settings = b .settings }
+unfolding askedWell wordsOf beginToldWith beginRecordsWith beginSettingsWith
+words-not (stationBegin live d timestamp day minute) b n h = simp h
+words-not (stationBatch live d timestamp day minute list) b n h = simp h
+words-not (stationOpenRead t) b n h = absurd (true≢false h)
+words-not (stationOpenWrite t) b n h = absurd (true≢false h)
+words-not (stationSetValue t v) b n h = absurd (true≢false h)
+words-not stationRequestCommit b n h = absurd (true≢false h)
+words-not (stationLoadClasses list) b n h = absurd (true≢false h)
 
 -- ---- a host's call at node n that is settled there, over the records and who is on
 module _ (b : Lent) (n : ℕ) (c : StepCall) (s : Step) where
@@ -62,38 +74,37 @@ module _ (b : Lent) (n : ℕ) (c : StepCall) (s : Step) where
   part = ends (b .station .records) (b .station .own)
 
   host-is : stepOf (stationOf part) c ≡ hosted (stationOf part) n s → stepOf (stationOf whole) c ≡ hosted (stationOf whole) n s
-      → (hostTold part n c ≡ hostTold whole n c) × (withRecords b (hostRecords part n c) ≡ withRecords b (hostRecords whole n c))
+      → (hostTold part n c ≡ hostTold whole n c) × (withEnds b (hostRecords part n c) (b .settings) ≡ withEnds b (hostRecords whole n c) (b .settings))
   host-is p q =
       let B = b .station in (
         host-told (B .images) (B .records) (B .pool) (B .own) n c s p q,
-        ap (withRecords b) (host-records (B .images) (B .records) (B .pool) (B .own) n c s p q),
+        ap (λ (R : List ℕ). withEnds b R (b .settings)) (host-records (B .images) (B .records) (B .pool) (B .own) n c s p q),
       )
 
 -- ---- THE THEOREM: a request whose distances have their length is its step
 pub is-its-step : (q : Request) (b : Lent) → lentWell q ≡ true → (requestTold q b ≡ toldOf b (callOf q)) × (requestLeft q b ≡ leftOf b (callOf q))
 unfolding requestTold requestLeft callOf lentWell toldOf leftOf stepTold stepLeft stepOf
-is-its-step (stationBegin n live d timestamp day minute) b h =
+is-its-step (stationFront n a) b h =
     let B = b .station in
-    let w = beginWith live d timestamp in
-    let a = lent [] (B .records) [] (B .own) (b .settings) in
-    let z = begin-same (B .images) (B .records) (B .pool) (B .own) (b .settings) n w day minute in
-    (begin-told-with d h a n w day minute ∙ z .0, ap (withRecords b) (begin-records-with d h a n w day minute ∙ z .1))
-is-its-step (stationOpenRead n t) b h = host-is b n (openRead n t) (openOf (recordIn (b .station .records) n) n t 0) refl refl
-is-its-step (stationOpenWrite n t) b h = host-is b n (openWrite n t) (openOf (recordIn (b .station .records) n) n t 1) refl refl
-is-its-step (stationSetValue n t v) b h = host-is b n (setValue n t (bitsOf v)) (setOf (recordIn (b .station .records) n) n t (bitsOf v)) refl refl
+    let f = frontOf a in
+    let w = words-well a (frontLent b) n h in (
+      ap (λ (x : Words). x .told) w ∙ front-told (B .images) (B .records) (B .pool) (B .own) (b .settings) n f,
+      ap (λ (x : Words). withEnds b (x .records) (x .settings)) w ∙ (λ i. withEnds b
+          (front-records (B .images) (B .records) (B .pool) (B .own) (b .settings) n f i)
+          (front-settings (B .images) (B .records) (B .pool) (B .own) (b .settings) n f i)),
+    )
 is-its-step (stationFound n t) b h = host-is b n (found n t) (foundOf tree (recordIn (b .station .records) n) n t) refl refl
 is-its-step (stationReselect n live d) b h =
     let B = b .station in
     let x = distancesOf d in
     let z = host-is b n (reselect n live x) (reselectOf tree (recordIn (B .records) n) n live x) refl refl in
     let a = ends (B .records) (B .own) in
-    (told-with d h a n (reselect n live) ∙ z .0, ap (withRecords b) (records-with d h a n (reselect n live)) ∙ z .1)
-is-its-step (stationRequestCommit n) b h = host-is b n (requestCommit n) (requestCommitOf tree (recordIn (b .station .records) n) n) refl refl
+    (told-with d h a n (reselect n live) ∙ z .0, ap (λ (R : List ℕ). withEnds b R (b .settings)) (records-with d h a n (reselect n live)) ∙ z .1)
 is-its-step (stationAbort n) b h = host-is b n (abort n) (abortOf (recordIn (b .station .records) n) n) refl refl
 is-its-step (stationLoadHours n list) b h =
     let B = b .station in
     let z = load-same (B .images) (B .records) (B .pool) (B .own) (b .settings) n list in
-    (z .0, ap (λ (s : List ℕ). lent (B .images) (B .records) (B .pool) (B .own) s) (z .1))
+    (z .0, ap (withEnds b (B .records)) (z .1))
 is-its-step (stationSend n to t) b h =
     let B = b .station in
     let z = send-same (B .images) (B .records) (B .pool) (B .own) n to t in
@@ -110,14 +121,11 @@ is-its-step (stationSwitch n up) b h =
 
 -- any other is 1, and leaves everything as it was
 pub is-no-step : (q : Request) (b : Lent) → lentWell q ≡ false → (requestTold q b ≡ answerWith wrongLength 0) × (requestLeft q b ≡ b)
-unfolding requestTold requestLeft lentWell toldWith recordsWith beginToldWith beginRecordsWith
-is-no-step (stationBegin n live d timestamp day minute) b h = simp h (refl, refl)
-is-no-step (stationOpenRead n t) b h = absurd (true≢false h)
-is-no-step (stationOpenWrite n t) b h = absurd (true≢false h)
-is-no-step (stationSetValue n t v) b h = absurd (true≢false h)
+unfolding requestTold requestLeft lentWell toldWith recordsWith
+is-no-step (stationFront n a) b h =
+    let w = words-not a (frontLent b) n h in (ap (λ (x : Words). x .told) w, ap (λ (x : Words). withEnds b (x .records) (x .settings)) w)
 is-no-step (stationFound n t) b h = absurd (true≢false h)
 is-no-step (stationReselect n live d) b h = simp h (refl, refl)
-is-no-step (stationRequestCommit n) b h = absurd (true≢false h)
 is-no-step (stationAbort n) b h = absurd (true≢false h)
 is-no-step (stationLoadHours n list) b h = absurd (true≢false h)
 is-no-step (stationSend n to t) b h = absurd (true≢false h)

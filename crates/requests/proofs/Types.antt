@@ -9,10 +9,10 @@ use mir.ValLaws.{ofZ-fits}
 use Rattle.octets.proofs.Laws.{Bytes, get-small}
 use Rattle.history.specs.Claims.{Distances}
 use Rattle.host.specs.Distances.{pairsOf, distancesOf}
-use Rattle.accounts.specs.Accounts.{Typed}
-use Rattle.requests.specs.Requests.{Request, stationBegin, stationOpenRead, stationOpenWrite, stationSetValue, stationFound, stationReselect}
-use Rattle.requests.specs.Requests.{stationRequestCommit, stationAbort, stationLoadHours, stationSend, stationDeliver, stationDrop, stationSwitch}
-use Rattle.requests.specs.Requests.{OfTypes, callOf}
+use Rattle.accounts.specs.Accounts.{FrontTyped, Typed}
+use Rattle.requests.specs.Requests.{Asked, stationBegin, stationBatch, stationOpenRead, stationOpenWrite, stationSetValue, stationRequestCommit}
+use Rattle.requests.specs.Requests.{stationLoadClasses, Request, stationFront, stationFound, stationReselect, stationAbort, stationLoadHours}
+use Rattle.requests.specs.Requests.{stationSend, stationDeliver, stationDrop, stationSwitch, AskedOfTypes, OfTypes, frontOf, callOf}
 
 pairs-small : (n : ℕ) (l : List ℕ) (i : ℕ) → Bytes l → (j : ℕ) → getD (pairsOf n l i) j 0 < 2 ^ 16
 unfolding pairsOf
@@ -24,15 +24,21 @@ distances-typed : (l : List ℕ) → Bytes l → Distances (distancesOf l)
 unfolding distancesOf pairsOf
 distances-typed l h = (refl, pairs-small 13 l 0 h)
 
+asked-typed : (n : ℕ) (a : Asked) → AskedOfTypes a → FrontTyped n (frontOf a)
+unfolding frontOf
+asked-typed n (stationBegin live d timestamp day minute) h = (h .0, distances-typed d (h .1))
+asked-typed n (stationBatch live d timestamp day minute list) h = (h .0, distances-typed d (h .1))
+asked-typed n (stationOpenRead t) h = tt
+asked-typed n (stationOpenWrite t) h = tt
+asked-typed n (stationSetValue t v) h = ofZ-fits w64 v h .fits
+asked-typed n stationRequestCommit h = tt
+asked-typed n (stationLoadClasses list) h = tt
+
 pub typed : (q : Request) → OfTypes q → Typed (callOf q)
 unfolding callOf
-typed (stationBegin n live d timestamp day minute) h = (h .0, distances-typed d (h .1))
-typed (stationOpenRead n t) h = tt
-typed (stationOpenWrite n t) h = tt
-typed (stationSetValue n t v) h = ofZ-fits w64 v h .fits
+typed (stationFront n a) h = asked-typed n a h
 typed (stationFound n t) h = tt
 typed (stationReselect n live d) h = distances-typed d h
-typed (stationRequestCommit n) h = tt
 typed (stationAbort n) h = tt
 typed (stationLoadHours n list) h = tt
 typed (stationSend n to t) h = tt

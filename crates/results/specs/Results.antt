@@ -6,8 +6,8 @@ use lib.Dec.{eqb}
 use Rattle.report.specs.Texts.{Text, spaceText, valueText, numberTexts, valueTexts, wordOfNumber}
 use Rattle.buffers.specs.declared.Answer.{Answer}
 use Rattle.orders.specs.declared.Kind.{Kind}
-use Rattle.orders.specs.declared.Kind.the-variants.{Begin, OpenRead, OpenWrite, SetValue, Found, Reselect, RequestCommit, Abort, LoadHours}
-use Rattle.orders.specs.declared.Kind.the-variants.{Send, Deliver, Drop, Switch}
+use Rattle.orders.specs.declared.Kind.the-variants.{Begin, Batch, OpenRead, OpenWrite, SetValue, Found, Reselect, RequestCommit, Abort}
+use Rattle.orders.specs.declared.Kind.the-variants.{LoadHours, LoadClasses, Send, Deliver, Drop, Switch}
 
 -- the newline, and two spaces
 abbrev pub newline : Text
@@ -53,6 +53,7 @@ broughtTexts v =
 -- ---- what an accepted step answered, by its kind
 unfoldable pub answerTexts : Kind → ℕ → List Text
 answerTexts Begin v = numberTexts quorumText v
+answerTexts Batch v = numberTexts quorumText v
 answerTexts OpenRead v = []
 answerTexts OpenWrite v = []
 answerTexts SetValue v = []
@@ -61,6 +62,7 @@ answerTexts Reselect v = numberTexts quorumText v
 answerTexts RequestCommit v = numberTexts participantsText v
 answerTexts Abort v = broughtTexts v
 answerTexts LoadHours v = []
+answerTexts LoadClasses v = []
 answerTexts Send v = []
 answerTexts Deliver v = broughtTexts v
 answerTexts Drop v = []

@@ -11,8 +11,8 @@ use Rattle.replay.specs.Sheet.{begunAfter, openedAfter, valuedAfter, committedA
 use Rattle.buffers.specs.declared.Answer.{Answer}
 use Rattle.history.specs.Running.{putIn, sheetKeeper}
 use Rattle.orders.specs.declared.Kind.{Kind}
-use Rattle.orders.specs.declared.Kind.the-variants.{Begin, OpenRead, OpenWrite, SetValue, Found, Reselect, RequestCommit, Abort, LoadHours}
-use Rattle.orders.specs.declared.Kind.the-variants.{Send, Deliver, Drop, Switch}
+use Rattle.orders.specs.declared.Kind.the-variants.{Begin, Batch, OpenRead, OpenWrite, SetValue, Found, Reselect, RequestCommit, Abort}
+use Rattle.orders.specs.declared.Kind.the-variants.{LoadHours, LoadClasses, Send, Deliver, Drop, Switch}
 use Rattle.orders.specs.declared.Order.{Order}
 use Rattle.report.specs.Texts.{Text, messageTexts}
 use Rattle.results.specs.Results.{newline}
@@ -53,6 +53,7 @@ unfoldable pub namedTexts : Kind → List ℕ → ℕ → List Text
 namedTexts Deliver pool k = messageLine takesText (seen pool k)
 namedTexts Drop pool k = messageLine takesText (seen pool k)
 namedTexts Begin pool k = []
+namedTexts Batch pool k = []
 namedTexts OpenRead pool k = []
 namedTexts OpenWrite pool k = []
 namedTexts SetValue pool k = []
@@ -61,12 +62,14 @@ namedTexts Reselect pool k = []
 namedTexts RequestCommit pool k = []
 namedTexts Abort pool k = []
 namedTexts LoadHours pool k = []
+namedTexts LoadClasses pool k = []
 namedTexts Send pool k = []
 namedTexts Switch pool k = []
 
 -- ---- what replay is told of an accepted step, besides the message that it put
 unfoldable pub sheetTold : Kind → List ℕ → Order → ℕ → ℕ → List ℕ
 sheetTold Begin sheet o answer owner = begunAfter sheet (o .node)
+sheetTold Batch sheet o answer owner = begunAfter sheet (o .node)
 sheetTold OpenRead sheet o answer owner = openedAfter sheet (o .node) (o .object) 0
 sheetTold OpenWrite sheet o answer owner = openedAfter sheet (o .node) (o .object) 1
 sheetTold SetValue sheet o answer owner = valuedAfter sheet (o .node) (o .object) (o .value)
@@ -76,6 +79,7 @@ sheetTold Reselect sheet o answer owner = sheet
 sheetTold RequestCommit sheet o answer owner = sheet
 sheetTold Abort sheet o answer owner = sheet
 sheetTold LoadHours sheet o answer owner = sheet
+sheetTold LoadClasses sheet o answer owner = sheet
 sheetTold Send sheet o answer owner = sheet
 sheetTold Drop sheet o answer owner = sheet
 sheetTold Switch sheet o answer owner = sheet
@@ -85,6 +89,7 @@ unfoldable pub takenOut : Kind → Bool → ℕ
 takenOut Deliver kept = cond kept 0 1
 takenOut Drop kept = 1
 takenOut Begin kept = 0
+takenOut Batch kept = 0
 takenOut OpenRead kept = 0
 takenOut OpenWrite kept = 0
 takenOut SetValue kept = 0
@@ -93,6 +98,7 @@ takenOut Reselect kept = 0
 takenOut RequestCommit kept = 0
 takenOut Abort kept = 0
 takenOut LoadHours kept = 0
+takenOut LoadClasses kept = 0
 takenOut Send kept = 0
 takenOut Switch kept = 0
 

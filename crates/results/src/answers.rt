@@ -30,6 +30,7 @@ fn answer(out: &mut [u8], at: usize, kind: Kind, v: u64) -> usize
 {
     match kind {
         Kind::Begin => report::number(out, at, b" quorum ", v),
+        Kind::Batch => report::number(out, at, b" quorum ", v),
         Kind::Reselect => report::number(out, at, b" quorum ", v),
         Kind::RequestCommit => report::number(out, at, b" participants ", v),
         Kind::Found => report::value(out, at, b" value ", v),
@@ -39,6 +40,7 @@ fn answer(out: &mut [u8], at: usize, kind: Kind, v: u64) -> usize
         Kind::OpenWrite => at,
         Kind::SetValue => at,
         Kind::LoadHours => at,
+        Kind::LoadClasses => at,
         Kind::Send => at,
         Kind::Drop => at,
         Kind::Switch => at,

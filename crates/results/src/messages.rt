@@ -74,6 +74,7 @@ pub fn named(out: &mut [u8], at: usize, pool: &[u8], kind: Kind, k: u8) -> usize
         Kind::Deliver => shown(out, at, b"  takes ", pool, k),
         Kind::Drop => shown(out, at, b"  takes ", pool, k),
         Kind::Begin => at,
+        Kind::Batch => at,
         Kind::OpenRead => at,
         Kind::OpenWrite => at,
         Kind::SetValue => at,
@@ -82,6 +83,7 @@ pub fn named(out: &mut [u8], at: usize, pool: &[u8], kind: Kind, k: u8) -> usize
         Kind::RequestCommit => at,
         Kind::Abort => at,
         Kind::LoadHours => at,
+        Kind::LoadClasses => at,
         Kind::Send => at,
         Kind::Switch => at,
     }
@@ -100,6 +102,7 @@ fn taken_out(kind: Kind, kept: bool) -> u8
         }
         Kind::Drop => 1,
         Kind::Begin => 0,
+        Kind::Batch => 0,
         Kind::OpenRead => 0,
         Kind::OpenWrite => 0,
         Kind::SetValue => 0,
@@ -108,6 +111,7 @@ fn taken_out(kind: Kind, kept: bool) -> u8
         Kind::RequestCommit => 0,
         Kind::Abort => 0,
         Kind::LoadHours => 0,
+        Kind::LoadClasses => 0,
         Kind::Send => 0,
         Kind::Switch => 0,
     }
@@ -126,13 +130,16 @@ fn put_place(before: u8, gone: u8, now: u8) -> u8
     NOWHERE
 }
 
-// Replay is told of an accepted step.
+// Replay is told of an accepted step; of a batch that it began (what it opens is told from its record: crate telling).
 fn told(sheet: &mut [u64], o: Order, answer: u64, owner: u8)
     ensures { λ r. ⌜ now (sheet .exit) ≡ sheetTold (o .kind) (now (sheet .entry)) o answer owner ⌝ }
 {
     let kind = o.kind;
     match kind {
         Kind::Begin => {
+            replay::begun(sheet, o.node);
+        }
+        Kind::Batch => {
             replay::begun(sheet, o.node);
         }
         Kind::OpenRead => {
@@ -154,6 +161,7 @@ fn told(sheet: &mut [u64], o: Order, answer: u64, owner: u8)
         Kind::RequestCommit => {}
         Kind::Abort => {}
         Kind::LoadHours => {}
+        Kind::LoadClasses => {}
         Kind::Send => {}
         Kind::Drop => {}
         Kind::Switch => {}

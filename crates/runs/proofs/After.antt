@@ -1,34 +1,44 @@
 -- Five buffers that hold a service hold, after any step, the service after the step; and the caller is told the step's own number and answer. The machine's
--- part is crate holding's; what is new are the hours.
-use mathlib.Core.Path.{_≡_, refl, sym, ap, subst₂, _∙_}
+-- part is crate holding's; what is new are the front ends.
+use mathlib.Core.Path.{_≡_, refl, sym, ap, subst, subst₂, _∙_}
 use mathlib.Core.Bool.{Bool, true, false}
 use mathlib.Core.Logic.{⊎-elim}
 use mathlib.Core.List.{List}
 use Prim.Native.Nat.{ℕ, _<_}
 use native.Mathlib.Omega.{arith}
 use lib.Dec.{eqb, ltb}
-use lib.ListN.{length}
 use borrow.Author.Tests.{eq-eqb, eqb-true, lt-ltb, ltb-true}
 use Rattle.numbers.specs.Sizes.{nodes}
 use Rattle.numbers.specs.Refusal.{lower}
 use Rattle.hours.specs.Hours.{tableNumber}
-use Rattle.coordinator.specs.declared.BeginWith.{BeginWith}
-use Rattle.steps.specs.Station.{putAt}
-use Rattle.steps.specs.Step.{Call as Step, begin as beginStep, step as stepOf}
+use Rattle.coordinator.specs.declared.Coordinator.{Coordinator}
+use Rattle.coordinator.specs.System.{tree}
+use Rattle.clauses.proofs.Facts.{Meets}
+use Rattle.clauses.proofs.Fits.{Fits}
+use Rattle.record.specs.Record.{bytesOf}
+use Rattle.increments.specs.Deeds.{ran}
+use Rattle.steps.specs.Station.{Station, putAt, withRecord}
+use Rattle.steps.specs.Step.{Call as Step, step as stepOf}
+use Rattle.steps.proofs.Nodes.{node-on}
 use Rattle.history.specs.Claims.{Typed as StepTyped}
-use Rattle.buffers.specs.Buffers.{Buffers, all, stationOf, answerWith, recordsAfter}
+use Rattle.buffers.specs.Buffers.{Buffers, all, stationOf, answerWith, onOf, withRecordAt}
 use Rattle.buffers.specs.Buffers.{Whole as StationWhole}
-use Rattle.station_calls.specs.Calls.{hostRecords}
 use Rattle.holding.specs.Left.{toldOf as stepTold, leftOf as stepLeft}
-use Rattle.holding.proofs.Kept.{host-first}
-use Rattle.frontend.specs.Settings.{settingsSize, settingsNumber, loaded}
-use Rattle.service.specs.Service.{Service, Call, begin, loadHours, plain, isBegin, Outcome, refusedWith, taken, withSettings, by, begunNumber, begunOf}
-use Rattle.service.specs.Service.{loadNumber, loadOf, step}
-use Rattle.service_calls.specs.Lent.{Lent, serviceOf, settingsAt, withSettingsAt, settingsIn, settingsFirst, Whole, told, beginFirst}
-use Rattle.service_calls.specs.Lent.{beginRecords, loadFirst, loadTold, loadSettings}
+use Rattle.holding.proofs.Kept.{own-is, host-first, record-kept}
+use Rattle.holding.proofs.After.{Proper}
+use Rattle.settings.specs.Settings.{settingsNumber, loaded}
+use Rattle.frontend.specs.Plan.{Plan, refusedPlan, offNumber, listNumber}
+use Rattle.frontend.specs.Plan.{Call as Front}
+use Rattle.settings.proofs.Sound.{Sound, sound-parts, sound-number, hours-sound}
+use Rattle.frontend.proofs.Plans.{plan-sound, list-refuses}
+use Rattle.service.specs.Service.{Service, Call, front, loadHours, plain, isFront, planAt, isOn, made, numberOf, answerOf, settingsOf}
+use Rattle.service.specs.Service.{loadNumber, Outcome, step}
+use Rattle.service.proofs.Laws.{put-here, put-same, after-at}
+use Rattle.service_calls.specs.Lent.{Lent, serviceOf, settingsAt, withSettingsAt, settingsIn, settingsFirst, Whole, told, frontFirst, frontTold}
+use Rattle.service_calls.specs.Lent.{frontRecords, frontSettings, loadFirst, loadTold, loadSettings}
 use Rattle.accounts.specs.Accounts.{Typed}
 use Rattle.runs.specs.Left.{toldOf, leftOf}
-use Rattle.runs.proofs.Settings.{loaded-long, loaded-fine, at-long, settings-first, put-long, put-at, put-in}
+use Rattle.runs.proofs.Settings.{settings-first, put-long, put-at, put-in}
 
 -- buffers hold a service
 abbrev pub Kept : Lent → Service → Type 0
@@ -54,61 +64,127 @@ module _ (b : Lent) (w : Whole b) where
   abbrev B : Buffers
   B = b .station
 
+  abbrev S : List ℕ
+  S = b .settings
+
   abbrev v : Service
   v = serviceOf b
 
-  first-zero : (n : ℕ) → settingsFirst (b .settings) n ≡ 0
-  first-zero = settings-first (b .settings) (w .settings-long) (w .settings-fine)
+  first-zero : (n : ℕ) → settingsFirst S n ≡ 0
+  first-zero = settings-first S (w .settings-long) (w .settings-fine)
 
-  -- ---- a begin: the machine's own, or nothing
-  begin-first : (n : ℕ) → beginFirst b n ≡ 0
-  unfolding beginFirst lower
-  begin-first n = simp (host-first (B .images) (B .records) (B .pool) (B .own) (w .station) n, first-zero n)
+  -- ---- one node's settings changed, with buffers of a station that are whole
+  module _ (C : Buffers) (st : Station) (k : StationWhole C) (e : stationOf C ≡ st) (n : ℕ) (small : n < nodes) (s : List ℕ) (z : Sound s) where
+    put-kept : Kept (record { station = C; settings = withSettingsAt S n s }) (record { machine = st; settings = putAt (v .settings) n s })
+    put-kept = (
+      record {
+        station = k;
+        settings-long = put-long S (w .settings-long) n s small (z .long);
+        settings-fine = λ i h. ⊎-elim
+            (λ y. ap settingsNumber (y .1) ∙ sound-number s z)
+            (λ y. ap settingsNumber (y .1) ∙ w .settings-fine i h)
+            (put-at S (w .settings-long) n s small (z .long) i h);
+      },
+      λ j. record { machine = e j; settings = λ i. put-in S (w .settings-long) n s small (z .long) i j },
+    )
 
-  module _ (n : ℕ) (m : BeginWith) (day minute : ℕ) where
-    abbrev number : ℕ
-    number = begunNumber v n m day minute
+  its-own : (n : ℕ) → n < nodes → v .settings n ≡ settingsAt S n
+  unfolding settingsIn
+  its-own n small = simp (lt-ltb n nodes small)
 
-    abbrev began : Outcome
-    began = step v (begin n m day minute)
+  its-sound : (n : ℕ) → n < nodes → Sound (v .settings n)
+  its-sound n small = sound-parts (v .settings n) (ap settingsNumber (its-own n small) ∙ w .settings-fine n small)
 
-    abbrev withRecords : List ℕ → Lent
-    withRecords l = record { station = all (B .images) l (B .pool) (B .own); settings = b .settings }
+  -- ---- a front end's call
+  module _ (n : ℕ) (a : Front) where
+    abbrev o : Outcome
+    o = step v (front n a)
 
-    begun-is : eqb number 0 ≡ true → began ≡ by v (stepOf (stationOf B) (beginStep n m))
-    unfolding step begunOf
-    begun-is t = simp t
+    first-list : frontFirst b n a ≡ listNumber a
+    unfolding frontFirst lower
+    first-list = simp (host-first (B .images) (B .records) (B .pool) (B .own) (w .station) n, first-zero n)
 
-    stayed-is : eqb number 0 ≡ false → began ≡ refusedWith number v
-    unfolding step begunOf
-    stayed-is t = simp t
+    -- a list of another length is what the plan refuses first, too
+    module _ (t : eqb (listNumber a) 0 ≡ false) where
+      refused : planAt v n a ≡ refusedPlan (listNumber a) (v .settings n)
+      refused = list-refuses tree (v .machine .records n) (v .settings n) n a t .0
 
-    begin-taken : eqb number 0 ≡ true → beginRecords b n m day minute ≡ hostRecords B n (beginStep n m)
-    unfolding beginRecords recordsAfter
-    begin-taken t = simp (begin-first n, begun-is t, host-first (B .images) (B .records) (B .pool) (B .own) (w .station) n)
+      refused-number : o .number ≡ listNumber a
+      unfolding numberOf
+      refused-number = go (isOn v n) refl
+        where
+          go : (x : Bool) → isOn v n ≡ x → numberOf v (front n a) ≡ listNumber a
+          go true x = simp x (ap (λ (p : Plan). p .number) refused)
+          go false x = simp x (ap (λ (p : Plan). offNumber a (p .number)) refused ∙ list-refuses tree (v .machine .records n) (v .settings n) n a t .1)
 
-    begin-refused : eqb number 0 ≡ false → beginRecords b n m day minute ≡ B .records
-    unfolding beginRecords
-    begin-refused t = simp (begin-first n, stayed-is t, t)
+      refused-answer : o .answer ≡ 0
+      unfolding answerOf
+      refused-answer = go (isOn v n) refl
+        where
+          go : (x : Bool) → isOn v n ≡ x → answerOf v (front n a) ≡ 0
+          go true x = simp x (ap (λ (p : Plan). p .answer) refused)
+          go false x = simp x
 
-    begin-left : Stepped B (beginStep n m) → Kept (withRecords (beginRecords b n m day minute)) (began .service)
-    unfolding stepLeft
-    begin-left z = go (eqb number 0) refl
+      refused-service : v ≡ o .service
+      unfolding made settingsOf
+      refused-service = go (isOn v n) refl
+        where
+          go : (x : Bool) → isOn v n ≡ x → v ≡ o .service
+          go true x = simp (x, refused) (λ i. record { machine = v .machine; settings = put-same (v .settings) n i })
+          go false x = simp x
+
+    front-told : frontTold b n a ≡ answerWith (o .number) (o .answer)
+    unfolding told
+    front-told = go (eqb (listNumber a) 0) refl
       where
-        same : (l : List ℕ) (u : Outcome) → beginRecords b n m day minute ≡ l → began ≡ u → Kept (withRecords l) (u .service)
-            → Kept (withRecords (beginRecords b n m day minute)) (began .service)
-        same l u p q = subst₂ (λ (l : List ℕ) (u : Outcome). Kept (withRecords l) (u .service)) (sym p) (sym q)
+        go : (t : Bool) → eqb (listNumber a) 0 ≡ t → frontTold b n a ≡ answerWith (o .number) (o .answer)
+        go true t = told-zero (frontFirst b n a) o (first-list ∙ eqb-true (listNumber a) 0 t)
+        go false t =
+            let p : frontTold b n a ≡ answerWith (listNumber a) 0 = simp (first-list, t) in
+            p ∙ (λ i. answerWith (sym (refused-number t) i) (sym (refused-answer t) i))
 
-        go : (t : Bool) → eqb number 0 ≡ t → Kept (withRecords (beginRecords b n m day minute)) (began .service)
-        go true t = same (hostRecords B n (beginStep n m)) (by v (stepOf (stationOf B) (beginStep n m))) (begin-taken t) (begun-is t) (
-          record { station = z .whole; settings-long = w .settings-long; settings-fine = w .settings-fine },
-          λ i. record { machine = z .station i; settings = v .settings },
-        )
-        go false t = same (B .records) (refusedWith number v) (begin-refused t) (stayed-is t) (w, refl)
+    abbrev with : List ℕ → List ℕ → Lent
+    with R s = record { station = all (B .images) R (B .pool) (B .own); settings = s }
 
-    begin-goes : Stepped B (beginStep n m) → Goes b (begin n m day minute)
+    -- at a node that is on: its record and its settings
+    on-left : isOn v n ≡ true → Proper (o .service .machine)
+        → Kept (with (withRecordAt (B .records) n (bytesOf (o .service .machine .records n))) (withSettingsAt S n (o .service .settings n))) (o .service)
+    unfolding made settingsOf
+    on-left on z =
+        let small = node-on (onOf (B .own)) n (own-is (B .images) (B .records) (B .pool) (B .own) (w .station) .mask) on in
+        let ds = planAt v n a .deeds in
+        let c = ran tree (v .machine .records n) n ds in
+        let m : o .service .machine ≡ withRecord (v .machine) n c = simp on (after-at (v .machine) n ds on) in
+        let i : o .service .machine .records n ≡ c = ap (λ (st : Station). st .records n) m ∙ put-here (v .machine .records) n c in
+        let f : o .service .settings ≡ putAt (v .settings) n (planAt v n a .settings) = simp on in
+        let j : o .service .settings n ≡ planAt v n a .settings = ap (λ (g : ℕ → List ℕ). g n) f ∙ put-here (v .settings) n _ in
+        let y = subst Proper m z in
+        let h : putAt (v .machine .records) n c n ≡ c = put-here (v .machine .records) n c in
+        let k = record-kept (B .images) (B .records) (B .pool) (B .own) (w .station) n c small (subst (Meets tree) h (y .meets n)) (subst Fits h
+        (y .fits n)) in
+        let q = sound-parts _ (plan-sound tree (v .machine .records n) (v .settings n) n a (sound-number _ (its-sound n small))) in
+        let r = put-kept (all (B .images) (withRecordAt (B .records) n (bytesOf c)) (B .pool) (B .own)) (withRecord (v .machine) n c) (k .0) (k .1) n small
+        (planAt v n a .settings) q in
+        subst₂ (λ (l : Coordinator) (s : List ℕ). Kept (with (withRecordAt (B .records) n (bytesOf l)) (withSettingsAt S n s)) (o .service)) (sym i) (sym j)
+        (subst (Kept (with (withRecordAt (B .records) n (bytesOf c)) (withSettingsAt S n (planAt v n a .settings))))
+        (λ x. record { machine = sym m x; settings = sym f x }) r)
+
+    off-same : isOn v n ≡ false → v ≡ o .service
+    unfolding made settingsOf
+    off-same x = simp x
+
+    front-left : Proper (o .service .machine) → Kept (with (frontRecords b n a) (frontSettings b n a)) (o .service)
+    unfolding frontRecords frontSettings
+    front-left z = go (eqb (listNumber a) 0) (isOn v n) refl refl
+      where
+        go : (t x : Bool) → eqb (listNumber a) 0 ≡ t → isOn v n ≡ x → Kept (with (frontRecords b n a) (frontSettings b n a)) (o .service)
+        go true true t x = simp (first-list, t, x) (on-left x z)
+        go true false t x = simp (first-list, t, x) (w, off-same x)
+        go false x t y = simp (first-list, t) (w, refused-service t)
+
+    front-goes : Proper (o .service .machine) → Goes b (front n a)
     unfolding leftOf toldOf
-    begin-goes z = record { kept = begin-left z; told = told-zero (beginFirst b n) began (begin-first n) }
+    front-goes z = record { kept = front-left z; told = front-told }
 
   -- ---- a load
   load-first : (n : ℕ) (list : List ℕ) → loadFirst b n list ≡ tableNumber list
@@ -119,47 +195,33 @@ module _ (b : Lent) (w : Whole b) where
     abbrev s : List ℕ
     s = loaded (v .settings n) list
 
-    abbrev o : Outcome
-    o = step v (loadHours n list)
+    abbrev u : Outcome
+    u = step v (loadHours n list)
 
-    abbrev S : List ℕ
-    S = b .settings
-
-    abbrev with : List ℕ → Lent
-    with l = record { station = B; settings = l }
+    abbrev having : List ℕ → Lent
+    having l = record { station = B; settings = l }
 
     -- a faulty table is refused first
     faulty-number : eqb (tableNumber list) 0 ≡ false → loadNumber v n list ≡ tableNumber list
     unfolding loadNumber
     faulty-number t = simp t
 
-    refused-is : eqb (loadNumber v n list) 0 ≡ false → o ≡ refusedWith (loadNumber v n list) v
-    unfolding step loadOf
-    refused-is t = simp t
-
-    taken-is : eqb (loadNumber v n list) 0 ≡ true → o ≡ taken (withSettings v n s)
-    unfolding step loadOf
-    taken-is t = simp t
-
-    load-told : loadTold b n list ≡ answerWith (o .number) (o .answer)
-    unfolding told
+    load-told : loadTold b n list ≡ answerWith (u .number) (u .answer)
+    unfolding told numberOf answerOf
     load-told = go (eqb (tableNumber list) 0) refl
       where
-        go : (t : Bool) → eqb (tableNumber list) 0 ≡ t → loadTold b n list ≡ answerWith (o .number) (o .answer)
-        go true t = told-zero (loadFirst b n list) o (load-first n list ∙ eqb-true (tableNumber list) 0 t)
-        go false t =
-            let e = faulty-number t in
-            let q = refused-is (ap (λ (k : ℕ). eqb k 0) e ∙ t) in
-            simp (load-first n list, t, q) (ap (λ (k : ℕ). answerWith k 0) (sym e))
+        go : (t : Bool) → eqb (tableNumber list) 0 ≡ t → loadTold b n list ≡ answerWith (u .number) (u .answer)
+        go true t = told-zero (loadFirst b n list) u (load-first n list ∙ eqb-true (tableNumber list) 0 t)
+        go false t = simp (load-first n list, t) (ap (λ (k : ℕ). answerWith k 0) (sym (faulty-number t)))
 
     -- refused: the settings stay
-    load-refused : eqb (loadNumber v n list) 0 ≡ false → loadSettings b n list ≡ S
-    unfolding loadSettings
+    load-refused : eqb (loadNumber v n list) 0 ≡ false → (S ≡ loadSettings b n list) × (v ≡ u .service)
+    unfolding loadSettings numberOf settingsOf made
     load-refused t = go (eqb (loadFirst b n list) 0) refl
       where
-        go : (f : Bool) → eqb (loadFirst b n list) 0 ≡ f → loadSettings b n list ≡ S
-        go true f = simp (f, refused-is t, t)
-        go false f = simp f
+        go : (f : Bool) → eqb (loadFirst b n list) 0 ≡ f → (S ≡ loadSettings b n list) × (v ≡ u .service)
+        go true f = simp (f, t) (refl, refl)
+        go false f = simp (f, t) (refl, refl)
 
     -- taken: the table is accepted, the node is one, and its settings have the table
     module _ (t : eqb (loadNumber v n list) 0 ≡ true) where
@@ -181,50 +243,29 @@ module _ (b : Lent) (w : Whole b) where
           go true f = ltb-true n nodes f
           go false f = absurd (let z : _≡_ {A = ℕ} 4 0 = sym (simp (table-fine, f)) ∙ none in omega (arith, z))
 
-      its-own : v .settings n ≡ settingsAt S n
-      unfolding settingsIn
-      its-own = simp (lt-ltb n nodes small)
-
-      own-long : length (v .settings n) ≡ settingsSize
-      own-long = ap length its-own ∙ at-long S (w .settings-long) n small
-
-      s-long : length s ≡ settingsSize
-      s-long = loaded-long (v .settings n) list own-long
-
       load-taken : loadSettings b n list ≡ withSettingsAt S n s
-      unfolding loadSettings putAt
-      load-taken = simp (load-first n list, table-fine, taken-is t, eq-eqb n n refl)
+      unfolding loadSettings numberOf settingsOf putAt
+      load-taken = simp (load-first n list, table-fine, t, eq-eqb n n refl)
 
-      load-kept : Kept (with (withSettingsAt S n s)) (withSettings v n s)
-      load-kept = (
-        record {
-          station = w .station;
-          settings-long = put-long S (w .settings-long) n s small s-long;
-          settings-fine = λ i h. ⊎-elim
-              (λ z. ap settingsNumber (z .1) ∙ loaded-fine (v .settings n) list own-long table-fine)
-              (λ z. ap settingsNumber (z .1) ∙ w .settings-fine i h)
-              (put-at S (w .settings-long) n s small s-long i h);
-        },
-        λ j. record { machine = v .machine; settings = λ i. put-in S (w .settings-long) n s small s-long i j },
-      )
+      service-is : u .service ≡ record { machine = v .machine; settings = putAt (v .settings) n s }
+      unfolding settingsOf made
+      service-is = simp t
 
-    load-left : Kept (with (loadSettings b n list)) (o .service)
+    load-left : Kept (having (loadSettings b n list)) (u .service)
     load-left = go (eqb (loadNumber v n list) 0) refl
       where
-        same : (l : List ℕ) (u : Outcome) → loadSettings b n list ≡ l → o ≡ u → Kept (with l) (u .service) → Kept (with (loadSettings b n list)) (o .service)
-        same l u p q = subst₂ (λ (l : List ℕ) (u : Outcome). Kept (with l) (u .service)) (sym p) (sym q)
-
-        go : (t : Bool) → eqb (loadNumber v n list) 0 ≡ t → Kept (with (loadSettings b n list)) (o .service)
-        go true t = same (withSettingsAt S n s) (taken (withSettings v n s)) (load-taken t) (taken-is t) (load-kept t)
-        go false t = same S (refusedWith (loadNumber v n list) v) (load-refused t) (refused-is t) (w, refl)
+        go : (t : Bool) → eqb (loadNumber v n list) 0 ≡ t → Kept (having (loadSettings b n list)) (u .service)
+        go true t = subst₂ (λ (l : List ℕ) (u : Service). Kept (having l) u) (sym (load-taken t)) (sym (service-is t))
+            (put-kept B (v .machine) (w .station) refl n (small t) s (hours-sound (v .settings n) list (its-sound n (small t)) (table-fine t)))
+        go false t = let z = load-refused t in subst₂ (λ (l : List ℕ) (u : Service). Kept (having l) u) (z .0) (z .1) (w, refl)
 
     load-goes : Goes b (loadHours n list)
     unfolding leftOf toldOf
     load-goes = record { kept = load-left; told = load-told }
 
   -- ---- a step of the machine
-  plain-goes : (c : Step) (p : isBegin c ≡ false) → Stepped B c → Goes b (plain c p)
-  unfolding leftOf toldOf step
+  plain-goes : (c : Step) (p : isFront c ≡ false) → Stepped B c → Goes b (plain c p)
+  unfolding leftOf toldOf numberOf answerOf made settingsOf
   plain-goes c p s = record {
     kept = (
       record { station = s .whole; settings-long = w .settings-long; settings-fine = w .settings-fine },
@@ -234,7 +275,7 @@ module _ (b : Lent) (w : Whole b) where
   }
 
   -- any step
-  pub goes : ((m : Step) → StepTyped m → Stepped B m) → (c : Call) → Typed c → Goes b c
-  goes f (begin n m day minute) t = begin-goes n m day minute (f (beginStep n m) t)
-  goes f (loadHours n list) t = load-goes n list
-  goes f (plain c p) t = plain-goes c p (f c t)
+  pub goes : ((m : Step) → StepTyped m → Stepped B m) → (c : Call) → Typed c → Proper (step v c .service .machine) → Goes b c
+  goes f (front n a) t z = front-goes n a z
+  goes f (loadHours n list) t z = load-goes n list
+  goes f (plain c p) t z = plain-goes c p (f c t)

@@ -13,13 +13,16 @@ use Rattle.steps.specs.Step.{Call as Step, step as stepOf}
 use Rattle.station_calls.specs.Calls.{blankNumber as stationNumber}
 use Rattle.history.specs.Claims.{Typed as StepTyped}
 use Rattle.holding.specs.Held.{Holds as StationHolds}
-use Rattle.holding.proofs.Demand.{claimed as station-claimed, begun as station-begun}
+use Rattle.holding.proofs.After.{Proper}
+use Rattle.holding.proofs.Demand.{proper, claimed as station-claimed, begun as station-begun}
 use Rattle.service.specs.Service.{Service, Call, step}
-use Rattle.service_calls.specs.Lent.{Lent, allSettings, blankNumber, blankAfter}
-use Rattle.accounts.specs.Accounts.{Origin, Typed, AllTyped, blankOrigin, originOf, reached, told}
-use Rattle.accounts.proofs.Expand.{expand, expand-typed}
-use Rattle.accounts.proofs.Same.{same-machine}
-use Rattle.accounts.proofs.Claimed.{demand-3, delivery-number, blank-rested, rests}
+use Rattle.service_calls.specs.Lent.{Lent, serviceOf, allSettings, blankNumber, blankAfter}
+use Rattle.accounts.specs.Accounts.{Origin, Typed, AllTyped, blankOrigin, reached, expand}
+use Rattle.accounts.specs.Weighed.{originOf}
+use Rattle.accounts.proofs.Expand.{same-machine}
+use Rattle.accounts.proofs.Typed.{expand-typed}
+use Rattle.accounts.proofs.Claimed.{demand-3, delivery-number, adds-exactly, blank-rested, rests}
+use Rattle.accounts.proofs.Weighed.{weighs}
 use Rattle.runs.specs.Left.{toldOf, leftOf}
 use Rattle.runs.specs.Held.{Holds, Claimed}
 use Rattle.runs.proofs.Settings.{zeros-long, zeros-fine, zeros-in}
@@ -28,8 +31,8 @@ use Rattle.runs.proofs.After.{Stepped, goes}
 -- the four buffers of the station hold what the machine's steps of the list left
 pub machine-holds : (o : Origin) (cs : List Call) (b : Lent) → Holds o cs b → StationHolds (o .machine) (expand o cs) (b .station)
 machine-holds o cs b h = record {
-  rested = h .rested;
-  typed = expand-typed o cs (h .typed);
+  rested = h .rested .machine;
+  typed = expand-typed o (h .rested) cs (h .typed);
   whole = h .whole .station;
   station = ap (λ (v : Service). v .machine) (h .service) ∙ same-machine o cs;
 }
@@ -51,12 +54,17 @@ stepped o cs b h m t =
 pub claimed : (b : Lent) (c : Call) → Typed c → Claimed b c (toldOf b c) (leftOf b c)
 claimed b c t o cs h =
     let a : AllTyped (c ∷ cs) = (t, h .typed) in
-    let g = goes b (h .whole) (stepped o cs b h) c t in
+    let e : step (serviceOf b) c .service ≡ reached o (c ∷ cs) = ap (λ (v : Service). step v c .service) (h .service) in
+    let m = ap (λ (v : Service). v .machine) e ∙ same-machine o (c ∷ cs) in
+    let p = subst Proper (sym m) (proper (o .machine) (h .rested .machine) (expand o (c ∷ cs)) (expand-typed o (h .rested) (c ∷ cs) a)) in
+    let g = goes b (h .whole) (stepped o cs b h) c t p in
     record {
       holds = record { rested = h .rested; typed = a; whole = g .kept .0; service = g .kept .1 ∙ ap (λ (v : Service). step v c .service) (h .service) };
       number = ap (λ (x : Answer). x .number) (g .told) ∙ ap (λ (v : Service). step v c .number) (h .service);
       answer = ap (λ (x : Answer). x .answer) (g .told) ∙ ap (λ (v : Service). step v c .answer) (h .service);
       demand-3 = demand-3 o (h .rested) (c ∷ cs) a;
+      adds-exactly = adds-exactly o (h .rested) (c ∷ cs) a;
+      weighs = weighs o (h .rested) (c ∷ cs) a;
       numbers = delivery-number o (h .rested) (c ∷ cs) a;
     }
 
@@ -73,7 +81,7 @@ begun b on e =
     })
 
 -- buffers at rest hold an origin of their own, from which the next steps may be counted
-pub anew : (o : Origin) (cs : List Call) (b : Lent) → Holds o cs b → Quiescent (stationOf (b .station)) → Holds (originOf (reached o cs) (told o cs)) [] b
+pub anew : (o : Origin) (cs : List Call) (b : Lent) → Holds o cs b → Quiescent (stationOf (b .station)) → Holds (originOf o cs) [] b
 anew o cs b h rest = record {
   rested = rests o (h .rested) cs (h .typed) (subst (λ (v : Service). Quiescent (v .machine)) (h .service) rest);
   typed = tt;

@@ -14,18 +14,19 @@ use Rattle.station.specs.Messages.{sending, sendTold, sendPool, dropping, dropT
 use Rattle.holding.specs.Left.{toldOf as stepTold, leftOf as stepLeft, hostLeft as stepHostLeft}
 use Rattle.holding.proofs.Same.{host-told, host-records, send-same, drop-same, switch-same}
 use Rattle.history.specs.Claims.{Distances}
-use Rattle.service.specs.Service.{plain, isBegin}
-use Rattle.service_calls.specs.Lent.{Lent, lent, beginTold, beginRecords, loadTold, loadSettings}
+use Rattle.frontend.specs.Asked.{callBy as actCall, callOf as actsCall}
+use Rattle.service.specs.Service.{front, plain, isFront}
+use Rattle.service_calls.specs.Lent.{Lent, lent, frontTold, frontRecords, frontSettings, loadTold, loadSettings}
 use Rattle.accounts.specs.Accounts.{Typed}
 use Rattle.orders.specs.declared.Kind.{Kind}
-use Rattle.orders.specs.declared.Kind.the-variants.{Begin, OpenRead, OpenWrite, SetValue, Found, Reselect, RequestCommit, Abort, LoadHours}
-use Rattle.orders.specs.declared.Kind.the-variants.{Send, Deliver, Drop, Switch}
+use Rattle.orders.specs.declared.Kind.the-variants.{Begin, Batch, OpenRead, OpenWrite, SetValue, Found, Reselect, RequestCommit, Abort}
+use Rattle.orders.specs.declared.Kind.the-variants.{LoadHours, LoadClasses, Send, Deliver, Drop, Switch}
 use Rattle.orders.specs.declared.Order.{Order}
-use Rattle.runs.specs.Order.{isHost, callBy, callOf}
+use Rattle.runs.specs.Order.{isHost, isPlanned, actOf, askOf, callBy, callOf}
 use Rattle.runs.specs.Left.{toldOf, leftOf, hostTold, hostLeft, otherTold, otherLeft}
 use Rattle.runs.specs.Held.{Claimed}
 use Rattle.runs.proofs.Demand.{claimed}
-use Rattle.runs.proofs.Same.{begin-same, load-same}
+use Rattle.runs.proofs.Same.{front-told, front-records, front-settings, load-same}
 
 -- ---- an order's numbers are of their types, and so are the step's
 pub order-typed : (o : Order) (list : List ℕ) → o .value < 2 ^ 64 → o .with .timestamp < 2 ^ 32 → Distances (o .with .distances) → Typed (callOf o list)
@@ -34,6 +35,7 @@ order-typed o list v t d = by (o .kind)
   where
     by : (k : Kind) → Typed (callBy k o list)
     by Begin = (t, d)
+    by Batch = (t, d)
     by OpenRead = tt
     by OpenWrite = tt
     by SetValue = v
@@ -42,10 +44,52 @@ order-typed o list v t d = by (o .kind)
     by RequestCommit = tt
     by Abort = tt
     by LoadHours = tt
+    by LoadClasses = tt
     by Send = tt
     by Deliver = tt
     by Drop = tt
     by Switch = tt
+
+-- ---- an order that a front end plans, as it is asked
+clash : false ≡ true → ⊥
+clash e = subst (λ (x : Bool). cond x ⊥ (Unit {0})) e tt
+
+asked-is : (k : Kind) (o : Order) (list : List ℕ) → isPlanned k ≡ true
+    → callBy k o list ≡ front (o .node) (actCall (actOf k)
+    (record { act = actOf k; with = o .with; object = o .object; value = o .value; day = o .day; minute = o .minute }) list)
+unfolding callBy actCall
+asked-is Begin o list h = refl
+asked-is Batch o list h = refl
+asked-is OpenRead o list h = refl
+asked-is OpenWrite o list h = refl
+asked-is SetValue o list h = refl
+asked-is Found o list h = absurd (clash h)
+asked-is Reselect o list h = absurd (clash h)
+asked-is RequestCommit o list h = refl
+asked-is Abort o list h = absurd (clash h)
+asked-is LoadHours o list h = absurd (clash h)
+asked-is LoadClasses o list h = refl
+asked-is Send o list h = absurd (clash h)
+asked-is Deliver o list h = absurd (clash h)
+asked-is Drop o list h = absurd (clash h)
+asked-is Switch o list h = absurd (clash h)
+
+planned-host : (k : Kind) → isPlanned k ≡ true → isHost k ≡ true
+planned-host Begin h = refl
+planned-host Batch h = refl
+planned-host OpenRead h = refl
+planned-host OpenWrite h = refl
+planned-host SetValue h = refl
+planned-host Found h = refl
+planned-host Reselect h = refl
+planned-host RequestCommit h = refl
+planned-host Abort h = refl
+planned-host LoadHours h = refl
+planned-host LoadClasses h = refl
+planned-host Send h = h
+planned-host Deliver h = h
+planned-host Drop h = h
+planned-host Switch h = h
 
 -- ---- a host's call
 module _ (R O S list : List ℕ) (o : Order) where
@@ -63,7 +107,7 @@ module _ (R O S list : List ℕ) (o : Order) where
         ∙ ap (λ (x : Bool). cond x (leftOf (lent I R P O S) (callBy k o list)) (lent I R P O S)) h),
   )
 
-  pub plain-tells : (k : Kind) → o .kind ≡ k → isHost k ≡ true → (n : ℕ) (c : Step-call) (p : isBegin c ≡ false) (s : Step) → callBy k o list ≡ plain c p
+  pub plain-tells : (k : Kind) → o .kind ≡ k → isHost k ≡ true → (n : ℕ) (c : Step-call) (p : isFront c ≡ false) (s : Step) → callBy k o list ≡ plain c p
       → ((I P : List ℕ) → stepTold (all I R P O) c ≡ callTold (all I R P O) n c)
       → ((I P : List ℕ) → stepLeft (all I R P O) c ≡ stepHostLeft (all I R P O) n c)
       → ((I P : List ℕ) → stepOf (stationOf (all I R P O)) c ≡ hosted (stationOf (all I R P O)) n s)
@@ -74,13 +118,18 @@ module _ (R O S list : List ℕ) (o : Order) where
       (λ I P. (λ j. record { station = (ap (λ (m : List ℕ). all I m P O) (v ∙ host-records I R P O n c s (x [] []) (x I P)) ∙ sym (l I P)) j; settings = S })
       ∙ ap (leftOf (lent I R P O S)) (sym f))
 
-  pub begin-tells : o .kind ≡ Begin → (a : Answer) (r : List ℕ)
-      → a ≡ beginTold (lent [] R [] O S) (o .node) (o .with) (o .day) (o .minute)
-      → r ≡ beginRecords (lent [] R [] O S) (o .node) (o .with) (o .day) (o .minute) → HostTells a r S
-  unfolding toldOf leftOf callBy
-  begin-tells e a r u v = by-kind Begin e refl a r S
-      (λ I P. u ∙ begin-same I R P O S (o .node) (o .with) (o .day) (o .minute) .0)
-      (λ I P. ap (λ (m : List ℕ). lent I m P O S) (v ∙ begin-same I R P O S (o .node) (o .with) (o .day) (o .minute) .1))
+  pub front-tells : isPlanned (o .kind) ≡ true → (a : Answer) (r s : List ℕ)
+      → a ≡ frontTold (lent [] R [] O S) (o .node) (actsCall (askOf o) list)
+      → r ≡ frontRecords (lent [] R [] O S) (o .node) (actsCall (askOf o) list)
+      → s ≡ frontSettings (lent [] R [] O S) (o .node) (actsCall (askOf o) list) → HostTells a r s
+  unfolding toldOf leftOf
+  front-tells h a r s u v w =
+      let e = asked-is (o .kind) o list h in
+      let f = actsCall (askOf o) list in
+      by-kind (o .kind) refl (planned-host (o .kind) h) a r s
+      (λ I P. u ∙ front-told I R P O S (o .node) f ∙ ap (toldOf (lent I R P O S)) (sym e))
+      (λ I P. (λ i. lent I ((v ∙ front-records I R P O S (o .node) f) i) P O ((w ∙ front-settings I R P O S (o .node) f) i))
+      ∙ ap (leftOf (lent I R P O S)) (sym e))
 
   pub load-tells : o .kind ≡ LoadHours → (a : Answer) (s : List ℕ) → a ≡ loadTold (lent [] [] [] O S) (o .node) list
       → s ≡ loadSettings (lent [] [] [] O S) (o .node) list → HostTells a R s
@@ -104,7 +153,7 @@ module _ (I R P O : List ℕ) (o : Order) where
   abbrev B : Buffers
   B = all I R P O
 
-  other-kind : (k : Kind) → o .kind ≡ k → isHost k ≡ false → (c : Step-call) (q : isBegin c ≡ false) → ((list : List ℕ) → callBy k o list ≡ plain c q)
+  other-kind : (k : Kind) → o .kind ≡ k → isHost k ≡ false → (c : Step-call) (q : isFront c ≡ false) → ((list : List ℕ) → callBy k o list ≡ plain c q)
       → (a : Answer) (i r p w : List ℕ) → a ≡ stepTold B c → all i r p w ≡ stepLeft B c → OtherTells a i r p w
   unfolding toldOf leftOf
   other-kind k e h c q f a i r p w t l = (

@@ -10,30 +10,13 @@ use lib.ListN.{length, replicate, length-replicate, getD-replicate}
 use lib.Seq.{ext-getD}
 use borrow.Author.Tests.{eq-eqb, ne-eqb, ltb-true, ltb-false}
 use Rattle.numbers.specs.Sizes.{nodes}
-use Rattle.parts.specs.Parts.{part}
-use Rattle.parts.proofs.Laws.{length-part, getD-part, length-splice, part-splice}
+use Rattle.parts.proofs.Laws.{length-part, getD-part}
 use Rattle.image.proofs.Each.{same-or-not}
-use Rattle.hours.specs.Hours.{tableNumber}
-use Rattle.hours.specs.Kept.{keptSize, stored, keptNumber}
-use Rattle.hours.proofs.Theorems.{length-stored, loaded-sound, blank-sound}
 use Rattle.steps.specs.Station.{putAt}
 use Rattle.station_calls.proofs.Parted.{part-length, part-same, part-kept}
-use Rattle.frontend.specs.Settings.{settingsSize, hoursIn, blankSettings, settingsNumber, loaded}
+use Rattle.settings.specs.Settings.{settingsSize, blankSettings, settingsNumber}
+use Rattle.settings.proofs.Sound.{blank-number}
 use Rattle.service_calls.specs.Lent.{allSettings, settingsAt, withSettingsAt, settingsIn, settingsFirst}
-
--- settings of their length whose hours are sound
-sound-settings : (s : List ℕ) → length s ≡ settingsSize → keptNumber (hoursIn s) ≡ 0 → settingsNumber s ≡ 0
-unfolding settingsNumber
-sound-settings s e h = simp (eq-eqb (length s) settingsSize e, h)
-
--- those with a table that loading accepts
-pub loaded-long : (s list : List ℕ) → length s ≡ settingsSize → length (loaded s list) ≡ settingsSize
-loaded-long s list e = length-splice keptSize 0 (stored list) s (length-stored list) (omega arith) ∙ e
-
-pub loaded-fine : (s list : List ℕ) → length s ≡ settingsSize → tableNumber list ≡ 0 → settingsNumber (loaded s list) ≡ 0
-loaded-fine s list e t =
-    sound-settings (loaded s list) (loaded-long s list e)
-    (ap keptNumber (part-splice keptSize 0 (stored list) s (length-stored list) (omega arith)) ∙ loaded-sound list t)
 
 module _ (S : List ℕ) (long : length S ≡ allSettings) where
   pub at-long : (n : ℕ) → n < nodes → length (settingsAt S n) ≡ settingsSize
@@ -97,8 +80,7 @@ zeros-at n h =
     ∙ sym (getD-replicate {A = ℕ} settingsSize j 0 0 k))
 
 pub zeros-fine : (n : ℕ) → n < nodes → settingsNumber (settingsAt zeros n) ≡ 0
-unfolding part
-zeros-fine n h = ap settingsNumber (zeros-at n h) ∙ sound-settings blankSettings (length-replicate {A = ℕ} settingsSize 0) blank-sound
+zeros-fine n h = ap settingsNumber (zeros-at n h) ∙ blank-number
 
 pub zeros-in : (n : ℕ) → settingsIn zeros n ≡ blankSettings
 unfolding settingsIn

@@ -6,23 +6,23 @@ use Rattle.numbers.specs.Numbers.{outOfTurn}
 use Rattle.buffers.specs.declared.Answer.{Answer}
 use Rattle.buffers.specs.Buffers.{all, answerWith}
 use Rattle.holding.specs.Left.{toldOf as stepTold, leftOf as stepLeft}
-use Rattle.service.specs.Service.{Call, begin, loadHours, plain}
-use Rattle.service_calls.specs.Lent.{Lent, beginTold, beginRecords, loadTold, loadSettings}
+use Rattle.service.specs.Service.{Call, front, loadHours, plain}
+use Rattle.service_calls.specs.Lent.{Lent, frontTold, frontRecords, frontSettings, loadTold, loadSettings}
 use Rattle.orders.specs.declared.Order.{Order}
 use Rattle.runs.specs.Order.{isHost, callOf}
 
 -- what its caller is told
 unfoldable pub toldOf : Lent → Call → Answer
-toldOf b (begin n w day minute) = beginTold b n w day minute
+toldOf b (front n a) = frontTold b n a
 toldOf b (loadHours n list) = loadTold b n list
 toldOf b (plain c p) = stepTold (b .station) c
 
 -- what is left of the buffers
 unfoldable pub leftOf : Lent → Call → Lent
-leftOf b (begin n w day minute) =
+leftOf b (front n a) =
     record {
-      station = all (b .station .images) (beginRecords b n w day minute) (b .station .pool) (b .station .own);
-      settings = b .settings;
+      station = all (b .station .images) (frontRecords b n a) (b .station .pool) (b .station .own);
+      settings = frontSettings b n a;
     }
 leftOf b (loadHours n list) = record { station = b .station; settings = loadSettings b n list }
 leftOf b (plain c p) = record { station = stepLeft (b .station) c; settings = b .settings }

@@ -5,11 +5,13 @@ ghost use mathlib.Core.List.{List, []};
 ghost use Prim.Native.Nat.{ℕ};
 ghost use Rattle.service_calls.specs.Lent.{lent, blankNumber, blankAfter};
 ghost use Rattle.accounts.specs.Accounts.{blankOrigin};
-ghost use Rattle.runs.specs.Order.{isHost, callOf};
+ghost use Rattle.runs.specs.Order.{isHost, actOf, askOf, callOf};
 ghost use Rattle.runs.specs.Left.{toldOf, leftOf, hostTold, hostLeft, otherTold, otherLeft};
 ghost use Rattle.runs.specs.Held.{Holds, Claimed};
 use buffers::Answer;
 use buffers::refused;
+use frontend::Act;
+use frontend::Ask;
 use orders::Kind;
 use orders::Order;
 
@@ -45,6 +47,36 @@ fn is_host(kind: Kind) -> bool
     }
 }
 
+// What a front end is asked by an order: 7 acts, and of every other kind the last.
+fn act_of(kind: Kind) -> Act
+    ensures { λ r. ⌜ r ≡ actOf kind ⌝ }
+{
+    match kind {
+        Kind::Begin => Act::Begin,
+        Kind::Batch => Act::Batch,
+        Kind::OpenRead => Act::OpenRead,
+        Kind::OpenWrite => Act::OpenWrite,
+        Kind::SetValue => Act::SetValue,
+        Kind::RequestCommit => Act::RequestCommit,
+        _ => Act::LoadClasses,
+    }
+}
+
+fn ask_of(o: Order) -> Ask
+    ensures { λ r. ⌜ r ≡ askOf o ⌝ }
+{
+    let kind = o.kind;
+    let with = o.with;
+    Ask {
+        act: act_of(kind),
+        with,
+        object: o.object,
+        value: o.value,
+        day: o.day,
+        minute: o.minute,
+    }
+}
+
 // A host's call at a node, over what it needs, whatever images there are and whatever waits; 5 for any other kind. Ruled out: a begin that does not go by
 // the hours; a send that is taken here.
 pub fn host_step(
@@ -62,22 +94,18 @@ pub fn host_step(
     let kind = o.kind;
     let with = o.with;
     match kind {
-        Kind::Begin => service_calls::begin(records, own, settings, o.node, with, o.day, o.minute),
-        Kind::OpenRead => station_calls::open_read(records, own, o.node, o.object),
-        Kind::OpenWrite => station_calls::open_write(records, own, o.node, o.object),
-        Kind::SetValue => station_calls::set_value(records, own, o.node, o.object, o.value),
         Kind::Found => station_calls::found(records, own, o.node, o.object),
         Kind::Reselect => {
             let distances = with.distances;
             station_calls::reselect(records, own, o.node, with.live, distances)
         }
-        Kind::RequestCommit => station_calls::request_commit(records, own, o.node),
         Kind::Abort => station_calls::abort(records, own, o.node),
         Kind::LoadHours => service_calls::load_hours(own, settings, o.node, list),
         Kind::Send => refused(numbers::OUT_OF_TURN),
         Kind::Deliver => refused(numbers::OUT_OF_TURN),
         Kind::Drop => refused(numbers::OUT_OF_TURN),
         Kind::Switch => refused(numbers::OUT_OF_TURN),
+        _ => service_calls::front(records, own, settings, o.node, ask_of(o), list),
     }
 }
 

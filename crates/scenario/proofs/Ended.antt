@@ -7,7 +7,7 @@ use borrow.Author.Tests.{ne-eqb}
 use Rattle.report.specs.Page.{Page, inks, behind}
 use Rattle.service_calls.specs.Lent.{Lent}
 use Rattle.script.specs.declared.Parsed.{Parsed}
-use Rattle.scenario.specs.declared.Reader.{Reader}
+use Rattle.reading.specs.declared.Reader.{Reader}
 use Rattle.scenario.specs.Lines.{Ways, pick, endedTexts, lineReader, lineBuffers, lineSheet, lineTexts, lastTexts}
 
 -- by what the line says: q, as it was found p
@@ -28,9 +28,9 @@ module _ {A : Type 0} (w : Ways A) (p q : Parsed) (e : p ≡ q) where
   unfolding pick
   by-list f = sym (simp f) ∙ ap (pick w) e
 
-  pub by-hours : p .what ≡ 6 → w .hours p ≡ pick w q
+  pub by-laid : p .what ≡ 6 → w .laid p ≡ pick w q
   unfolding pick
-  by-hours f = sym (simp f) ∙ ap (pick w) e
+  by-laid f = sym (simp f) ∙ ap (pick w) e
 
   pub by-other : p .what ≢ 2 → p .what ≢ 3 → p .what ≢ 4 → p .what ≢ 5 → p .what ≢ 6 → w .other ≡ pick w q
   unfolding pick
@@ -38,8 +38,9 @@ module _ {A : Type 0} (w : Ways A) (p q : Parsed) (e : p ≡ q) where
 
 -- the last line, and the end of the scenario that then runs
 pub last-texts : (r s : Reader) (list : List ℕ) (b d : Lent) (l m : List ℕ) (p q u : Page) → s ≡ lineReader r list → d ≡ lineBuffers r list b
-    → m ≡ lineSheet r list b l → q ≡ inks p (lineTexts r list b l) → u ≡ inks q (endedTexts (s .going) (d .station .images) (d .station .records) m)
+    → m ≡ lineSheet r list b l → q ≡ inks p (lineTexts r list b l)
+    → u ≡ inks q (endedTexts (s .going) (d .station .images) (d .station .records) (d .settings) m)
     → u ≡ inks p (lastTexts r list b l)
 unfolding lastTexts
 last-texts r s list b d l m p q u e f g x y =
-    behind p q u (lineTexts r list b l) _ x (y ∙ (λ i. inks q (endedTexts (e i .going) (f i .station .images) (f i .station .records) (g i))))
+    behind p q u (lineTexts r list b l) _ x (y ∙ (λ i. inks q (endedTexts (e i .going) (f i .station .images) (f i .station .records) (f i .settings) (g i))))

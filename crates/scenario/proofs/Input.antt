@@ -15,12 +15,10 @@ use Rattle.station_calls.specs.Calls.{blankNumber as stationNumber}
 use Rattle.service.specs.Service.{Call}
 use Rattle.service_calls.specs.Lent.{Lent, Whole, blankNumber, blankAfter}
 use Rattle.numbers.specs.Refusal.{lower}
-use Rattle.history.specs.Running.{sheet, sheetKeeper, keptFrom}
-use Rattle.history.specs.Origin.{ledgerOf}
+use Rattle.history.specs.Running.{keptFrom}
 use Rattle.history.proofs.Running.{blank-starts, always-reads}
-use Rattle.accounts.specs.Accounts.{blankOrigin}
-use Rattle.accounts.proofs.Expand.{expand, expand-typed}
-use Rattle.accounts.proofs.Same.{same-kept}
+use Rattle.accounts.specs.Accounts.{blankOrigin, expand}
+use Rattle.accounts.proofs.Typed.{expand-typed}
 use Rattle.holding.proofs.Kept.{own-is}
 use Rattle.runs.specs.Order.{callOf}
 use Rattle.runs.specs.Left.{leftOf}
@@ -28,15 +26,17 @@ use Rattle.runs.proofs.Demand.{claimed, begun}
 use Rattle.script.specs.declared.Parsed.{Parsed}
 use Rattle.script.specs.Said.{step, bad}
 use Rattle.script.specs.Parse.{parsed}
-use Rattle.scenario.specs.declared.Reader.{Reader}
-use Rattle.scenario.specs.Reading.{fresh, noted, next, kept, clocked, relisted, timed}
-use Rattle.scenario.specs.Steps.{stepSheet}
-use Rattle.scenario.specs.Lines.{Ways, pick, maskOf, anewReader, anewBuffers, anewSheet, listReader, listedAfter, isTable, tableOf, hoursReader}
-use Rattle.scenario.specs.Lines.{hoursBuffers, hoursSheet, readerWays, buffersWays, listWays, sheetWays, lineReader, lineBuffers, lineList, lineSheet}
+use Rattle.reading.specs.declared.Reader.{Reader}
+use Rattle.reading.specs.Reading.{fresh, noted, next, kept, clocked, relisted, timed}
+use Rattle.performing.specs.Steps.{stepSheet}
+use Rattle.reading.specs.Notes.{listReader, listedAfter}
+use Rattle.scenario.specs.Lines.{Ways, pick, maskOf, anewReader, anewBuffers, anewSheet, shapeOf, isLaid, laidOf, laidReader}
+use Rattle.scenario.specs.Lines.{laidBuffers, laidSheet, readerWays, buffersWays, listWays, sheetWays, lineReader, lineBuffers, lineList, lineSheet}
 use Rattle.scenario.specs.Lines.{readerAfter, buffersAfter, listAfter, sheetAfter}
 use Rattle.scenario.specs.Desk.{Desk, onto, after, Story, longer, storyWays, lineStory, storyAfter, Faithful, Start, noSteps}
+use Rattle.lists.specs.declared.Shape.{Shape}
 use Rattle.lists.specs.Lists.{hasRoom, appended}
-use Rattle.scenario.proofs.Meaning.{sheet-is}
+use Rattle.performing.proofs.Meaning.{sheet-is}
 use Rattle.scenario.proofs.Typed.{Fit, fit-fresh, fit-bad, fit-step, typed}
 
 abbrev desk : Reader → Lent → List ℕ → List ℕ → Desk
@@ -67,9 +67,9 @@ blank-goes b mask w h = simp (station-goes b mask w h, eq-eqb _ _ (w .settings-l
 sheet-long : (d : Desk) (s : Story) → Faithful d s → length (d .sheet) ≡ sheetSize
 sheet-long d s f =
     let o = blankOrigin (s .up) in
-    ap length (f .told ∙ same-kept o sheetKeeper (ledgerOf (o .machine)) (sheetBlank (f .blank)) (s .steps))
-    ∙ always-reads (o .machine) (f .holds .rested) 0 _ (blank-starts (s .up) (f .blank) (f .size)) (expand o (s .steps))
-    (expand-typed o (s .steps) (f .holds .typed)) .long
+    ap length (f .told)
+    ∙ always-reads (o .machine) (f .holds .rested .machine) 0 _ (blank-starts (s .up) (f .blank) (f .size)) (expand o (s .steps))
+    (expand-typed o (f .holds .rested) (s .steps) (f .holds .typed)) .long
 
 begins : (r : Reader) (list : List ℕ) (d : Desk) (s : Story) (mask : ℕ) → Fit (r .said) → Inv d s → mask ≤ everyNode
     → Inv (desk r (blankAfter (d .buffers) mask) list (sheetBlank (d .sheet))) (record { up = mask; steps = [] })
@@ -126,7 +126,7 @@ fit-next r going = fit-fresh
 line-inv : (d : Desk) (s : Story) → Inv d s
     → Inv (desk (lineReader (d .reader) (d .list)) (lineBuffers (d .reader) (d .list) (d .buffers)) (lineList (d .reader) (d .list))
     (lineSheet (d .reader) (d .list) (d .buffers) (d .sheet))) (lineStory (d .reader) (d .list) s)
-unfolding lineReader lineBuffers lineList lineSheet lineStory pick anewReader anewBuffers anewSheet listReader hoursReader hoursBuffers hoursSheet
+unfolding lineReader lineBuffers lineList lineSheet lineStory pick anewReader anewBuffers anewSheet listReader laidReader laidBuffers laidSheet timed
 line-inv d s i = by (eqb (p .what) 2) (eqb (p .what) 3) (eqb (p .what) 4) (eqb (p .what) 5) (eqb (p .what) 6)
   where
     r : Reader
@@ -141,8 +141,11 @@ line-inv d s i = by (eqb (p .what) 2) (eqb (p .what) 3) (eqb (p .what) 4) (eqb (
     p : Parsed
     p = parsed (r .said)
 
+    z : Shape
+    z = shapeOf (p .order .kind)
+
     c : Call
-    c = callOf (timed r (p .order)) (tableOf r l)
+    c = callOf (timed r (p .order)) (laidOf r z l)
 
     anew : (t : Bool) → ltb everyNode (maskOf p) ≡ t
         → Inv (desk (cond t (next r (r .going)) (next (kept r 0 0 0) true)) (cond t b (blankAfter b (maskOf p))) l (cond t (d .sheet) (sheetBlank (d .sheet))))
@@ -158,21 +161,21 @@ line-inv d s i = by (eqb (p .what) 2) (eqb (p .what) 3) (eqb (p .what) 4) (eqb (
 
     loading : (t : Bool)
         → Inv (desk (cond t (next (relisted r 0) true) (next r (r .going))) (cond t (leftOf b c) b) l
-        (cond t (stepSheet b (timed r (p .order)) (tableOf r l) (d .sheet)) (d .sheet))) (cond t (longer s c) s)
-    loading true = goes-on (next (relisted r 0) true) l d s (tableOf r l) (fit-next (relisted r 0) true) i
+        (cond t (stepSheet b (timed r (p .order)) (laidOf r z l) (d .sheet)) (d .sheet))) (cond t (longer s c) s)
+    loading true = goes-on (next (relisted r 0) true) l d s (laidOf r z l) (fit-next (relisted r 0) true) i
     loading false = read-on (next r (r .going)) l d s (fit-next r (r .going)) i
 
     choose : {A : Type 0} → Bool → Bool → Bool → Bool → Bool → Ways A → A
-    choose x y z u v w = cond x (w .blank p) (cond y (w .step p) (cond z (w .clock p) (cond u (w .list p) (cond v (w .hours p) (w .other)))))
+    choose x y k u v w = cond x (w .blank p) (cond y (w .step p) (cond k (w .clock p) (cond u (w .list p) (cond v (w .laid p) (w .other)))))
 
-    by : (x y z u v : Bool)
-        → Inv (desk (choose x y z u v (readerWays r l)) (choose x y z u v (buffersWays r l b)) (choose x y z u v (listWays r l))
-        (choose x y z u v (sheetWays r l b (d .sheet)))) (choose x y z u v (storyWays r l s))
-    by true y z u v = anew (ltb everyNode (maskOf p)) refl
-    by false true z u v = goes-on (next r true) l d s [] (fit-next r true) i
+    by : (x y k u v : Bool)
+        → Inv (desk (choose x y k u v (readerWays r l)) (choose x y k u v (buffersWays r l b)) (choose x y k u v (listWays r l))
+        (choose x y k u v (sheetWays r l b (d .sheet)))) (choose x y k u v (storyWays r l s))
+    by true y k u v = anew (ltb everyNode (maskOf p)) refl
+    by false true k u v = goes-on (next r true) l d s [] (fit-next r true) i
     by false false true u v = read-on _ l d s (fit-next (clocked r (p .order .day) (p .order .minute)) (r .going)) i
     by false false false true v = listing (hasRoom l (r .listed) (p .count))
-    by false false false false true = loading (isTable r l)
+    by false false false false true = loading (isLaid r z l)
     by false false false false false = read-on (next r (r .going)) l d s (fit-next r (r .going)) i
 
 fit-noted : (r : Reader) (byte : ℕ) → Fit (r .said) → Fit (noted r byte .said)

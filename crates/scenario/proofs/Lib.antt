@@ -1,7 +1,5 @@
--- A step's parts (Taking), a line by what it is (Ended), what a line says fits its C types (Typed); what is printed is what happened (Meaning), whatever
--- the input is (Input).
-pub mod Taking
+-- Kinds by their tags (Tags), a line by what it is (Ended), what a line says fits its C types (Typed); what is done and printed is what happened (Input).
+pub mod Tags
 pub mod Ended
 pub mod Typed
-pub mod Meaning
 pub mod Input

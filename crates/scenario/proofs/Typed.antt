@@ -15,8 +15,8 @@ use Rattle.numbers.specs.Sizes.{nodes}
 use Rattle.octets.proofs.Laws.{lt-or-le}
 use Rattle.accounts.specs.Accounts.{Typed}
 use Rattle.orders.specs.declared.Kind.{Kind}
-use Rattle.orders.specs.declared.Kind.the-variants.{Begin, OpenRead, OpenWrite, SetValue, Found, Reselect, RequestCommit, Abort, LoadHours}
-use Rattle.orders.specs.declared.Kind.the-variants.{Send, Deliver, Drop, Switch}
+use Rattle.orders.specs.declared.Kind.the-variants.{Begin, Batch, OpenRead, OpenWrite, SetValue, Found, Reselect, RequestCommit, Abort}
+use Rattle.orders.specs.declared.Kind.the-variants.{LoadHours, LoadClasses, Send, Deliver, Drop, Switch}
 use Rattle.runs.specs.Order.{callBy, callOf}
 use Rattle.script.specs.declared.Said.{Said}
 use Rattle.script.specs.Said.{inWord, between, behindMinus, inComment, spoilt, mostNumbers}
@@ -24,8 +24,8 @@ use Rattle.script.specs.Said.{inNumber, inNegative, inPart, bad, letter, withLe
 use Rattle.script.specs.Said.{complete, space, silenced, minus, sign, letterOrNone, step}
 use Rattle.script.specs.Said.{fresh as nothingSaid}
 use Rattle.script.specs.Parse.{arity, fillFrom, distancesOf, withOf, orderOf, parsed}
-use Rattle.scenario.specs.declared.Reader.{Reader}
-use Rattle.scenario.specs.Reading.{timed}
+use Rattle.reading.specs.declared.Reader.{Reader}
+use Rattle.reading.specs.Reading.{timed}
 
 pub record Fit (s : Said) : Type 0 where
   pub value : s .value < 2 ^ 64
@@ -179,6 +179,7 @@ thirteen s = go (eqb (s .count) (arity (s .word)))
 typed-by : (k : Kind) (r : Reader) (s : Said) (list : List ℕ) → Fit s → Typed (callBy k (timed r (orderOf s)) list)
 unfolding callBy timed orderOf withOf
 typed-by Begin r s list f = (omega arith, thirteen s)
+typed-by Batch r s list f = (omega arith, thirteen s)
 typed-by OpenRead r s list f = tt
 typed-by OpenWrite r s list f = tt
 typed-by SetValue r s list f = f .numbers 2
@@ -187,6 +188,7 @@ typed-by Reselect r s list f = thirteen s
 typed-by RequestCommit r s list f = tt
 typed-by Abort r s list f = tt
 typed-by LoadHours r s list f = tt
+typed-by LoadClasses r s list f = tt
 typed-by Send r s list f = tt
 typed-by Deliver r s list f = tt
 typed-by Drop r s list f = tt

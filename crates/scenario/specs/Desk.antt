@@ -12,13 +12,14 @@ use Rattle.replay.specs.Layout.{size as sheetSize}
 use Rattle.replay.specs.Sheet.{blankAfter as sheetBlank}
 use Rattle.history.specs.Origin.{ledgerOf}
 use Rattle.history.specs.Running.{sheet}
-use Rattle.accounts.specs.Accounts.{blankOrigin, origin, trace}
+use Rattle.steps.specs.Run.{trace}
+use Rattle.accounts.specs.Accounts.{blankOrigin, expand}
 use Rattle.runs.specs.Order.{callOf}
 use Rattle.runs.specs.Held.{Holds}
 use Rattle.script.specs.Parse.{parsed}
-use Rattle.scenario.specs.declared.Reader.{Reader}
-use Rattle.scenario.specs.Reading.{fresh, timed}
-use Rattle.scenario.specs.Lines.{Ways, pick, maskOf, isTable, tableOf, readerAfter, buffersAfter, listAfter, sheetAfter}
+use Rattle.reading.specs.declared.Reader.{Reader}
+use Rattle.reading.specs.Reading.{fresh, timed}
+use Rattle.scenario.specs.Lines.{Ways, pick, maskOf, shapeOf, isLaid, laidOf, readerAfter, buffersAfter, listAfter, sheetAfter}
 
 -- ---- what stands there
 pub record Desk : Type 0 where
@@ -57,7 +58,7 @@ storyWays r list s =
       step = λ p. longer s (callOf (timed r (p .order)) []);
       clock = λ p. s;
       list = λ p. s;
-      hours = λ p. cond (isTable r list) (longer s (callOf (timed r (p .order)) (tableOf r list))) s;
+      laid = λ p. cond (isLaid r (shapeOf (p .order .kind)) list) (longer s (callOf (timed r (p .order)) (laidOf r (shapeOf (p .order .kind)) list))) s;
       other = s;
     }
 
@@ -70,12 +71,13 @@ storyAfter r list s (byte ∷ bytes) =
     storyAfter (readerAfter r byte list) (listAfter r byte list) (cond (eqb byte 10) (lineStory r list s) s) bytes
 
 -- ---- what is claimed of every input: the buffers hold what the steps of the running scenario left (so demand 3 holds of them: crate runs), and the
--- sheet is the one that they tell replay
+-- sheet is the one that the machine's steps, which they made, tell replay
 pub record Faithful (d : Desk) (s : Story) : Type 0 where
   pub holds : Holds (blankOrigin (s .up)) (s .steps) (d .buffers)
   pub blank : List ℕ
   pub size : length blank ≡ sheetSize
-  pub told : d .sheet ≡ sheet (ledgerOf (blankOrigin (s .up) .machine)) (sheetBlank blank) (trace (origin (blankOrigin (s .up))) (s .steps))
+  pub told : d .sheet ≡ sheet (ledgerOf (blankOrigin (s .up) .machine)) (sheetBlank blank)
+      (trace (blankOrigin (s .up) .machine .station) (expand (blankOrigin (s .up)) (s .steps)))
 
 -- the start: nothing read, and a blank station whose nodes are all on
 pub record Start (d : Desk) : Type 0 where

@@ -1,5 +1,3 @@
--- A line as it is read (Reading), a step with what is printed for it (Steps), the lines of the input (Lines), and a whole input (Desk).
-pub mod Reading
-pub mod Steps
+-- The lines of the input (Lines), and a whole input (Desk).
 pub mod Lines
 pub mod Desk

@@ -6,24 +6,27 @@ ghost use Rattle.report.specs.Page.{page, inks};
 ghost use Rattle.service_calls.specs.Lent.{lent};
 ghost use Rattle.runs.specs.Order.{callOf};
 ghost use Rattle.runs.specs.Left.{leftOf};
-ghost use Rattle.scenario.specs.Reading.{next};
-ghost use Rattle.scenario.specs.Steps.{stepTexts, stepSheet};
-ghost use Rattle.scenario.specs.Lines.{echoTexts, endedTexts, startedTexts, anewTexts, anewReader, anewBuffers, anewSheet};
-ghost use Rattle.scenario.specs.Lines.{hoursReader, hoursBuffers, hoursSheet, hoursTexts, lineReader, lineBuffers, lineList, lineSheet, lineTexts};
+ghost use Rattle.reading.specs.Reading.{next};
+ghost use Rattle.reading.specs.Notes.{echoTexts};
+ghost use Rattle.performing.specs.Steps.{stepTexts, stepSheet};
+ghost use Rattle.scenario.specs.Lines.{endedTexts, startedTexts, anewTexts, anewReader, anewBuffers, anewSheet, shapeOf};
+ghost use Rattle.scenario.specs.Lines.{laidReader, laidBuffers, laidSheet, laidTexts, lineReader, lineBuffers, lineList, lineSheet, lineTexts};
 ghost use Rattle.scenario.specs.Lines.{readerAfter, buffersAfter, listAfter, sheetAfter, textsAfter, lastTexts};
-use crate::Reader;
-use crate::Taken;
-use crate::notes::echo;
-use crate::notes::heard;
-use crate::notes::listing;
-use crate::notes::passed;
-use crate::reading::kept;
-use crate::reading::next;
-use crate::reading::noted;
-use crate::reading::timed;
-use crate::step::perform;
+use lists::Shape;
 use numbers::EVERY_NODE;
+use orders::Kind;
 use orders::Order;
+use performing::perform;
+use reading::Reader;
+use reading::Taken;
+use reading::echo;
+use reading::heard;
+use reading::kept;
+use reading::listing;
+use reading::next;
+use reading::noted;
+use reading::passed;
+use reading::timed;
 use results::refusal;
 
 const NEWLINE: u8 = 10;
@@ -39,22 +42,23 @@ const CLOCK: u8 = 4;
 
 const LIST: u8 = 5;
 
-const HOURS: u8 = 6;
+const LAID: u8 = 6;
 
 // The end of the scenario that runs.
 fn ended(
     images: &[u8],
     records: &[u8],
+    settings: &[u8],
     sheet: &[u64],
     out: &mut [u8],
     at: usize,
     going: bool,
 ) -> usize
-    ensures { λ r. ⌜ page (now (out .exit)) r
-        ≡ inks (page (now (out .entry)) at) (endedTexts going (now (images .entry)) (now (records .entry)) (now (sheet .entry))) ⌝ }
+    ensures { λ r. ⌜ page (now (out .exit)) r ≡ inks (page (now (out .entry)) at)
+        (endedTexts going (now (images .entry)) (now (records .entry)) (now (settings .entry)) (now (sheet .entry))) ⌝ }
 {
     if going {
-        return closing::close(images, records, sheet, out, at);
+        return closing::close(images, records, settings, sheet, out, at);
     }
     at
 }
@@ -99,7 +103,7 @@ fn anew(
             written: b,
         };
     }
-    let x = ended(images, records, sheet, out, 0, r.going);
+    let x = ended(images, records, settings, sheet, out, 0, r.going);
     let number = runs::start(images, records, pool, own, settings, mask);
     replay::blank(sheet);
     let y = echo(out, x, r);
@@ -147,8 +151,19 @@ fn stepped(
     }
 }
 
-// An `hours`: what is listed is laid as a table, and the step takes it.
-fn hours(
+// How a kind of step has its list laid; only three kinds take one.
+fn shape_of(kind: Kind) -> Shape
+    ensures { λ r. ⌜ r ≡ shapeOf kind ⌝ }
+{
+    match kind {
+        Kind::LoadClasses => Shape::Classes,
+        Kind::Batch => Shape::Weights,
+        _ => Shape::Hours,
+    }
+}
+
+// A step that takes what is listed, laid as its kind has it.
+fn laid(
     r: Reader,
     images: &mut [u8],
     records: &mut [u8],
@@ -160,24 +175,26 @@ fn hours(
     out: &mut [u8],
     o: Order,
 ) -> Taken
-    ensures reader { λ t. ⌜ t .reader ≡ hoursReader r (now (list .entry)) ⌝ }
+    ensures reader { λ t. ⌜ t .reader ≡ laidReader r (now (list .entry)) o ⌝ }
     ensures buffers { λ t. ⌜ lent (now (images .exit)) (now (records .exit)) (now (pool .exit)) (now (own .exit)) (now (settings .exit))
-        ≡ hoursBuffers r (now (list .entry))
+        ≡ laidBuffers r (now (list .entry))
         (lent (now (images .entry)) (now (records .entry)) (now (pool .entry)) (now (own .entry)) (now (settings .entry))) o ⌝ }
     ensures sheet { λ t. ⌜ now (sheet .exit)
-        ≡ hoursSheet r (now (list .entry))
+        ≡ laidSheet r (now (list .entry))
         (lent (now (images .entry)) (now (records .entry)) (now (pool .entry)) (now (own .entry)) (now (settings .entry))) (now (sheet .entry)) o ⌝ }
     ensures output { λ t. ⌜ page (now (out .exit)) (t .written)
         ≡ inks (page (now (out .entry)) 0)
-        (hoursTexts r (now (list .entry))
+        (laidTexts r (now (list .entry))
         (lent (now (images .entry)) (now (records .entry)) (now (pool .entry)) (now (own .entry)) (now (settings .entry))) o) ⌝ }
 {
     let mut bytes = [0u8; lists::SIZE];
-    let laid = lists::lay(list, r.listed, &mut bytes);
-    if !laid.fits {
+    let kind = o.kind;
+    let shape = shape_of(kind);
+    let done = lists::lay(list, r.listed, shape, &mut bytes);
+    if !done.fits {
         return passed(r, out, BAD);
     }
-    let long = laid.long;
+    let long = done.long;
     let then = kept(r, r.day, r.minute, 0);
     stepped(
         r,
@@ -250,8 +267,8 @@ fn line(
         let numbers = p.numbers;
         return listing(r, list, out, numbers, p.count);
     }
-    if p.what == HOURS {
-        return hours(r, images, records, pool, own, settings, list, sheet, out, o);
+    if p.what == LAID {
+        return laid(r, images, records, pool, own, settings, list, sheet, out, o);
     }
     passed(r, out, p.what)
 }
@@ -319,5 +336,5 @@ pub fn finish(
 {
     let t = line(r, images, records, pool, own, settings, list, sheet, out);
     let s = t.reader;
-    ended(images, records, sheet, out, t.written, s.going)
+    ended(images, records, settings, sheet, out, t.written, s.going)
 }

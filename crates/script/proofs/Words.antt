@@ -3,7 +3,7 @@ use mathlib.Core.Path.{_≡_, refl}
 use mathlib.Core.List.{[], _∷_}
 use Rattle.script.specs.Words.{packed, packedFrom}
 use Rattle.script.specs.Words.{blankWord, beginWord, reselectWord, readWord, writeWord, setWord, foundWord, askWord, abortWord}
-use Rattle.script.specs.Words.{sendWord, deliverWord, keepWord, dropWord, onWord, offWord, clockWord, listWord, hoursWord}
+use Rattle.script.specs.Words.{sendWord, deliverWord, keepWord, dropWord, onWord, offWord, clockWord, listWord, hoursWord, classesWord, batchWord}
 
 -- `blank`
 pub blank-word : blankWord ≡ packed (98 ∷ 108 ∷ 97 ∷ 110 ∷ 107 ∷ [])
@@ -94,3 +94,13 @@ list-word = refl
 pub hours-word : hoursWord ≡ packed (104 ∷ 111 ∷ 117 ∷ 114 ∷ 115 ∷ [])
 unfolding packed packedFrom
 hours-word = refl
+
+-- `classes`
+pub classes-word : classesWord ≡ packed (99 ∷ 108 ∷ 97 ∷ 115 ∷ 115 ∷ 101 ∷ 115 ∷ [])
+unfolding packed packedFrom
+classes-word = refl
+
+-- `batch`
+pub batch-word : batchWord ≡ packed (98 ∷ 97 ∷ 116 ∷ 99 ∷ 104 ∷ [])
+unfolding packed packedFrom
+batch-word = refl

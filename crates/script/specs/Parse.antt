@@ -8,17 +8,18 @@ use Rattle.numbers.specs.Sizes.{nodes}
 use Rattle.coordinator.specs.declared.BeginWith.{BeginWith}
 use Rattle.orders.specs.declared.Order.{Order}
 use Rattle.orders.specs.declared.Kind.{Kind}
-use Rattle.orders.specs.declared.Kind.the-variants.{Begin, OpenRead, OpenWrite, SetValue, Found, Reselect, RequestCommit, Abort, LoadHours}
-use Rattle.orders.specs.declared.Kind.the-variants.{Send, Deliver, Drop, Switch}
+use Rattle.orders.specs.declared.Kind.the-variants.{Begin, Batch, OpenRead, OpenWrite, SetValue, Found, Reselect, RequestCommit, Abort}
+use Rattle.orders.specs.declared.Kind.the-variants.{LoadHours, LoadClasses, Send, Deliver, Drop, Switch}
 use Rattle.script.specs.declared.Said.{Said}
 use Rattle.script.specs.declared.Parsed.{Parsed}
 use Rattle.script.specs.Words.{blankWord, beginWord, reselectWord, readWord, writeWord, setWord, foundWord, askWord, abortWord}
 use Rattle.script.specs.Words.{sendWord, deliverWord, keepWord, dropWord, onWord, offWord, clockWord, listWord, hoursWord}
+use Rattle.script.specs.Words.{classesWord, batchWord}
 use Rattle.script.specs.Said.{spoilt, space}
 
 -- ---- how many numbers follow a word, without distances; 0 for `list`, behind which any may stand, and for what is no word of the language
 unfoldable pub hasThree : ℕ → Bool
-hasThree w = eqb w beginWord || (eqb w setWord || eqb w sendWord)
+hasThree w = eqb w beginWord || (eqb w setWord || (eqb w sendWord || eqb w batchWord))
 
 unfoldable pub hasTwo : ℕ → Bool
 hasTwo w = eqb w readWord || (eqb w writeWord || (eqb w foundWord || (eqb w reselectWord || eqb w clockWord)))
@@ -26,7 +27,7 @@ hasTwo w = eqb w readWord || (eqb w writeWord || (eqb w foundWord || (eqb w rese
 unfoldable pub hasOne : ℕ → Bool
 hasOne w =
     eqb w askWord || (eqb w abortWord || (eqb w onWord || (eqb w offWord
-    || (eqb w deliverWord || (eqb w keepWord || (eqb w dropWord || (eqb w blankWord || eqb w hoursWord)))))))
+    || (eqb w deliverWord || (eqb w keepWord || (eqb w dropWord || (eqb w blankWord || (eqb w hoursWord || eqb w classesWord))))))))
 
 unfoldable pub arity : ℕ → ℕ
 arity w = cond (hasThree w) 3 (cond (hasTwo w) 2 (cond (hasOne w) 1 0))
@@ -40,10 +41,10 @@ unfoldable pub firstMost : ℕ → ℕ
 firstMost w = cond (eqb w blankWord) 65535 (cond (eqb w clockWord) 4294967295 255)
 
 unfoldable pub secondMost : ℕ → ℕ
-secondMost w = cond (eqb w beginWord) 4294967295 (cond (eqb w reselectWord || eqb w clockWord) 65535 255)
+secondMost w = cond (eqb w beginWord || eqb w batchWord) 4294967295 (cond (eqb w reselectWord || eqb w clockWord) 65535 255)
 
 unfoldable pub thirdMost : ℕ → ℕ
-thirdMost w = cond (eqb w setWord) 18446744073709551615 (cond (eqb w beginWord) 65535 255)
+thirdMost w = cond (eqb w setWord) 18446744073709551615 (cond (eqb w beginWord || eqb w batchWord) 65535 255)
 
 -- by the number's place
 unfoldable pub mostAt : ℕ → ℕ → ℕ
@@ -74,7 +75,10 @@ kindOf w =
     (cond (eqb w askWord) RequestCommit
     (cond (eqb w abortWord) Abort
     (cond (eqb w sendWord) Send
-    (cond (eqb w dropWord) Drop (cond (eqb w hoursWord) LoadHours (cond (eqb w deliverWord || eqb w keepWord) Deliver Switch)))))))))))
+    (cond (eqb w dropWord) Drop
+    (cond (eqb w hoursWord) LoadHours
+    (cond (eqb w classesWord) LoadClasses
+    (cond (eqb w batchWord) Batch (cond (eqb w deliverWord || eqb w keepWord) Deliver Switch)))))))))))))
 
 -- the distances: the numbers behind the others; where none are given, all are 1
 unfoldable pub fillFrom : ℕ → ℕ → List ℕ → List ℕ
@@ -90,7 +94,7 @@ withOf s =
     let b = getD (s .numbers) 1 0 in
     let c = getD (s .numbers) 2 0 in
     record {
-      live = cond (eqb (s .word) beginWord) c (cond (eqb (s .word) reselectWord) b a) % 65536;
+      live = cond (eqb (s .word) beginWord || eqb (s .word) batchWord) c (cond (eqb (s .word) reselectWord) b a) % 65536;
       distances = distancesOf s;
       timestamp = b % 4294967296;
     }
@@ -114,9 +118,12 @@ orderOf s =
     }
 
 -- ---- what a line is: 0 it says nothing, 1 it is bad, 2 `blank` with its mask as the order's live mask, 3 a step, 4 `clock` with its day and its minute as
--- the order's, 5 `list` with its numbers, 6 `hours`, a step that takes what is listed
+-- the order's, 5 `list` with its numbers, 6 `hours`, `classes` or `batch`, a step that takes what is listed
+unfoldable pub takesList : ℕ → Bool
+takesList w = eqb w hoursWord || (eqb w classesWord || eqb w batchWord)
+
 unfoldable pub lineOf : ℕ → ℕ
-lineOf w = cond (eqb w blankWord) 2 (cond (eqb w clockWord) 4 (cond (eqb w listWord) 5 (cond (eqb w hoursWord) 6 3)))
+lineOf w = cond (eqb w blankWord) 2 (cond (eqb w clockWord) 4 (cond (eqb w listWord) 5 (cond (takesList w) 6 3)))
 
 unfoldable pub whatOf : Said → ℕ
 whatOf s = cond (eqb (s .part) spoilt) 1 (cond (eqb (s .word) 0) 0 (cond (isGood s) (lineOf (s .word)) 1))

@@ -63,3 +63,9 @@ listWord = 1818850164
 
 abbrev pub hoursWord : ℕ
 hoursWord = 448546566771
+
+abbrev pub classesWord : ℕ
+classesWord = 27985188498924915
+
+abbrev pub batchWord : ℕ
+batchWord = 422541812584

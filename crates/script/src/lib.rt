@@ -24,7 +24,7 @@ pub struct Said {
 }
 
 // What a line is: 0 it says nothing, 1 it is bad, 2 `blank` with its mask as the order's live mask, 3 a step, 4 `clock` with its day and its minute as the
-// order's, 5 `list` with its numbers, 6 `hours`, a step that takes what is listed.
+// order's, 5 `list` with its numbers, 6 `hours`, `classes` or `batch`, a step that takes what is listed.
 pub struct Parsed {
     pub what: u8,
     pub order: Order,

@@ -3,7 +3,7 @@ ghost use mathlib.Core.Path.{_≡_};
 ghost use mathlib.Core.Bool.{cond};
 ghost use Prim.Native.Nat.{_+_, _%_, _≤_};
 ghost use Rattle.script.specs.Parse.{arity, mayMeasure, firstMost, secondMost, thirdMost, mostAt, countFits, fitFrom, isGood, kindOf, distancesOf};
-ghost use Rattle.script.specs.Parse.{withOf, orderOf, lineOf, whatOf, parsed};
+ghost use Rattle.script.specs.Parse.{withOf, orderOf, takesList, lineOf, whatOf, parsed};
 use crate::MOST_NUMBERS;
 use crate::Parsed;
 use crate::Said;
@@ -51,6 +51,10 @@ const LIST: u64 = 1818850164;
 
 const HOURS: u64 = 448546566771;
 
+const CLASSES: u64 = 27985188498924915;
+
+const BATCH: u64 = 422541812584;
+
 const SPOILT: u8 = 7;
 
 // One of two numbers.
@@ -83,7 +87,7 @@ fn low32(x: u64) -> u32
 fn arity(w: u64) -> u64
     ensures { λ r. ⌜ (r ≡ arity w) × (r ≤ 3) ⌝ }
 {
-    let three = either(w == BEGIN, either(w == SET, w == SEND));
+    let three = either(w == BEGIN, either(w == SET, either(w == SEND, w == BATCH)));
     let two = either(
         w == READ,
         either(
@@ -93,7 +97,13 @@ fn arity(w: u64) -> u64
     );
     let place = either(
         w == DELIVER,
-        either(w == KEEP, either(w == DROP, either(w == BLANK, w == HOURS))),
+        either(
+            w == KEEP,
+            either(
+                w == DROP,
+                either(w == BLANK, either(w == HOURS, w == CLASSES)),
+            ),
+        ),
     );
     let one = either(
         w == ASK,
@@ -119,17 +129,15 @@ fn second_most(w: u64) -> u64
     ensures { λ r. ⌜ r ≡ secondMost w ⌝ }
 {
     let short = either(w == RESELECT, w == CLOCK);
-    choose(w == BEGIN, 4294967295, choose(short, 65535, 255))
+    let begins = either(w == BEGIN, w == BATCH);
+    choose(begins, 4294967295, choose(short, 65535, 255))
 }
 
 fn third_most(w: u64) -> u64
     ensures { λ r. ⌜ r ≡ thirdMost w ⌝ }
 {
-    choose(
-        w == SET,
-        18446744073709551615,
-        choose(w == BEGIN, 65535, 255),
-    )
+    let begins = either(w == BEGIN, w == BATCH);
+    choose(w == SET, 18446744073709551615, choose(begins, 65535, 255))
 }
 
 fn most_at(w: u64, i: u64) -> u64
@@ -206,6 +214,12 @@ fn kind_of(w: u64) -> Kind
     if w == HOURS {
         return Kind::LoadHours;
     }
+    if w == CLASSES {
+        return Kind::LoadClasses;
+    }
+    if w == BATCH {
+        return Kind::Batch;
+    }
     if either(w == DELIVER, w == KEEP) {
         return Kind::Deliver;
     }
@@ -239,7 +253,8 @@ fn with_of(s: Said) -> BeginWith
     let b = s.numbers[1];
     let c = s.numbers[2];
     let distances = distances_of(s);
-    let live = choose(w == BEGIN, c, choose(w == RESELECT, b, a));
+    let begins = either(w == BEGIN, w == BATCH);
+    let live = choose(begins, c, choose(w == RESELECT, b, a));
     BeginWith {
         live: low16(live),
         distances,
@@ -271,6 +286,13 @@ fn order_of(s: Said) -> Order
     }
 }
 
+// Whether a step takes what is listed.
+fn takes_list(w: u64) -> bool
+    ensures { λ r. ⌜ r ≡ takesList w ⌝ }
+{
+    either(w == HOURS, either(w == CLASSES, w == BATCH))
+}
+
 // What a line is.
 fn line_of(w: u64) -> u8
     ensures { λ r. ⌜ r ≡ lineOf w ⌝ }
@@ -284,7 +306,7 @@ fn line_of(w: u64) -> u8
     if w == LIST {
         return 5;
     }
-    if w == HOURS {
+    if takes_list(w) {
         return 6;
     }
     3

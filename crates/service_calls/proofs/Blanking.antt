@@ -11,7 +11,7 @@ use Rattle.buffers.specs.Buffers.{Buffers}
 use Rattle.station_calls.specs.Calls.{blankNumber as stationNumber, blankAfter as stationAfter}
 use Rattle.station_calls.proofs.Blanking.{blank-refused}
 use Rattle.service_calls.specs.Lent.{Lent, allSettings, blankNumber, blankAfter}
-use Rattle.service_calls.proofs.Beginning.{lower-zero}
+use Rattle.service_calls.proofs.Lending.{lower-zero}
 
 lower-one : (k : ℕ) → lower k 1 ≡ 1
 unfolding lower

@@ -14,9 +14,9 @@ use Rattle.mask.specs.Mask.{contains}
 use Rattle.hours.specs.Hours.{tableNumber}
 use Rattle.steps.specs.Station.{putAt}
 use Rattle.buffers.specs.Buffers.{onOf, ownNumber, answerWith}
-use Rattle.frontend.specs.Settings.{settingsNumber, loaded}
-use Rattle.frontend.specs.Settings.{loadNumber as loneNumber, loadAfter as loneAfter}
-use Rattle.service.specs.Service.{loadNumber, loadOf, step}
+use Rattle.settings.specs.Settings.{settingsNumber, loaded}
+use Rattle.settings.specs.Settings.{loadNumber as loneNumber, loadAfter as loneAfter}
+use Rattle.service.specs.Service.{numberOf, answerOf, settingsOf, loadNumber}
 use Rattle.service_calls.specs.Lent.{Lent, lent, allSettings, settingsAt, withSettingsAt, settingsIn, settingsFirst, told, loadFirst, loadTold}
 use Rattle.service_calls.specs.Lent.{loadSettings}
 
@@ -52,12 +52,12 @@ module _ (O S : List ℕ) (n : ℕ) (list : List ℕ) where
         go false e = absurd (let y : _≡_ {A = ℕ} 1 0 = sym (simp e) ∙ none .0 in omega (arith, y))
 
     pub stranger-told : nodes ≤ n → (answerWith 4 0 ≡ loadTold b n list) × (S ≡ loadSettings b n list)
-    unfolding told loadSettings step loadOf loadNumber
+    unfolding told loadSettings numberOf answerOf settingsOf loadNumber
     stranger-told h = simp (first, none .1, le-ltb n nodes h) (refl, refl)
 
     module _ (h : n < nodes) where
       pub off-told : contains (onOf O) n ≡ false → (answerWith 5 0 ≡ loadTold b n list) × (S ≡ loadSettings b n list)
-      unfolding told loadSettings step loadOf loadNumber
+      unfolding told loadSettings numberOf answerOf settingsOf loadNumber
       off-told e = simp (first, none .1, lt-ltb n nodes h, e) (refl, refl)
 
       settings-fine : settingsNumber (settingsAt S n) ≡ 0
@@ -75,6 +75,6 @@ module _ (O S : List ℕ) (n : ℕ) (list : List ℕ) where
 
       pub taken-told : contains (onOf O) n ≡ true
           → (answerWith 0 0 ≡ loadTold b n list) × (withSettingsAt S n (loneAfter (settingsAt S n) list) ≡ loadSettings b n list)
-      unfolding told loadSettings step loadOf loadNumber putAt settingsIn
+      unfolding told loadSettings numberOf answerOf settingsOf loadNumber putAt settingsIn
       taken-told e =
           simp (first, none .1, lt-ltb n nodes h, e, eq-eqb n n refl) (refl, ap (withSettingsAt S n) lone)

@@ -1,5 +1,5 @@
--- The service over five lent buffers: the station's four and the settings. What service they are, their own numbers, and what a begin, a load and the maker
--- of a blank one tell and leave.
+-- The service over five lent buffers: the station's four and the settings. What service they are, their own numbers, and what a call of a front end, a load
+-- of hours and the maker of a blank one tell and leave.
 use mathlib.Core.Path.{_≡_}
 use mathlib.Core.Bool.{Bool, cond, not, _&&_}
 use mathlib.Core.List.{List, [], _∷_}
@@ -10,16 +10,16 @@ use Rattle.numbers.specs.Sizes.{nodes}
 use Rattle.numbers.specs.Numbers.{wrongLength, damaged}
 use Rattle.numbers.specs.Refusal.{refuse, firstOf, lower}
 use Rattle.parts.specs.Parts.{part, splice}
-use Rattle.hours.specs.Hours.{lastMinute, tableNumber}
-use Rattle.coordinator.specs.declared.BeginWith.{BeginWith}
+use Rattle.hours.specs.Hours.{tableNumber}
 use Rattle.record.specs.Record.{bytesOf}
 use Rattle.buffers.specs.declared.Answer.{Answer}
 use Rattle.buffers.specs.Buffers.{Buffers, all, stationOf, wrong, ownNumber, hostFirst, answerWith, withRecordAt}
 use Rattle.buffers.specs.Buffers.{Whole as StationWhole}
 use Rattle.station_calls.specs.Calls.{blankNumber as stationNumber, blankAfter as stationAfter}
-use Rattle.frontend.specs.Settings.{settingsSize, blankSettings, settingsNumber}
-use Rattle.frontend.specs.Calls.{opens}
-use Rattle.service.specs.Service.{Service, begin, loadHours, Outcome, step}
+use Rattle.settings.specs.Settings.{settingsSize, blankSettings, settingsNumber}
+use Rattle.frontend.specs.Plan.{listNumber}
+use Rattle.frontend.specs.Plan.{Call as Front}
+use Rattle.service.specs.Service.{Service, front, loadHours, isOn, Outcome, step}
 
 pub record Lent : Type 0 where
   pub station : Buffers
@@ -50,11 +50,6 @@ unfoldable pub settingsFirst : List ℕ → ℕ → ℕ
 settingsFirst l n =
     firstOf (refuse wrongLength (wrong l allSettings) ∷ refuse damaged (ltb n nodes && not (eqb (settingsNumber (settingsAt l n)) 0)) ∷ [])
 
--- whether a begin goes on to the station
-unfoldable pub opensAt : List ℕ → ℕ → ℕ → ℕ → Bool
-opensAt l n day minute =
-    not (wrong l allSettings) && cond (ltb n nodes) (opens (settingsAt l n) day minute) (not (ltb lastMinute minute))
-
 -- buffers that hold a service: the station's are whole, and so are the settings of every node
 pub record Whole (b : Lent) : Type 0 where
   pub station : StationWhole (b .station)
@@ -65,20 +60,25 @@ pub record Whole (b : Lent) : Type 0 where
 unfoldable pub told : ℕ → Outcome → Answer
 told first o = cond (eqb first 0) (answerWith (o .number) (o .answer)) (answerWith first 0)
 
-abbrev pub goes : ℕ → Outcome → Bool
-goes first o = eqb first 0 && eqb (o .number) 0
+-- ---- a front end's call reads and writes its node's record and settings; a node that is off is left as it was
+unfoldable pub frontFirst : Lent → ℕ → Front → ℕ
+frontFirst b n a = lower (lower (hostFirst (b .station) n) (settingsFirst (b .settings) n)) (listNumber a)
 
--- ---- a begin reads the records, who is on and the settings
-unfoldable pub beginFirst : Lent → ℕ → ℕ
-beginFirst b n = lower (hostFirst (b .station) n) (settingsFirst (b .settings) n)
+abbrev pub frontTold : Lent → ℕ → Front → Answer
+frontTold b n a = told (frontFirst b n a) (step (serviceOf b) (front n a))
 
-abbrev pub beginTold : Lent → ℕ → BeginWith → ℕ → ℕ → Answer
-beginTold b n w day minute = told (beginFirst b n) (step (serviceOf b) (begin n w day minute))
+abbrev pub takes : Lent → ℕ → Front → Bool
+takes b n a = eqb (frontFirst b n a) 0 && isOn (serviceOf b) n
 
-unfoldable pub beginRecords : Lent → ℕ → BeginWith → ℕ → ℕ → List ℕ
-beginRecords b n w day minute =
-    let o = step (serviceOf b) (begin n w day minute) in
-    cond (goes (beginFirst b n) o) (withRecordAt (b .station .records) n (bytesOf (o .service .machine .records n))) (b .station .records)
+unfoldable pub frontRecords : Lent → ℕ → Front → List ℕ
+frontRecords b n a =
+    let o = step (serviceOf b) (front n a) in
+    cond (takes b n a) (withRecordAt (b .station .records) n (bytesOf (o .service .machine .records n))) (b .station .records)
+
+unfoldable pub frontSettings : Lent → ℕ → Front → List ℕ
+frontSettings b n a =
+    let o = step (serviceOf b) (front n a) in
+    cond (takes b n a) (withSettingsAt (b .settings) n (o .service .settings n)) (b .settings)
 
 -- ---- a load reads who is on and the settings
 unfoldable pub loadFirst : Lent → ℕ → List ℕ → ℕ
@@ -90,7 +90,7 @@ loadTold b n list = told (loadFirst b n list) (step (serviceOf b) (loadHours n l
 unfoldable pub loadSettings : Lent → ℕ → List ℕ → List ℕ
 loadSettings b n list =
     let o = step (serviceOf b) (loadHours n list) in
-    cond (goes (loadFirst b n list) o) (withSettingsAt (b .settings) n (o .service .settings n)) (b .settings)
+    cond (eqb (loadFirst b n list) 0 && eqb (o .number) 0) (withSettingsAt (b .settings) n (o .service .settings n)) (b .settings)
 
 -- ---- a blank service made: 1 another length of any buffer, 4 a mask that names what is no node
 unfoldable pub blankNumber : Lent → ℕ → ℕ

@@ -3,7 +3,7 @@
 use libc::STDIN_FILENO;
 use libc::STDOUT_FILENO;
 use numbers::EVERY_NODE;
-use scenario::Reader;
+use reading::Reader;
 
 // The reader, and whether to go on.
 struct Went {
@@ -97,7 +97,7 @@ fn all(
     sheet: &mut [u64],
     out: &mut [u8],
 ) -> Reader {
-    let mut r = scenario::fresh();
+    let mut r = reading::fresh();
     let mut turns = u64::MAX;
     while turns > 0 {
         let went = turn(

@@ -9,9 +9,9 @@ use crate::checks::message::records::{change, some_byte, some_node};
 use crate::checks::station::{self, ends::Ends};
 use crate::ffi::coordinator as ffi;
 use crate::model::coordinator::Call;
-use crate::model::hours::settings_of;
 use crate::model::message::{self, LONGEST};
 use crate::model::record::{self, Clause, Record, RECORD};
+use crate::model::settings::settings_of;
 use crate::model::{number, quorum::NODES};
 use crate::random::Random;
 use crate::runner::{ensure, in_four_threads, Runner, Verdict};
@@ -35,7 +35,8 @@ pub fn run(runner: &mut Runner) {
 }
 
 /// The compiled coordinator's calls.
-const LIBRARY: Ends = Ends { host: ffi::host_call, load: ffi::load_hours, receive: ffi::receive, due: ffi::due };
+const LIBRARY: Ends =
+    Ends { host: ffi::host_call, load: ffi::load_hours, load_classes: ffi::load_classes, receive: ffi::receive, due: ffi::due };
 
 /// One call of each sort that meets a record, with the node itself most often, or another, or a stranger.
 fn some_try(random: &mut Random, record: &Record, bytes: &[u8], me: u8, seen: &mut Seen) -> Result<Vec<u8>, String> {
@@ -70,7 +71,7 @@ fn some_try(random: &mut Random, record: &Record, bytes: &[u8], me: u8, seen: &m
 /// Calls and messages on records that they meet: every case of the rules, many times.
 fn one_call(random: &mut Random, rounds: usize) -> Verdict {
     let mut seen = Seen::default();
-    for _ in 0..12_000 * rounds {
+    for _ in 0..20_000 * rounds {
         let me = some_node(random);
         let record = some_record(random, me);
         let broken = record::broken(&record);
@@ -81,10 +82,18 @@ fn one_call(random: &mut Random, rounds: usize) -> Verdict {
             ensure!(ffi::check_record(&after) == number::OK, "a call on {record:?} left a damaged record");
         }
     }
-    // The records are sound: a call is 2 for damaged settings alone, and those are lent to begin.
-    let (case, least) = seen.rarest(|case| matches!(case, Case::Number(What::Begin, 2 | 3)) || !matches!(case, Case::Number(_, 1..=3)));
+    // The records are sound: a call is 2 for damaged settings alone, and those are lent to these.
+    let lent = [What::Begin, What::Batch, What::OpenRead, What::OpenWrite, What::SetValue, What::RequestCommit];
+    let met = |case: Case| match case {
+        Case::Number(what, 2) => lent.contains(&what),
+        Case::Number(what, 3) => [What::Begin, What::Batch].contains(&what),
+        // Sums past the range have checks of their own.
+        Case::Number(_, 1) | Case::GivenUp => false,
+        _ => true,
+    };
+    let (case, least) = seen.rarest(met);
     let counted = format!("{}; the rarest case ({case:?}) {least} times", seen.words());
-    let damaged = seen.of(Case::Number(What::Begin, 2));
+    let damaged: usize = lent.iter().map(|&what| seen.of(Case::Number(what, 2))).sum();
     ensure!(least > 20 * rounds && seen.numbers[2] == damaged, "too poor: {counted}");
     Ok(counted)
 }
@@ -116,6 +125,14 @@ fn every_call(random: &mut Random, record: &Record, bytes: &[u8], me: u8, size: 
     let object = some_object(random, record);
     let calls = [
         Call::Begin { live: 8191, distances: distances.clone(), timestamp: record.timestamp.saturating_add(1), day: 0, minute: 0 },
+        Call::Batch {
+            live: 8191,
+            distances: distances.clone(),
+            timestamp: record.timestamp.saturating_add(1),
+            day: 0,
+            minute: 0,
+            list: vec![1, 0, 37, 0],
+        },
         Call::Open { object, mode: 0 },
         Call::Open { object, mode: 1 },
         Call::SetValue { object, value: random.next() as i64 },
@@ -199,6 +216,9 @@ fn every_length(random: &mut Random, rounds: usize) -> Verdict {
             let begin = |distances| Call::Begin { live: 8191, distances, timestamp: 7, day: 0, minute: 0 };
             seen.compare(random, &bytes, me, Try::Host(&begin(distances), &blank))?;
             seen.compare(random, &bytes, me, Try::Host(&begin(vec![0; 26]), &settings))?;
+            for call in [Call::Open { object: 1, mode: 1 }, Call::SetValue { object: 1, value: 1 }, Call::RequestCommit] {
+                seen.compare(random, &bytes, me, Try::Host(&call, &settings))?;
+            }
             seen.compare(random, &bytes, me, Try::Receive(&message))?;
             seen.compare(random, &bytes, me, Try::Due { node: 0, object: 0, size: length })?;
         }
@@ -230,7 +250,9 @@ fn several_numbers(random: &mut Random, rounds: usize) -> Verdict {
             message.truncate(if wrong(4) { random.below(15) } else { LONGEST });
             let settings = lent_settings(random);
             let mut call = some_call(random, &sane, &settings);
-            if let (Call::Begin { distances, .. } | Call::Reselect { distances, .. }, true) = (&mut call, wrong(5)) {
+            if let (Call::Begin { distances, .. } | Call::Batch { distances, .. } | Call::Reselect { distances, .. }, true) =
+                (&mut call, wrong(5))
+            {
                 distances.truncate(random.below(26));
             }
             seen.compare(random, &bytes, caller, Try::Receive(&message))?;
@@ -272,16 +294,17 @@ fn known_bytes() -> Verdict {
     ensure!(ffi::check_record(&bytes) == number::OK, "all zeros are refused");
     // Node 3 begins its first transaction at 0x0102, all live and every distance 256 times its node: the root is nearest.
     let distances: Vec<u8> = (0..13).flat_map(|node| [0, node]).collect();
-    let (blank, call) = (settings_of(None), Call::Begin { live: 8191, distances: distances.clone(), timestamp: 0x0102, day: 9, minute: 9 });
-    let got = ffi::host_call(&mut bytes, &blank, 3, &call);
+    let (mut blank, call) =
+        (settings_of(None), Call::Begin { live: 8191, distances: distances.clone(), timestamp: 0x0102, day: 9, minute: 9 });
+    let got = ffi::host_call(&mut bytes, &mut blank, 3, &call);
     let mut expected = vec![0; RECORD];
     (expected[0], expected[4], expected[5], expected[9]) = (1, 2, 1, 1);
     (expected[10], expected[11], expected[38]) = (255, 31, 1);
     expected[12..38].copy_from_slice(&distances);
     ensure!(got == (0, 1) && bytes == expected, "begin: {got:?}, {bytes:?}");
     // It opens object 63 to write, and sets -2.
-    let opened = ffi::host_call(&mut bytes, &blank, 3, &Call::Open { object: 63, mode: 1 });
-    let set = ffi::host_call(&mut bytes, &blank, 3, &Call::SetValue { object: 63, value: -2 });
+    let opened = ffi::host_call(&mut bytes, &mut blank, 3, &Call::Open { object: 63, mode: 1 });
+    let set = ffi::host_call(&mut bytes, &mut blank, 3, &Call::SetValue { object: 63, value: -2 });
     (expected[40], expected[42], expected[43], expected[44], expected[59]) = (1, 1, 63, 1, 1);
     expected[60..68].copy_from_slice(&[254, 255, 255, 255, 255, 255, 255, 255]);
     ensure!(opened == (0, 0) && set == (0, 0) && bytes == expected, "open and set: {opened:?}, {set:?}, {bytes:?}");
@@ -289,11 +312,11 @@ fn known_bytes() -> Verdict {
     let own = message::Transaction { owner: 3, serial: 1, stamp: 0x0102 };
     let copy = message::copy(0, own, message::Entry { object: 63, mode: 1, version: 3, value: 256 });
     let ready = ffi::receive(&mut bytes, 3, &message::encode(&copy));
-    let found = ffi::host_call(&mut bytes, &blank, 3, &Call::Found { object: 63 });
+    let found = ffi::host_call(&mut bytes, &mut blank, 3, &Call::Found { object: 63 });
     (expected[45], expected[47], expected[52]) = (1, 3, 1);
     ensure!(ready == (0, 3) && found == (0, 256) && bytes == expected, "copy: {ready:?}, {found:?}, {bytes:?}");
     // Votes are asked for: nodes 0, 1, 2, 4, 5, 7 and 8. Node 8 says yes and names owner 12's transaction 513 as a rival.
-    let asked = ffi::host_call(&mut bytes, &blank, 3, &Call::RequestCommit);
+    let asked = ffi::host_call(&mut bytes, &mut blank, 3, &Call::RequestCommit);
     let vote = message::vote(8, own, vec![message::Rival { owner: 12, serial: 513 }], message::YES);
     let nothing = ffi::receive(&mut bytes, 3, &message::encode(&vote));
     (expected[9], expected[243], expected[244], expected[246], expected[297], expected[298]) = (2, 183, 1, 1, 1, 2);

@@ -1,7 +1,7 @@
 //! Packing hours through the library's C functions, at a lone node and at a station: tables as they are lent, settings as they are kept, and begins at
 //! every minute. Number, answer and every byte are the model's.
 
-mod subsets;
+pub mod subsets;
 pub mod tables;
 
 use crate::checks::coordinator::records::some_in;
@@ -10,10 +10,11 @@ use crate::ffi::coordinator as ffi;
 use crate::ffi::station as library;
 use crate::model::buffers::{self, Buffers};
 use crate::model::coordinator::{host_call, Call};
-use crate::model::hours::{self, encode, settings_of, Table, Window, KEPT, LAST_END, LAST_MINUTE, SETTINGS};
+use crate::model::hours::{self, encode, Table, Window, LAST_END, LAST_MINUTE};
 use crate::model::number;
 use crate::model::quorum::{ALL, NODES};
 use crate::model::record::{self, phase, Record, RECORD};
+use crate::model::settings::{self, settings_of, HOURS, KIND, SETTINGS, WAITED};
 use crate::model::station::{blank as blank_station, Step};
 use crate::random::Random;
 use crate::runner::{ensure, in_four_threads, Runner, Verdict};
@@ -45,6 +46,11 @@ fn begin(timestamp: u32, day: u32, minute: u16) -> Call {
     Call::Begin { live: ALL, distances: [1, 0].repeat(NODES), timestamp, day, minute }
 }
 
+/// The table of hours that some settings have, if any.
+pub fn hours_in(bytes: &[u8]) -> Option<Table> {
+    settings::load(bytes).ok().and_then(|it| it.hours)
+}
+
 /// What a begin at which nothing else is wrong gives by a table.
 fn expected(table: Option<&Table>, day: u32, minute: u16) -> u8 {
     if minute > LAST_MINUTE {
@@ -60,7 +66,7 @@ fn expected(table: Option<&Table>, day: u32, minute: u16) -> u8 {
 fn same_load(settings: &[u8], list: &[u8]) -> Result<(u8, Vec<u8>), String> {
     let (mut after, lent) = (settings.to_vec(), list.to_vec());
     let got = ffi::load_hours(&mut after, &lent);
-    let (number, left) = match hours::load_call(settings, list) {
+    let (number, left) = match settings::load_hours_call(settings, list) {
         Err(number) => (number, settings.to_vec()),
         Ok(left) => (number::OK, left),
     };
@@ -72,20 +78,20 @@ fn same_load(settings: &[u8], list: &[u8]) -> Result<(u8, Vec<u8>), String> {
 }
 
 /// The library's begin on a record and settings against the model's: number, answer and every byte.
-fn same_begin(record: &[u8], settings: &[u8], me: u8, call: &Call) -> Result<u8, String> {
-    let (mut after, lent) = (record.to_vec(), settings.to_vec());
-    let got = ffi::host_call(&mut after, &lent, me, call);
+pub fn same_begin(record: &[u8], settings: &[u8], me: u8, call: &Call) -> Result<u8, String> {
+    let (mut after, mut kept) = (record.to_vec(), settings.to_vec());
+    let got = ffi::host_call(&mut after, &mut kept, me, call);
     let (told, left) = match host_call(record, settings, me, call) {
-        Err(number) => ((number, 0), record.to_vec()),
-        Ok(left) => ((number::OK, left.answer), left.record),
+        Err(number) => ((number, 0), (record.to_vec(), settings.to_vec())),
+        Ok(left) => ((left.done.number, left.done.answer), (left.record, left.settings)),
     };
     ensure!(got == told, "{call:?} with settings {settings:?}: {got:?}, but the model says {told:?}");
-    ensure!(after == left && lent == settings, "{call:?} with settings {settings:?}: {got:?}, and other bytes than the model's");
+    ensure!((after, kept) == left, "{call:?} with settings {settings:?}: {got:?}, and other bytes than the model's");
     Ok(got.0)
 }
 
 /// The library's step on a station's buffers against the model's: number, answer and every byte; its number. The buffers are as after it.
-fn same_step(is: &mut Buffers, step: &Step) -> Result<u8, String> {
+pub fn same_step(is: &mut Buffers, step: &Step) -> Result<u8, String> {
     let mut expected = is.clone();
     let told = expected.step(step);
     let got = library::step(is, step);
@@ -101,7 +107,7 @@ fn blank(random: &mut Random) -> Verdict {
         let before = random.bytes(length + 2 * margin);
         let (mut after, mut expected) = (before.clone(), before);
         let got = ffi::blank_settings(&mut after[margin..margin + length]);
-        let number = match hours::blank_call(length) {
+        let number = match settings::blank_call(length) {
             Err(number) => number,
             Ok(bytes) => {
                 expected[margin..margin + length].copy_from_slice(&bytes);
@@ -110,7 +116,7 @@ fn blank(random: &mut Random) -> Verdict {
         };
         ensure!(got == number && after == expected, "blank in {length} bytes: {got}, but the model says {number}, or other bytes");
         let checked = ffi::check_settings(&after[margin..margin + length]);
-        ensure!(checked == hours::check_call(&after[margin..margin + length]), "the check of {length} bytes is {checked}");
+        ensure!(checked == settings::check_call(&after[margin..margin + length]), "the check of {length} bytes is {checked}");
     }
     Ok(String::from("702 lengths"))
 }
@@ -121,23 +127,27 @@ fn known_bytes() -> Verdict {
     let list = [2, 2, 1, 4, 3, 0, 0, 0x60, 0x27, 2, 8, 7, 6, 5, 1, 0, 0, 0];
     let mut settings = vec![0xee; SETTINGS];
     ensure!(ffi::load_hours(&mut settings, &list) == number::DAMAGED, "settings of 238s take a table");
-    settings[..KEPT].fill(0);
-    ensure!(ffi::check_settings(&settings) == number::OK, "zeros, with any bytes behind the hours, are refused");
+    // Zeros, but for what stands behind no classes, the kind of a batch, and tenths.
+    settings[..HOURS + 2].fill(0);
+    settings[KIND] = 1;
+    settings[WAITED..].copy_from_slice(&[9, 1, 2, 3, 4, 5, 6, 7, 8, 9, 0, 1, 2, 3, 4, 9]);
+    let behind = settings[HOURS..].to_vec();
+    ensure!(ffi::check_settings(&settings) == number::OK, "zeros, with what may stand behind the hours, are refused");
     ensure!(ffi::load_hours(&mut settings, &list) == number::OK, "the table is refused");
     let mut expected = vec![0; SETTINGS];
     expected[0] = 1;
     expected[1..19].copy_from_slice(&list);
-    expected[KEPT..].fill(0xee);
+    expected[HOURS..].copy_from_slice(&behind);
     ensure!(settings == expected, "it is kept as {settings:?}");
     let table =
         Table { windows: vec![Window { start: 0x0102, end: 0x0304 }, Window { start: 0, end: 10_080 }], dates: vec![0x0506_0708, 1] };
-    ensure!(hours::load(&settings) == Ok(Some(table)), "the model reads another table");
+    ensure!(settings::load(&settings).map(|it| it.hours) == Ok(Some(table)), "the model reads another table");
     let one_window = [1, 2, 1, 4, 3, 0];
     ensure!(ffi::load_hours(&mut settings, &one_window) == number::OK, "the second table is refused");
     let tries = [(0x0101, 13), (0x0102, 0), (0x0303, 0), (0x0304, 13), (0x0201, 0), (0x0403, 13), (10_079, 13), (10_080, 3), (65_535, 3)];
     for (minute, number) in tries {
         let mut bytes = vec![0; RECORD];
-        let got = ffi::host_call(&mut bytes, &settings, 3, &begin(1, 1, minute));
+        let got = ffi::host_call(&mut bytes, &mut settings.clone(), 3, &begin(1, 1, minute));
         ensure!(got == (number, i64::from(number == 0)), "minute {minute}: {got:?}");
     }
     Ok(String::from("two tables, nine minutes"))
@@ -181,7 +191,7 @@ fn every_minute(random: &mut Random) -> Verdict {
             if let Call::Begin { minute: now, .. } = &mut call {
                 *now = minute;
             }
-            let (got, answer) = ffi::host_call(&mut bytes, &settings, 3, &call);
+            let (got, answer) = ffi::host_call(&mut bytes, &mut settings, 3, &call);
             let number = expected(table, day, minute);
             ensure!((got, answer) == (number, i64::from(number == 0)), "{table:?}, minute {minute}: {got}, but the model says {number}");
             ensure!((got == number::OK) == (bytes != blank), "{table:?}, minute {minute}: {got}, and the record changed or did not");
@@ -234,12 +244,12 @@ fn closed_dates(random: &mut Random, rounds: usize) -> Verdict {
         for count in 0..=hours::DATES {
             let dates: Vec<u32> = (0..count).map(|_| some_day(random)).collect();
             let table = Table { windows: vec![Window { start: 600, end: 700 }], dates };
-            let settings = settings_of(Some(&table));
+            let mut settings = settings_of(Some(&table));
             let near = |date: &u32| [*date, date.wrapping_add(1), date.wrapping_sub(1), date ^ 0x100, date ^ 0x1_0000, date ^ 0x8000_0000];
             let days = table.dates.iter().flat_map(near).chain([0, 1, u32::MAX, random.next() as u32]);
             for (day, minute) in days.flat_map(|day| [(day, 600), (day, 700)]) {
                 let mut bytes = vec![0; RECORD];
-                let (got, _) = ffi::host_call(&mut bytes, &settings, 3, &begin(1, day, minute));
+                let (got, _) = ffi::host_call(&mut bytes, &mut settings, 3, &begin(1, day, minute));
                 let number = expected(Some(&table), day, minute);
                 ensure!(got == number, "{table:?}, day {day}, minute {minute}: {got}, but the model says {number}");
                 *numbers.entry(got).or_insert(0) += 1;
@@ -283,7 +293,7 @@ fn every_length(random: &mut Random, rounds: usize) -> Verdict {
     // Settings of every length.
     for length in (0..500).chain([SETTINGS * NODES, 65_536 + SETTINGS]) {
         let settings = vec![0; length];
-        ensure!(ffi::check_settings(&settings) == hours::check_call(&settings), "settings of {length} bytes are checked otherwise");
+        ensure!(ffi::check_settings(&settings) == settings::check_call(&settings), "settings of {length} bytes are checked otherwise");
         let (number, _) = same_load(&settings, &[0, 0])?;
         ensure!((number == number::OK) == (length == SETTINGS), "a load to settings of {length} bytes: {number}");
         same_load(&settings, &[0])?;
@@ -341,7 +351,7 @@ fn every_byte_of_settings(random: &mut Random, rounds: usize) -> Verdict {
                 let mut changed = settings.clone();
                 for value in 0..=255 {
                     changed[at] = value;
-                    let (got, expected) = (ffi::check_settings(&changed), hours::check_call(&changed));
+                    let (got, expected) = (ffi::check_settings(&changed), settings::check_call(&changed));
                     ensure!(got == expected, "byte {at} of {settings:?} as {value}: {got}, but the model says {expected}");
                     numbers[usize::from(got)] += 1;
                 }
@@ -455,7 +465,7 @@ fn loads_in_every_phase(random: &mut Random, rounds: usize) -> Verdict {
                 ensure!(it.record(usize::from(node)) == record::encode(&record), "a load changed a record");
             }
             // Only a begin asks for the hours, and one that is busy is not told of them.
-            let (day, minute) = some_clock(random, hours::load(it.settings(usize::from(node))).ok().flatten().as_ref());
+            let (day, minute) = some_clock(random, hours_in(it.settings(usize::from(node))).as_ref());
             same_step(&mut it, &Step::Host { node, call: begin(record.timestamp.saturating_add(1), day, minute) })?;
         }
     }
@@ -472,7 +482,7 @@ fn threads(random: &mut Random, rounds: usize) -> Verdict {
         for _ in 0..inputs {
             let settings = if random.once_in(4) { damaged_settings(random) } else { some_settings(random) };
             same_load(&settings, &some_list(random, 3))?;
-            let (day, minute) = some_clock(random, hours::load(&settings).ok().flatten().as_ref());
+            let (day, minute) = some_clock(random, hours_in(&settings).as_ref());
             same_begin(&record::encode(&Record::default()), &settings, 3, &begin(1, day, minute))?;
         }
         Ok(())

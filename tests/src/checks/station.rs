@@ -29,6 +29,7 @@ pub fn run(runner: &mut Runner) {
     runner.check("station model: last numbers", |_, _| stories::last_numbers());
     runner.check("station model: off and on", |_, _| stories::off_and_on());
     runner.check("station model: each part of demand 3 can fail", |random, _| tampering::tampering(random));
+    runner.check("station model: the law of the weights can fail", |_, _| tampering::weights());
     runner.check("station library: scenarios", library_scenarios);
     runner.check("station library: bad buffers", bad::bad_buffers);
     runner.check("station library: closing time at every moment", |_, _| closing_time::at_every_moment());
@@ -61,6 +62,7 @@ const SLIPS: &[Slip] = &[
     slip("a commit by a majority, by (0) to (c) alone", Fault::CommitsByMajority, Order::Log, false, |style| style),
     slip("a late copy that changes what was found", Fault::TakesLateCopies, Order::Log, true, Style::lingering),
     slip("the order of decisions", Fault::None, Order::Decisions, true, Style::slow_votes),
+    slip("a running that sets what a batch adds", Fault::None, Order::Setting, true, Style::weighing),
 ];
 
 /// What a scenario is run with: a fault or none, what its history checks, and which calls on bytes every how many steps are compared.
@@ -196,7 +198,7 @@ fn some_on(random: &mut Random) -> u16 {
 
 /// How a scenario goes: any style, or one that dwells on what is rare.
 fn pointed_style(random: &mut Random) -> Style {
-    let point = *random.pick(&[|style| style, |style| style, Style::lingering, Style::slow_votes]);
+    let point = *random.pick(&[|style| style, |style| style, Style::lingering, Style::slow_votes, Style::weighing]);
     point(some_style(random))
 }
 
@@ -231,12 +233,13 @@ fn library_scenarios(random: &mut Random, rounds: usize) -> Verdict {
     let (case, least) = seen.rarest();
     let (committed, [called, voted, yielded], used_up) = (seen.of(Case::Committed), seen.aborts(), seen.numbers[0][9]);
     let (closed, loaded) = (seen.numbers[0][usize::from(number::CLOSED)], seen.numbers[5][0]);
+    let batches = [(seen.of(Case::BatchCommitted), 500), (seen.of(Case::BatchGivenUp), 40), (seen.of(Case::ClassesOverTenths), 40)];
     let counted = format!(
         "{}; {committed} committed; aborted: {called} by a call, {voted} by a no, {yielded} by a yield; the rarest ({case}) {least} times",
         seen.words()
     );
     let rich = [(seen.steps(), 1_000_000), (committed, 2000), (called, 2000), (voted, 2000), (yielded, 200), (used_up, 200), (least, 10)];
-    let rich = [&rich[..], &[(closed, 400), (loaded, 4000)]].concat();
+    let rich = [&rich[..], &batches, &[(closed, 400), (loaded, 4000)]].concat();
     ensure!(rich.iter().all(|&(count, floor)| count >= floor * rounds), "too poor: {counted}");
     Ok(counted)
 }

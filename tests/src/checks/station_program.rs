@@ -8,7 +8,9 @@ use crate::checks::station::seen::{Case, Seen, STEPS};
 use crate::model::coordinator::Call;
 use crate::model::program::lines;
 use crate::model::quorum::ALL;
-use crate::model::script::{laid, output, read_line, Line, Program, Taken, LINE_NUMBERS, LIST_NUMBERS, LONGEST};
+use crate::model::script::{
+    laid, laid_classes, laid_weights, output, read_line, Line, Program, Taken, LINE_NUMBERS, LIST_NUMBERS, LONGEST,
+};
 use crate::model::station::Step;
 use crate::random::Random;
 use crate::runner::{ensure, Runner, Verdict};
@@ -26,6 +28,7 @@ pub fn run(runner: &mut Runner, path: &Path) {
     let child = Child::new(path);
     runner.check("station program: known texts", |_, _| known_texts(&child));
     runner.check("station program: clocks, lists and hours", |_, _| known_hours(&child));
+    runner.check("station program: classes and batches", |_, _| known_classes(&child));
     runner.check("station program: stored scenarios", |_, _| stored(&child));
     runner.check("station program: its sample", |_, _| sample(&child));
     runner.check("station program: every byte at every place", |_, _| every_byte(&child));
@@ -174,6 +177,87 @@ fn known_hours(child: &Child) -> Verdict {
     Ok(format!("{} texts", texts.len() + 2))
 }
 
+/// The words `classes` and `batch`, in texts whose output is written out here.
+fn known_classes(child: &Child) -> Verdict {
+    let loaded = ("classes 4", "ok");
+    let texts: &[(&[(&str, &str)], &str)] = &[
+        (&[("classes", "bad"), ("classes 256", "bad"), ("classes 4 5", "bad"), ("batch 4 1", "bad"), ("batch 4 1 65536", "bad")], ""),
+        // The table's numbers in their order: 1, 4, 5, 6, 10, 14, 15. The step empties the list each time, and a refused table is none.
+        (&[("classes 4", "1 length"), ("list 0", ""), ("classes 13", "1 length"), ("list 0 1 64", ""), ("classes 13", "4 stranger")], END),
+        (&[("off 4", "ok"), ("list 0 1 64", ""), ("classes 4", "5 out of turn"), ("on 4", "ok"), ("classes 4", "1 length")], END),
+        (&[("list 2 9 8 1 64", ""), ("classes 4", "6 no such tally"), ("list 2 9 8 3 1 1 2", ""), ("classes 4", "14 bounds")], END),
+        (&[("list 1 9 2 5 5", ""), ("classes 4", "15 tally twice"), ("list 0 0", ""), ("classes 4", "14 bounds")], END),
+        (&[("list 1 2000 2 5 6", ""), ("classes 4", "14 bounds"), ("list 1 0 2 5 6", ""), ("classes 4", "14 bounds")], END),
+        (
+            &[
+                ("begin 4 1 8191", "ok quorum 1"),
+                ("list 2 9 8 3 1 1 2", ""),
+                ("classes 4", "10 busy"),
+                ("abort 4", "ok"),
+                ("list 2 1 1999 3 0 63 7", ""),
+                loaded,
+            ],
+            "end\n  waiting 4 0 0 0\n  at rest yes\n  settled yes\n",
+        ),
+        // Too wide for its place: the list stays.
+        (&[("list 256", ""), ("classes 4", "bad"), ("list", ""), ("list 1 65536 1 1", ""), ("classes 4", "bad"), ("classes 4", "bad")], ""),
+        (&[("list 0 256", ""), ("classes 4", "bad"), ("list", ""), ("list 0 1 256", ""), ("classes 4", "bad")], ""),
+        (&[("list 65536", ""), ("batch 4 1 8191", "bad"), ("list", ""), ("batch 4 1 8191", "5 out of turn")], END),
+        // A batch's numbers: 3, 4, 10, 5, 8, 13. No weight is a batch too, and the count is not in the list.
+        (&[("list 2000", ""), ("batch 13 0 0", "3 garbled"), ("list 1999", ""), ("batch 13 0 0", "4 stranger")], END),
+        (&[("clock 0 10080", ""), ("batch 13 0 0", "3 garbled"), ("clock 0 10079", ""), ("batch 4 1 8192", "4 stranger")], END),
+        (
+            &[
+                ("list 0 1 7", ""),
+                loaded,
+                ("batch 4 0 0", "5 out of turn"),
+                ("batch 4 1 0", "8 no quorum"),
+                ("list 0 0", ""),
+                ("hours 4", "ok"),
+                ("list 37", ""),
+                ("batch 4 1 8191", "13 closed"),
+                ("list 1 0 10080 0", ""),
+                ("hours 4", "ok"),
+                ("batch 4 1 8191", "ok quorum 1"),
+                ("list 1 2", ""),
+                ("batch 4 0 0", "10 busy"),
+                ("write 4 8", "5 out of turn"),
+                ("read 4 8", "5 out of turn"),
+                ("set 4 7 1", "5 out of turn"),
+                ("found 4 7", "11 not ready"),
+                ("ask 4", "11 not ready"),
+            ],
+            "end\n  waiting 4 0\n  at rest no\n  settled yes\n",
+        ),
+        // Each node has its own table; a `blank` takes them all.
+        (
+            &[("list 0 1 7", ""), ("classes 12", "ok"), ("list 1 5 2 7 8", ""), ("classes 0", "ok"), ("batch 4 1 8191", "5 out of turn")],
+            "end\n  waiting 0 0 0\n  waiting 12 0\n  at rest yes\n  settled yes\n",
+        ),
+    ];
+    for (lines, end) in texts {
+        let (text, expected) = printed(lines, end);
+        known(child, &text, &expected)?;
+    }
+    let waits = "end\n  waiting 4 0\n  at rest yes\n  settled yes\n";
+    let (before, first) = printed(&[("list 0 1 7", ""), loaded], waits);
+    known(child, &(before + "blank 8191\nbatch 4 1 8191\n"), &format!("{first}3 blank 8191\n4 batch 4 1 8191\n  5 out of turn\n{END}"))?;
+    full_batch(child)?;
+    Ok(format!("{} texts", texts.len() + 2))
+}
+
+/// A batch of 4,096 weights, and of one more.
+fn full_batch(child: &Child) -> Result<(), String> {
+    let sixteen = format!("list{}", " 1999".repeat(LINE_NUMBERS));
+    let mut lines = vec![("list 0 1 7", ""), ("classes 4", "ok")];
+    lines.extend(vec![(&sixteen[..], ""); LIST_NUMBERS / LINE_NUMBERS]);
+    lines.extend([("list 0", ""), ("batch 4 1 8191", "3 garbled")]);
+    lines.extend(vec![(&sixteen[..], ""); LIST_NUMBERS / LINE_NUMBERS]);
+    lines.extend([("batch 4 1 8191", "ok quorum 1"), ("abort 4", "ok")]);
+    let (text, expected) = printed(&lines, "end\n  waiting 4 0\n  at rest no\n  settled yes\n");
+    known(child, &text, &expected)
+}
+
 /// A list of 4,097 numbers, and of one more.
 fn full_list(child: &Child) -> Result<(), String> {
     let sixteen = format!("list{}", " 1".repeat(LINE_NUMBERS));
@@ -222,7 +306,7 @@ fn sample(child: &Child) -> Verdict {
 
 /// Lines of each kind, with each of the 256 bytes put in at each place and put in place of each of their bytes.
 fn every_byte(child: &Child) -> Verdict {
-    let good: [&[u8]; 11] = [
+    let good: [&[u8]; 13] = [
         b"begin 4 10 8191",
         b"reselect 12 8191 65535 9 1 1 1 1 1 1 1 1 1 1 1",
         b"set 4 63 -9223372036854775808",
@@ -234,6 +318,8 @@ fn every_byte(child: &Child) -> Verdict {
         b"hours 4",
         b"clock 4294967295 10079",
         b"list 1 360 840 0",
+        b"classes 4",
+        b"batch 4 10 8191",
     ];
     let mut text = Vec::new();
     for line in good {
@@ -269,7 +355,7 @@ struct Counts {
     unmeasured: usize,
     clocks: usize,
     lists: usize,
-    /// Lines of `hours` that are bad because a number of the list is too wide.
+    /// Lines of `hours`, `classes` and `batch` that are bad because a number of the list is too wide.
     wide: usize,
     bad: BTreeMap<&'static str, usize>,
     /// Scenarios' ends: at rest or not, settled or not.
@@ -326,15 +412,22 @@ impl Writer<'_> {
         Ok(())
     }
 
-    /// A list with a number that is too wide for its place, which no `hours` takes.
+    /// A list with a number that is too wide for its place, which no `hours`, `classes` or `batch` takes.
     fn too_wide(&mut self, random: &mut Random) -> Result<(), String> {
         let (byte, word) = (256 + random.next() as u32 % 1000, 65_536 + random.next() as u32 % 70_000);
-        let lists = [vec![byte], vec![byte, 0, 0], vec![1, word, 9, 0], vec![1, 5, word], vec![0, byte], vec![1, 5, 9, byte, 7]];
-        let list = random.pick(&lists).clone();
+        let hours = [vec![byte], vec![byte, 0, 0], vec![1, word, 9, 0], vec![1, 5, word], vec![0, byte], vec![1, 5, 9, byte, 7]];
+        let classes = [vec![byte], vec![1, word], vec![1, word, 2, 5, 6], vec![0, byte], vec![1, 9, byte], vec![1, 9, 2, 5, byte]];
+        let weights = [vec![word], vec![37, word], vec![word, 37, 64]];
+        let (words, list, laid) = match random.below(3) {
+            0 => (["hours", "4"].to_vec(), random.pick(&hours).clone(), laid as fn(&[u32]) -> Option<Vec<u8>>),
+            1 => (["classes", "4"].to_vec(), random.pick(&classes).clone(), laid_classes as fn(&[u32]) -> Option<Vec<u8>>),
+            _ => (["batch", "4", "1", "8191"].to_vec(), random.pick(&weights).clone(), laid_weights as fn(&[u32]) -> Option<Vec<u8>>),
+        };
         ensure!(laid(&list).is_none(), "{list:?} is laid");
         self.list(random, &list)?;
+        let words: Vec<String> = words.into_iter().map(String::from).collect();
         for _ in 0..=random.below(2) {
-            self.must(random, &[String::from("hours"), String::from("4")], Taken::Bad)?;
+            self.must(random, &words, Taken::Bad)?;
             self.counts.wide += 1;
         }
         ensure!(self.program.list() == list, "the list does not stay");
@@ -345,13 +438,18 @@ impl Writer<'_> {
     fn step(&mut self, random: &mut Random, step: Step) -> Result<(), String> {
         let step = with_extremes(random, step);
         let Some(words) = texts::words_of(random, &step) else { return Ok(()) };
-        match &step {
-            Step::Host { call: Call::Begin { day, minute, .. }, .. } => self.clock(random, (*day, *minute))?,
-            Step::Load { list, .. } => {
-                let Some(numbers) = texts::numbers_of(list) else { return Ok(()) };
-                self.list(random, &numbers)?;
-            }
-            _ => {}
+        let numbers = match &step {
+            Step::Load { list, .. } => texts::hours_of(list),
+            Step::LoadClasses { list, .. } => texts::classes_of(list),
+            Step::Host { call: Call::Batch { list, .. }, .. } => texts::weights_of(list),
+            _ => Some(vec![]),
+        };
+        let Some(numbers) = numbers else { return Ok(()) };
+        if let Step::Host { call: Call::Begin { day, minute, .. } | Call::Batch { day, minute, .. }, .. } = &step {
+            self.clock(random, (*day, *minute))?;
+        }
+        if let Step::Load { .. } | Step::LoadClasses { .. } | Step::Host { call: Call::Batch { .. }, .. } = &step {
+            self.list(random, &numbers)?;
         }
         let before = self.program.station().clone();
         let line = texts::dressed(random, &words);
@@ -468,17 +566,18 @@ fn by_the_hour(style: Style) -> Style {
 
 /// A step whose value is an extreme one, now and then, whose distances are all 1, or that switches or loads at a node that is not there.
 fn with_extremes(random: &mut Random, mut step: Step) -> Step {
-    let seldom = if let Step::Load { .. } = step { 12 } else { 40 };
-    if let Step::Switch { node, .. } | Step::Load { node, .. } = &mut step {
+    let seldom = if let Step::Load { .. } | Step::LoadClasses { .. } = step { 12 } else { 40 };
+    if let Step::Switch { node, .. } | Step::Load { node, .. } | Step::LoadClasses { node, .. } = &mut step {
         *node = if random.once_in(seldom) { 13 + random.below(243) as u8 } else { *node };
     }
     let Step::Host { call, .. } = &mut step else { return step };
-    let ones: Vec<u8> = [1u16; 13].iter().flat_map(|one| one.to_le_bytes()).collect();
     match call {
         Call::SetValue { value, .. } if random.once_in(3) => {
             *value = *random.pick(&[i64::MIN, i64::MAX, i64::MIN + 1, -1, 0, 1, -500, 500]);
         }
-        Call::Begin { distances, .. } | Call::Reselect { distances, .. } if random.once_in(3) => *distances = ones,
+        Call::Begin { distances, .. } | Call::Reselect { distances, .. } if random.once_in(3) => *distances = texts::ones(),
+        // A line has no distances for a batch.
+        Call::Batch { distances, .. } => *distances = texts::ones(),
         _ => {}
     }
     step
@@ -487,10 +586,19 @@ fn with_extremes(random: &mut Random, mut step: Step) -> Step {
 impl Counts {
     /// The rarest case, number of a step, kind of damage and kind of end.
     fn rarest(&self) -> (String, usize) {
-        let reached: [&[usize]; 6] =
-            [&[0, 3, 4, 5, 6, 7, 8, 10, 11, 13], &[0, 4, 5, 6, 12], &[0, 5, 12], &[0, 5], &[0, 4], &[0, 1, 2, 4, 5]];
-        // A newer copy that comes too late is too rare for a floor; the stored scenario of the slips has one.
-        let cases = Case::ALL.into_iter().filter(|case| *case != Case::LateNewer).map(|case| (format!("{case:?}"), self.seen.of(case)));
+        let reached: [&[usize]; 7] = [
+            &[0, 3, 4, 5, 6, 7, 8, 10, 11, 13],
+            &[0, 4, 5, 6, 12],
+            &[0, 5, 12],
+            &[0, 5],
+            &[0, 4],
+            &[0, 1, 2, 4, 5],
+            &[0, 1, 4, 5, 6, 10, 14, 15],
+        ];
+        // Too rare for a floor: a newer copy that comes too late, which the stored scenario of the slips has, and these of the batches, which that of the
+        // weight classes has.
+        let rare = [Case::LateNewer, Case::BatchGivenUp, Case::BatchAgain, Case::ClassesOverTenths, Case::ClassesRefused];
+        let cases = Case::ALL.into_iter().filter(|case| !rare.contains(case)).map(|case| (format!("{case:?}"), self.seen.of(case)));
         let numbers = (0..STEPS.len()).flat_map(|step| reached[step].iter().map(move |&number| (step, number)));
         let numbers = numbers.map(|(step, number)| (format!("step {step} number {number}"), self.seen.numbers[step][number]));
         let bad = texts::DAMAGES.iter().map(|it| (String::from(it.name), self.bad.get(it.name).copied().unwrap_or(0)));
@@ -535,7 +643,18 @@ fn random_scenarios(child: &Child, random: &mut Random, rounds: usize) -> Verdic
     for text in 0..44 * rounds {
         let mut writer = Writer::new(&mut counts);
         for _ in 0..=text % 10 {
-            let point = *random.pick(&[|style| style, late, Style::slow_votes, calm, calm, wide, crowded, by_the_hour]);
+            let point = *random.pick(&[
+                |style| style,
+                late,
+                Style::slow_votes,
+                calm,
+                calm,
+                wide,
+                crowded,
+                by_the_hour,
+                Style::weighing,
+                Style::weighing,
+            ]);
             let style = point(some_style(random));
             writer.scenario(random, &style)?;
         }

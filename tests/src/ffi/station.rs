@@ -33,7 +33,7 @@ extern "C" {
         length: usize,
         own: *const u8,
         own_length: usize,
-        settings: *const u8,
+        settings: *mut u8,
         settings_length: usize,
         node: u8,
         live: u16,
@@ -42,6 +42,34 @@ extern "C" {
         timestamp: u32,
         day: u32,
         minute: u16,
+    ) -> SennaCalled;
+    fn senna_station_batch(
+        records: *mut u8,
+        length: usize,
+        own: *const u8,
+        own_length: usize,
+        settings: *mut u8,
+        settings_length: usize,
+        node: u8,
+        live: u16,
+        distances: *const u8,
+        distances_length: usize,
+        timestamp: u32,
+        day: u32,
+        minute: u16,
+        list: *const u8,
+        size: usize,
+    ) -> SennaCalled;
+    fn senna_station_load_classes(
+        records: *const u8,
+        length: usize,
+        own: *const u8,
+        own_length: usize,
+        settings: *mut u8,
+        settings_length: usize,
+        node: u8,
+        list: *const u8,
+        size: usize,
     ) -> SennaCalled;
     fn senna_station_load_hours(
         own: *const u8,
@@ -62,19 +90,47 @@ extern "C" {
         distances: *const u8,
         size: usize,
     ) -> SennaCalled;
-    fn senna_station_open_read(records: *mut u8, length: usize, own: *const u8, own_length: usize, node: u8, object: u8) -> SennaCalled;
-    fn senna_station_open_write(records: *mut u8, length: usize, own: *const u8, own_length: usize, node: u8, object: u8) -> SennaCalled;
+    fn senna_station_open_read(
+        records: *mut u8,
+        length: usize,
+        own: *const u8,
+        own_length: usize,
+        settings: *const u8,
+        settings_length: usize,
+        node: u8,
+        object: u8,
+    ) -> SennaCalled;
+    fn senna_station_open_write(
+        records: *mut u8,
+        length: usize,
+        own: *const u8,
+        own_length: usize,
+        settings: *const u8,
+        settings_length: usize,
+        node: u8,
+        object: u8,
+    ) -> SennaCalled;
     fn senna_station_set_value(
         records: *mut u8,
         length: usize,
         own: *const u8,
         own_length: usize,
+        settings: *const u8,
+        settings_length: usize,
         node: u8,
         object: u8,
         value: i64,
     ) -> SennaCalled;
     fn senna_station_found(records: *mut u8, length: usize, own: *const u8, own_length: usize, node: u8, object: u8) -> SennaCalled;
-    fn senna_station_request_commit(records: *mut u8, length: usize, own: *const u8, own_length: usize, node: u8) -> SennaCalled;
+    fn senna_station_request_commit(
+        records: *mut u8,
+        length: usize,
+        own: *const u8,
+        own_length: usize,
+        settings: *const u8,
+        settings_length: usize,
+        node: u8,
+    ) -> SennaCalled;
     fn senna_station_abort(records: *mut u8, length: usize, own: *const u8, own_length: usize, node: u8) -> SennaCalled;
     fn senna_station_send(
         records: *const u8,
@@ -119,18 +175,23 @@ pub fn blank(it: &mut Buffers, on: u16) -> u8 {
 fn host(it: &mut Buffers, node: u8, call: &Call) -> SennaCalled {
     let (at, length) = (it.records.as_mut_ptr(), it.records.len());
     let (own, size) = (it.own.as_ptr(), it.own.len());
-    let (hours, hours_length) = (it.settings.as_ptr(), it.settings.len());
+    let (kept, all) = (it.settings.as_mut_ptr(), it.settings.len());
     unsafe {
         match *call {
             Call::Begin { live, distances: ref d, timestamp, day, minute } => {
-                senna_station_begin(at, length, own, size, hours, hours_length, node, live, d.as_ptr(), d.len(), timestamp, day, minute)
+                senna_station_begin(at, length, own, size, kept, all, node, live, d.as_ptr(), d.len(), timestamp, day, minute)
             }
-            Call::Open { object, mode: READ } => senna_station_open_read(at, length, own, size, node, object),
-            Call::Open { object, .. } => senna_station_open_write(at, length, own, size, node, object),
-            Call::SetValue { object, value } => senna_station_set_value(at, length, own, size, node, object, value),
+            Call::Batch { live, distances: ref d, timestamp, day, minute, ref list } => {
+                let (d, count) = (d.as_ptr(), d.len());
+                let (weights, bytes) = (list.as_ptr(), list.len());
+                senna_station_batch(at, length, own, size, kept, all, node, live, d, count, timestamp, day, minute, weights, bytes)
+            }
+            Call::Open { object, mode: READ } => senna_station_open_read(at, length, own, size, kept, all, node, object),
+            Call::Open { object, .. } => senna_station_open_write(at, length, own, size, kept, all, node, object),
+            Call::SetValue { object, value } => senna_station_set_value(at, length, own, size, kept, all, node, object, value),
             Call::Found { object } => senna_station_found(at, length, own, size, node, object),
             Call::Reselect { live, distances: ref d } => senna_station_reselect(at, length, own, size, node, live, d.as_ptr(), d.len()),
-            Call::RequestCommit => senna_station_request_commit(at, length, own, size, node),
+            Call::RequestCommit => senna_station_request_commit(at, length, own, size, kept, all, node),
             Call::Abort => senna_station_abort(at, length, own, size, node),
         }
     }
@@ -140,6 +201,13 @@ fn load(it: &mut Buffers, node: u8, list: &[u8]) -> SennaCalled {
     let Buffers { own, settings, .. } = it;
     let (a, b) = (own.len(), settings.len());
     unsafe { senna_station_load_hours(own.as_ptr(), a, settings.as_mut_ptr(), b, node, list.as_ptr(), list.len()) }
+}
+
+fn load_classes(it: &mut Buffers, node: u8, list: &[u8]) -> SennaCalled {
+    let Buffers { records, own, settings, .. } = it;
+    let (a, b, c) = (records.len(), own.len(), settings.len());
+    let (records, own, settings) = (records.as_ptr(), own.as_ptr(), settings.as_mut_ptr());
+    unsafe { senna_station_load_classes(records, a, own, b, settings, c, node, list.as_ptr(), list.len()) }
 }
 
 fn deliver(it: &mut Buffers, at: u8, kept: u8) -> SennaCalled {
@@ -163,6 +231,7 @@ pub fn step(it: &mut Buffers, step: &Step) -> (u8, i64) {
     let called = match *step {
         Step::Host { node, ref call } => host(it, node, call),
         Step::Load { node, ref list } => load(it, node, list),
+        Step::LoadClasses { node, ref list } => load_classes(it, node, list),
         Step::Send { node, to, object } => unsafe {
             let (records, pool, own) = (&it.records, &mut it.pool, &it.own);
             let (a, b, c) = (records.len(), pool.len(), own.len());

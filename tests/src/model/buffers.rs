@@ -4,12 +4,14 @@
 //! and 128 bytes. Removing a message moves the slots behind it one place down, and leaves the last slot's bytes; adding one writes its
 //! length and its bytes to the slot behind the last, and leaves the rest of the slot.
 
-use super::coordinator::{first, Call};
-use super::hours::{self, SETTINGS, STATION_SETTINGS};
+use super::classes;
+use super::coordinator::first;
+use super::hours;
 use super::image::{self, IMAGE};
 use super::message::{self, Message, LONGEST};
 use super::quorum::{ALL, NODES};
 use super::record::{self, RECORD};
+use super::settings::{self, SETTINGS, STATION_SETTINGS};
 use super::station::{blank, for_replica, Event, Station, Step, Told, POOL};
 use super::{number, Fault};
 
@@ -39,7 +41,7 @@ pub fn of(station: &Station) -> Buffers {
         records: station.records.iter().flat_map(record::encode).collect(),
         pool: vec![0; SLOTS],
         own: station.on.to_le_bytes().to_vec(),
-        settings: station.hours.iter().flat_map(|table| hours::settings_of(table.as_ref())).collect(),
+        settings: station.settings.iter().flat_map(settings::encode).collect(),
     }
 }
 
@@ -107,7 +109,7 @@ impl Buffers {
         for node in 0..NODES {
             station.images[node] = image::load(self.image(node)).ok()?;
             station.records[node] = record::load(self.record(node)).ok()?;
-            station.hours[node] = hours::load(self.settings(node)).ok()?;
+            station.settings[node] = settings::load(self.settings(node)).ok()?;
         }
         station.pool = (0..self.waiting()).map(|k| message::receive(self.message(k)).ok()).collect::<Option<Vec<Message>>>()?;
         Some(station)
@@ -117,11 +119,22 @@ impl Buffers {
     pub fn leave(&mut self, event: &Event, after: &Station) {
         let Ok(told) = &event.told else { return };
         match event.step {
-            Step::Host { node, .. } => self.put_record(usize::from(node), &after.records[usize::from(node)]),
+            Step::Host { node, ref call } => {
+                let at = usize::from(node);
+                self.put_record(at, &after.records[at]);
+                if call.begins() {
+                    self.put_settings(at, &settings::with_begin(self.settings(at), &after.settings[at]));
+                }
+            }
             Step::Load { node, .. } => {
                 let at = usize::from(node);
-                let table = after.hours[at].as_ref().expect("a table was loaded");
-                self.put_settings(at, &hours::with_table(self.settings(at), table));
+                let table = after.settings[at].hours.as_ref().expect("a table was loaded");
+                self.put_settings(at, &settings::with_hours(self.settings(at), table));
+            }
+            Step::LoadClasses { node, .. } => {
+                let at = usize::from(node);
+                let table = after.settings[at].classes.as_ref().expect("a table was loaded");
+                self.put_settings(at, &settings::with_classes(self.settings(at), table));
             }
             Step::Deliver { at, kept } => {
                 let message = message::decode(self.message(at)).expect("a message");
@@ -144,22 +157,26 @@ impl Buffers {
         }
     }
 
-    /// The numbers of the buffers that a step is lent: 1 for a length, a table's too, 2 for a pool or a mask that is none.
+    /// The numbers of the buffers that a step is lent: 1 for a length, a list's too, 2 for a pool or a mask that is none.
     fn refusals(&self, step: &Step) -> Result<(), u8> {
-        let (begins, loads) = (matches!(step, Step::Host { call: Call::Begin { .. }, .. }), matches!(step, Step::Load { .. }));
-        let table = if let Step::Load { list, .. } = step { hours::read(list).err() } else { None };
+        let misfits = match step {
+            Step::Host { call, .. } => call.misfits(),
+            Step::Load { list, .. } => hours::read(list) == Err(number::LENGTH),
+            Step::LoadClasses { list, .. } => classes::read(list).is_err(),
+            _ => false,
+        };
+        let (sorts, loads) = (matches!(step, Step::LoadClasses { .. }), matches!(step, Step::Load { .. } | Step::LoadClasses { .. }));
         let (host, deliver) = (matches!(step, Step::Host { .. } | Step::Send { .. }), matches!(step, Step::Deliver { .. }));
         let pool = deliver || matches!(step, Step::Send { .. } | Step::Drop { .. });
         let own = host || deliver || loads || matches!(step, Step::Switch { .. });
-        let misfits = if let Step::Host { call, .. } = step { call.misfits() } else { false };
+        let settings = loads || matches!(step, Step::Host { call, .. } if call.asks_settings());
         first(&[
             (number::LENGTH, misfits),
             (number::LENGTH, deliver && self.images.len() != IMAGES),
-            (number::LENGTH, (host || deliver) && self.records.len() != RECORDS),
+            (number::LENGTH, (host || deliver || sorts) && self.records.len() != RECORDS),
             (number::LENGTH, pool && self.pool.len() != SLOTS),
             (number::LENGTH, own && self.own.len() != OWN),
-            (number::LENGTH, (begins || loads) && self.settings.len() != STATION_SETTINGS),
-            (number::LENGTH, table == Some(number::LENGTH)),
+            (number::LENGTH, settings && self.settings.len() != STATION_SETTINGS),
         ])?;
         first(&[(number::DAMAGED, pool && self.waiting() > POOL), (number::DAMAGED, own && self.on() > ALL)])
     }
@@ -171,12 +188,17 @@ impl Buffers {
             Step::Host { node, ref call } if usize::from(node) < NODES => {
                 let at = usize::from(node);
                 station.records[at] = record::load(self.record(at))?;
-                if let Call::Begin { .. } = call {
-                    station.hours[at] = hours::load(self.settings(at))?;
+                if call.asks_settings() {
+                    station.settings[at] = settings::load(self.settings(at))?;
                 }
             }
             Step::Load { node, .. } if usize::from(node) < NODES => {
-                station.hours[usize::from(node)] = hours::load(self.settings(usize::from(node)))?;
+                station.settings[usize::from(node)] = settings::load(self.settings(usize::from(node)))?;
+            }
+            Step::LoadClasses { node, .. } if usize::from(node) < NODES => {
+                let at = usize::from(node);
+                station.records[at] = record::load(self.record(at))?;
+                station.settings[at] = settings::load(self.settings(at))?;
             }
             Step::Send { node, .. } if usize::from(node) < NODES => {
                 station.records[usize::from(node)] = record::load(self.record(usize::from(node)))?;

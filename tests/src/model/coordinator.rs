@@ -1,16 +1,19 @@
 //! A coordinator (document 01: booking end): the host's calls, a message in, what is due. Each sentence of 'Bookings' in its order.
 
-use super::hours::{self, Table, LAST_MINUTE, SETTINGS};
+use super::classes::{self, Classes, CLASSES};
+use super::hours::LAST_MINUTE;
 use super::message::{self, kind, Entry, Message, Rival, Transaction, ABORT, COMMIT, ENTRIES, LAST, LONGEST, NO, SHORTEST, WRITE};
 use super::quorum::{distances_of, inside, nearest, nodes, only, Kind, ALL, DISTANCES, NODES};
 use super::record::{self, decided, phase, Opened, Record, RECORD};
+use super::settings::{self, Settings, SETTINGS};
 use super::{number, Fault};
 
 /// A call of the host. Distances are bytes, as they are lent. Document 01 has for the last three: "a fresh live mask and distances may be
-/// given", asking for votes, giving up. Document 02 at begin: "The host gives day and minute."
+/// given", asking for votes, giving up. Document 02 at begin: "The host gives day and minute." A batch is a begin too, with its weights as they are lent.
 #[derive(Clone, Debug, PartialEq, Eq)]
 pub enum Call {
     Begin { live: u16, distances: Vec<u8>, timestamp: u32, day: u32, minute: u16 },
+    Batch { live: u16, distances: Vec<u8>, timestamp: u32, day: u32, minute: u16, list: Vec<u8> },
     Open { object: u8, mode: u8 },
     SetValue { object: u8, value: i64 },
     Found { object: u8 },
@@ -24,14 +27,47 @@ impl Call {
     pub fn misfits(&self) -> bool {
         match self {
             Call::Begin { distances, .. } | Call::Reselect { distances, .. } => distances.len() != DISTANCES,
+            Call::Batch { distances, list, .. } => distances.len() != DISTANCES || classes::read_weights(list).is_err(),
             _ => false,
         }
     }
 
-    /// "A minute above 10,079 gives 3", whatever table there is.
-    pub fn past_week(&self) -> bool {
-        matches!(self, Call::Begin { minute, .. } if *minute > LAST_MINUTE)
+    /// "A minute above 10,079 gives 3", whatever table there is; so does "a weight of 2,000 or more, or a longer batch".
+    pub fn garbled(&self) -> bool {
+        match self {
+            Call::Begin { minute, .. } => *minute > LAST_MINUTE,
+            Call::Batch { minute, list, .. } => {
+                *minute > LAST_MINUTE || classes::read_weights(list).is_ok_and(|list| classes::garbled(&list))
+            }
+            _ => false,
+        }
     }
+
+    /// Whether the call begins a transaction, and so changes the settings.
+    pub fn begins(&self) -> bool {
+        matches!(self, Call::Begin { .. } | Call::Batch { .. })
+    }
+
+    /// Whether the settings are lent to the call.
+    pub fn asks_settings(&self) -> bool {
+        self.begins() || matches!(self, Call::Open { .. } | Call::SetValue { .. } | Call::RequestCommit)
+    }
+}
+
+/// What a call that took place tells: its number, which is 0, or 9 where a batch was given up, and its answer.
+#[derive(Clone, Copy, Debug, PartialEq, Eq)]
+pub struct Done {
+    pub number: u8,
+    pub answer: i64,
+}
+
+impl Done {
+    fn with(answer: i64) -> Done {
+        Done { number: number::OK, answer }
+    }
+
+    /// "A new value past the 64-bit range gives 9 and the booking is given up."
+    pub const GIVEN_UP: Done = Done { number: number::USED_UP, answer: Brought::Aborted as i64 };
 }
 
 /// Which node's coordinator is called, and whether it is on; a coordinator called by itself always is.
@@ -71,32 +107,34 @@ fn write_quorum(record: &Record) -> Option<u16> {
     nearest(Kind::Write, record.live, &record.distances).map(|(_, mask)| mask)
 }
 
-/// The numbers of a call with their conditions, in the order in which they are tried; 13 is "given last at begin".
-fn refusals(record: &Record, hours: Option<&Table>, at: At, call: &Call) -> Vec<(u8, bool)> {
+/// The numbers of a call with their conditions, in the order in which they are tried; 13 is "given last at begin". On a batch "the host's own open or value
+/// call gives 5", and so does "a batch before any table".
+fn refusals(record: &Record, settings: &Settings, at: At, call: &Call) -> Vec<(u8, bool)> {
     let unsettled = record.count == 0 || !record.objects().iter().all(Opened::settled);
     let writes_last = record.objects().iter().any(|opened| opened.mode == WRITE && opened.version == LAST);
     let stranger = is_stranger(at.me);
     let unless = |fits: bool| (number::OUT_OF_TURN, !at.on || !fits);
     let open = record.phase == phase::OPEN;
+    let own = settings.kind == settings::kind::OWN;
     match call {
-        Call::Begin { live, distances, timestamp, day, minute } => vec![
-            (number::GARBLED, call.past_week()),
+        Call::Begin { live, distances, timestamp, day, minute } | Call::Batch { live, distances, timestamp, day, minute, .. } => vec![
+            (number::GARBLED, call.garbled()),
             (number::STRANGER, stranger || *live > ALL),
             (number::BUSY, record.phase != phase::IDLE),
-            unless(*timestamp > record.timestamp),
+            unless(*timestamp > record.timestamp && (matches!(call, Call::Begin { .. }) || settings.classes.is_some())),
             (number::NO_QUORUM, choose(Kind::Read, *live, distances).is_none()),
             (number::USED_UP, record.serial == LAST),
-            (number::CLOSED, hours.is_some_and(|table| table.closed(*day, *minute))),
+            (number::CLOSED, settings.hours.as_ref().is_some_and(|table| table.closed(*day, *minute))),
         ],
         Call::Open { object, .. } => vec![
             (number::STRANGER, stranger),
-            unless(open),
+            unless(open && own),
             (number::NO_SUCH_OBJECT, *object > 63 || record.find(*object).is_some()),
             (number::EIGHT_OPEN, usize::from(record.count) == ENTRIES),
         ],
         Call::SetValue { object, .. } => vec![
             (number::STRANGER, stranger),
-            unless(open),
+            unless(open && own),
             (number::NO_SUCH_OBJECT, record.find(*object).is_none_or(|opened| opened.mode != WRITE)),
         ],
         Call::Found { object } => vec![
@@ -143,19 +181,50 @@ fn become_idle(record: &mut Record) {
     *record = Record { serial: record.serial, timestamp: record.timestamp, outcome: record.outcome, ..Record::default() };
 }
 
+/// "It chooses a read quorum and takes the next serial."
+fn begin(record: &mut Record, live: u16, distances: &[u8], timestamp: u32) -> u16 {
+    (record.serial, record.timestamp, record.phase) = (record.serial + 1, timestamp, phase::OPEN);
+    select(record, live, distances)
+}
+
+/// "Open a tally once, to read or to write. .. The present read quorum joins the asked set."
+fn open(record: &mut Record, opened: Opened) {
+    record.opened[usize::from(record.count)] = opened;
+    record.count += 1;
+    record.contacted |= record.quorum;
+}
+
+/// "A batch .. is one booking that adds whole grams to each class's tally": every class's object is open to write from its begin on, with its grams for a
+/// new value until votes are asked for. What it leaves over.
+fn open_classes(record: &mut Record, classes: &Classes, waiting: [u8; CLASSES], list: &[u8]) -> [u8; CLASSES] {
+    let (grams, left) = classes::book(classes, waiting, &classes::read_weights(list).expect("weights"));
+    for (&object, grams) in classes.objects.iter().zip(grams) {
+        open(record, Opened { object, mode: WRITE, given: 1, new: grams as i64, ..Opened::default() });
+    }
+    left
+}
+
+/// The new values of a batch: the value found and the grams; none where one is "past the 64-bit range".
+fn sums(record: &Record) -> Option<Vec<i64>> {
+    record.objects().iter().map(|opened| opened.value.checked_add(opened.new)).collect()
+}
+
 /// What a call that nothing refuses does; its answer, 0 where there is nothing to tell.
-fn perform(record: &mut Record, call: &Call) -> i64 {
+fn perform(record: &mut Record, settings: &mut Settings, call: &Call) -> i64 {
     match *call {
-        // "It chooses a read quorum and takes the next serial."
         Call::Begin { live, ref distances, timestamp, .. } => {
-            (record.serial, record.timestamp, record.phase) = (record.serial + 1, timestamp, phase::OPEN);
-            i64::from(select(record, live, distances))
+            settings.begin(settings::kind::OWN, settings.waiting(record), [0; CLASSES]);
+            i64::from(begin(record, live, distances, timestamp))
         }
-        // "Open a tally once, to read or to write. .. The present read quorum joins the asked set."
+        Call::Batch { live, ref distances, timestamp, ref list, .. } => {
+            let waiting = settings.waiting(record);
+            let quorum = begin(record, live, distances, timestamp);
+            let left = open_classes(record, settings.classes.as_ref().expect("a table"), waiting, list);
+            settings.begin(settings::kind::BATCH, waiting, left);
+            i64::from(quorum)
+        }
         Call::Open { object, mode } => {
-            record.opened[usize::from(record.count)] = Opened { object, mode, ..Opened::default() };
-            record.count += 1;
-            record.contacted |= record.quorum;
+            open(record, Opened { object, mode, ..Opened::default() });
             0
         }
         // "A written one's new value may be set while open, the last counting."
@@ -187,10 +256,20 @@ fn perform(record: &mut Record, call: &Call) -> i64 {
     }
 }
 
-/// A call of the host at a node: a number, or its answer. The hours are the table that is loaded there, if any.
-pub fn call(record: &mut Record, hours: Option<&Table>, at: At, call: &Call) -> Result<i64, u8> {
-    first(&refusals(record, hours, at, call))?;
-    Ok(perform(record, call))
+/// A call of the host at a node, with its settings: a refusal's number, or what it tells.
+pub fn call(record: &mut Record, settings: &mut Settings, at: At, call: &Call) -> Result<Done, u8> {
+    first(&refusals(record, settings, at, call))?;
+    if settings.kind == settings::kind::BATCH && *call == Call::RequestCommit {
+        let Some(sums) = sums(record) else {
+            give_up(record);
+            return Ok(Done::GIVEN_UP);
+        };
+        let count = usize::from(record.count);
+        for (opened, sum) in record.opened[..count].iter_mut().zip(sums).filter(|(opened, _)| opened.mode == WRITE) {
+            opened.new = sum;
+        }
+    }
+    Ok(Done::with(perform(record, settings, call)))
 }
 
 /// Why a message "changes nothing and has no number".
@@ -348,14 +427,24 @@ pub struct Left {
     pub record: Vec<u8>,
 }
 
-/// A host call on bytes: 1 for a length, 2 for a damaged record, then the call's own numbers. The settings are lent to begin alone.
-pub fn host_call(bytes: &[u8], settings: &[u8], me: u8, asked: &Call) -> Result<Left, u8> {
-    let begins = matches!(asked, Call::Begin { .. });
-    first(&[(number::LENGTH, bytes.len() != RECORD || asked.misfits()), (number::LENGTH, begins && settings.len() != SETTINGS)])?;
+/// What a host call on the bytes of a record and of settings leaves: what it tells, and the bytes of both.
+#[derive(Clone, Debug, PartialEq, Eq)]
+pub struct HostLeft {
+    pub done: Done,
+    pub record: Vec<u8>,
+    pub settings: Vec<u8>,
+}
+
+/// A host call on bytes: 1 for a length, 2 for a damaged record or settings, then the call's own numbers. The settings are lent only to calls that ask for
+/// them, and changed only by those that begin.
+pub fn host_call(bytes: &[u8], settings: &[u8], me: u8, asked: &Call) -> Result<HostLeft, u8> {
+    let lent = asked.asks_settings();
+    first(&[(number::LENGTH, bytes.len() != RECORD || asked.misfits()), (number::LENGTH, lent && settings.len() != SETTINGS)])?;
     let mut record = record::load(bytes)?;
-    let hours = if begins { hours::load(settings)? } else { None };
-    let answer = call(&mut record, hours.as_ref(), At { me, on: true }, asked)?;
-    Ok(Left { answer, record: record::encode(&record) })
+    let mut known = if lent { settings::load(settings)? } else { Settings::default() };
+    let done = call(&mut record, &mut known, At { me, on: true }, asked)?;
+    let settings = if asked.begins() { settings::with_begin(settings, &known) } else { settings.to_vec() };
+    Ok(HostLeft { done, record: record::encode(&record), settings })
 }
 
 /// A delivery on bytes: 1 for a length, 2 for a damaged record, 3 for a garbled message, then 4 and 5.

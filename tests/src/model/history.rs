@@ -1,15 +1,16 @@
 //! Demand 3: what a run tells, the one-by-one running (here: replay) of the committed transactions, and what must hold between the two.
 //!
 //! The history is fed with events. It keeps the pool, who is on and each owner's serial by itself; of the station it reads only what
-//! demand 3 speaks of: what a record has found, and the copies in the images.
+//! demand 3 speaks of: what a record has found, and the copies in the images; and of a batch its grams, and the tenths that wait.
 
+use super::classes::{self, Classes, Ledger, CLASSES};
 use super::coordinator::{Brought, Call};
 use super::hours::{self, Table, LAST_MINUTE};
 use super::message::{kind, Entry, Message, COMMIT, WRITE, YES};
 use super::quorum::{inside, is_quorum, nodes, only, Kind, ALL, NODES};
 use super::record::Opened;
 use super::station::{Event, Station, Step, Told};
-use super::OBJECTS;
+use super::{number, OBJECTS};
 use crate::runner::ensure;
 use std::collections::{BTreeMap, BTreeSet};
 use std::sync::OnceLock;
@@ -21,18 +22,43 @@ pub struct Name {
     pub serial: u32,
 }
 
+/// What a transaction does to an object that it writes: it gives it a new value, if one was set, or "adds to the value held".
+#[derive(Clone, Copy, Debug, PartialEq, Eq)]
+enum Effect {
+    Set(Option<i64>),
+    Add(i64),
+}
+
+impl Effect {
+    /// The value that is left of one that was held; none where it is "past the 64-bit range".
+    fn on(self, held: i64) -> Option<i64> {
+        match self {
+            Effect::Set(new) => Some(new.unwrap_or(0)),
+            Effect::Add(grams) => held.checked_add(grams),
+        }
+    }
+}
+
 /// An object of a transaction as the accepted host calls give it.
 #[derive(Clone, Copy, Debug, PartialEq, Eq)]
 struct Wanted {
     object: u8,
     mode: u8,
-    new: Option<i64>,
+    effect: Effect,
+}
+
+/// A batch: what its weights are in tenths, and the grams that it adds, class by class.
+#[derive(Clone, Copy, Debug, PartialEq, Eq)]
+struct Batch {
+    tenths: [u64; CLASSES],
+    grams: [u64; CLASSES],
 }
 
 /// What the events tell of one transaction.
 #[derive(Clone, Debug, Default)]
 struct Story {
     wanted: Vec<Wanted>,
+    batch: Option<Batch>,
     /// What an accepted request for votes answered; 0 before one.
     participants: u16,
     /// The participants whose yes was delivered.
@@ -44,6 +70,16 @@ struct Story {
     done: u16,
     /// Each value found for an object once it was ready: told to the host, or in the record after a step.
     found: BTreeMap<u8, BTreeSet<i64>>,
+}
+
+impl Story {
+    /// The values that an object may get of what was found; all the same, as one was found.
+    fn news(&self, wanted: &Wanted) -> Vec<Option<i64>> {
+        match wanted.effect {
+            Effect::Set(_) => vec![wanted.effect.on(0)],
+            Effect::Add(_) => self.found.get(&wanted.object).into_iter().flatten().map(|&found| wanted.effect.on(found)).collect(),
+        }
+    }
 }
 
 /// What replay gives: what each transaction finds for its objects, and the last values.
@@ -59,6 +95,8 @@ pub enum Order {
     Log,
     /// In the order in which they were decided, which is wrong: the last of document 01's slips.
     Decisions,
+    /// In the order of the log, but a batch's grams are set and not added, which is wrong.
+    Setting,
 }
 
 pub struct History {
@@ -70,8 +108,10 @@ pub struct History {
     log: Vec<Name>,
     /// The committed ones in the order of their decisions.
     pub committed: Vec<Name>,
-    /// The table that each node was told last.
+    /// The tables that each node was told last, and its own account of what was weighed and booked by the second.
     hours: [Option<Table>; NODES],
+    classes: [Option<Classes>; NODES],
+    ledgers: [Ledger; NODES],
     /// The new values that committed transactions gave each object.
     given: [BTreeSet<i64>; OBJECTS],
     /// Whether it is checked what 'committed' means; the tests of the other parts leave this one out.
@@ -94,8 +134,19 @@ fn read_quorums() -> &'static [u16] {
 
 impl History {
     pub fn new(on: u16, meaning: bool) -> History {
-        let (hours, given) = (std::array::from_fn(|_| None), std::array::from_fn(|_| BTreeSet::new()));
-        History { pool: vec![], on, serials: [0; NODES], stories: BTreeMap::new(), log: vec![], committed: vec![], hours, given, meaning }
+        History {
+            pool: vec![],
+            on,
+            serials: [0; NODES],
+            stories: BTreeMap::new(),
+            log: vec![],
+            committed: vec![],
+            hours: std::array::from_fn(|_| None),
+            classes: std::array::from_fn(|_| None),
+            ledgers: std::array::from_fn(|_| Ledger::default()),
+            given: std::array::from_fn(|_| BTreeSet::new()),
+            meaning,
+        }
     }
 
     /// The transaction that an owner began last.
@@ -111,8 +162,12 @@ impl History {
     pub fn feed(&mut self, event: &Event, after: &Station) -> Result<(), String> {
         let Ok(told) = &event.told else { return Ok(()) };
         let touched = match event.step {
+            Step::Host { node, call: Call::RequestCommit } if told.number != number::OK => {
+                self.hear_given_up(node, told)?;
+                Some(node)
+            }
             Step::Host { node, ref call } => {
-                self.hear_host(node, call, told)?;
+                self.hear_host(node, call, told, after)?;
                 Some(node)
             }
             Step::Deliver { at, kept } => {
@@ -134,6 +189,12 @@ impl History {
                 self.hours[usize::from(node)] = Some(table);
                 None
             }
+            Step::LoadClasses { node, ref list } => {
+                let table = classes::read(list).ok().filter(Classes::sound);
+                self.classes[usize::from(node)] = Some(table.ok_or(format!("(weights) node {node} took {list:?} as a table"))?);
+                self.ledgers[usize::from(node)] = Ledger::default();
+                None
+            }
             Step::Send { .. } => None,
         };
         if let Some(message) = &told.put {
@@ -141,26 +202,86 @@ impl History {
             self.pool.push(message.clone());
         }
         ensure!(self.pool.len() == after.pool.len() && self.on == after.on, "the events tell another pool, or others that are on");
-        touched.map_or(Ok(()), |node| self.look(node, after))
+        touched.map_or(Ok(()), |node| self.look(node, after))?;
+        self.weigh_up(after)
+    }
+
+    /// "Ten times the grams booked plus the tenths waiting is the sum of all weights, class by class", at every node and after every step.
+    fn weigh_up(&self, after: &Station) -> Result<(), String> {
+        for (node, ledger) in self.ledgers.iter().enumerate() {
+            let waiting = after.waiting(node);
+            let astray = ledger.astray(waiting);
+            ensure!(astray.is_none(), "(weights) node {node}, class {astray:?}: {ledger:?}, and {waiting:?} wait");
+        }
+        Ok(())
+    }
+
+    /// A transaction begins. "Bookings begun only in packing hours."
+    fn hear_begin(&mut self, node: u8, day: u32, minute: u16) -> Result<Name, String> {
+        let closed = self.hours[usize::from(node)].as_ref().is_some_and(|table| table.closed(day, minute));
+        ensure!(!closed && minute <= LAST_MINUTE, "(hours) node {node} began on day {day} at minute {minute}");
+        self.serials[usize::from(node)] += 1;
+        Ok(self.current(node))
+    }
+
+    /// A batch begins. Its objects are those of the classes; its grams are read off the record, where they stand until votes are asked for.
+    fn hear_batch(&mut self, name: Name, list: &[u8], after: &Station) -> Result<(), String> {
+        let node = usize::from(name.owner);
+        let table = self.classes[node].as_ref().ok_or(format!("(weights) {name:?} is a batch before any table"))?;
+        let weights = classes::read_weights(list).ok().filter(|weights| !classes::garbled(weights));
+        let tenths = table.weigh(&weights.ok_or(format!("(weights) {name:?} took {list:?} as weights"))?);
+        let opened = after.records[node].objects();
+        let same =
+            opened.len() == table.objects.len() && opened.iter().zip(&table.objects).all(|(opened, &object)| opened.object == object);
+        ensure!(same && opened.iter().all(|opened| opened.mode == WRITE), "(weights) {name:?} has {opened:?} open by {table:?}");
+        let mut grams = [0; CLASSES];
+        for (grams, opened) in grams.iter_mut().zip(opened) {
+            *grams = u64::try_from(opened.new).map_err(|_| format!("(weights) {name:?} adds {}", opened.new))?;
+        }
+        let wanted = opened.iter().map(|opened| Wanted { object: opened.object, mode: WRITE, effect: Effect::Add(opened.new) }).collect();
+        let story = self.story(name);
+        (story.wanted, story.batch) = (wanted, Some(Batch { tenths, grams }));
+        Ok(())
+    }
+
+    /// "A new value past the 64-bit range gives 9 and the booking is given up", and only then.
+    fn hear_given_up(&mut self, node: u8, told: &Told) -> Result<(), String> {
+        let name = self.current(node);
+        let story = self.story(name);
+        let past = story.wanted.iter().any(|wanted| story.news(wanted).contains(&None));
+        ensure!(story.batch.is_some() && past, "(weights) {name:?} is given up, but no value of it is past the range");
+        ensure!((told.number, told.answer) == (number::USED_UP, Brought::Aborted as i64), "{name:?} is given up with {told:?}");
+        story.lost = true;
+        Ok(())
     }
 
     /// An accepted host call.
-    fn hear_host(&mut self, node: u8, call: &Call, told: &Told) -> Result<(), String> {
+    fn hear_host(&mut self, node: u8, call: &Call, told: &Told, after: &Station) -> Result<(), String> {
         let name = self.current(node);
         match *call {
             Call::Begin { day, minute, .. } => {
-                // "Bookings begun only in packing hours."
-                let closed = self.hours[usize::from(node)].as_ref().is_some_and(|table| table.closed(day, minute));
-                ensure!(!closed && minute <= LAST_MINUTE, "(hours) node {node} began on day {day} at minute {minute}");
-                self.serials[usize::from(node)] += 1;
+                self.hear_begin(node, day, minute)?;
             }
-            Call::Open { object, mode } => self.story(name).wanted.push(Wanted { object, mode, new: None }),
+            Call::Batch { day, minute, ref list, .. } => {
+                let name = self.hear_begin(node, day, minute)?;
+                self.hear_batch(name, list, after)?;
+            }
+            // "On such a booking .. the host's own open or value call gives 5."
+            Call::Open { .. } | Call::SetValue { .. } if self.story(name).batch.is_some() => {
+                return Err(format!("(weights) {call:?} is accepted on the batch {name:?}"));
+            }
+            Call::Open { object, mode } => self.story(name).wanted.push(Wanted { object, mode, effect: Effect::Set(None) }),
             Call::SetValue { object, value } => {
                 let mut wanted = self.story(name).wanted.iter_mut();
-                wanted.find(|wanted| wanted.object == object).ok_or("a value was set for no object")?.new = Some(value);
+                wanted.find(|wanted| wanted.object == object).ok_or("a value was set for no object")?.effect = Effect::Set(Some(value));
             }
             Call::Found { object } => self.see(name, object, told.answer)?,
-            Call::RequestCommit => self.story(name).participants = told.answer as u16,
+            Call::RequestCommit => {
+                let story = self.story(name);
+                let past = story.wanted.iter().any(|wanted| story.news(wanted).contains(&None));
+                ensure!(!past, "(weights) votes are asked for {name:?}, and a value of it is past the range");
+                story.participants = told.answer as u16;
+            }
             Call::Abort => self.story(name).lost = true,
             Call::Reselect { .. } => {}
         }
@@ -199,8 +320,12 @@ impl History {
     fn commit(&mut self, name: Name) {
         self.committed.push(name);
         self.story(name).committed = true;
-        for wanted in self.stories[&name].wanted.clone() {
-            self.given[usize::from(wanted.object)].extend(wanted.new);
+        let story = &self.stories[&name];
+        for wanted in story.wanted.iter().filter(|wanted| wanted.mode == WRITE) {
+            self.given[usize::from(wanted.object)].extend(story.news(wanted).into_iter().flatten());
+        }
+        if let Some(Batch { tenths, grams }) = story.batch {
+            self.ledgers[usize::from(name.owner)].commit(tenths, grams);
         }
     }
 
@@ -211,11 +336,16 @@ impl History {
             self.log.push(name);
         }
         if message.kind == kind::ASK || is_commit(message) {
-            let entry = |entry: &Entry| (entry.object, entry.mode, entry.value);
-            let mut wanted: Vec<_> = self.story(name).wanted.iter().map(|it| (it.object, it.mode, it.new.unwrap_or(0))).collect();
-            wanted.sort();
-            let sent: Vec<_> = message.entries.iter().map(entry).collect();
-            ensure!(sent == wanted, "(0) {name:?} sent {sent:?}, but the host wanted {wanted:?}");
+            let story = self.story(name);
+            let mut wanted = story.wanted.clone();
+            wanted.sort_by_key(|wanted| wanted.object);
+            // A read is sent with the value 0, what is set with its value, what is added to with the sum.
+            let fits = |(entry, wanted): (&Entry, &Wanted)| {
+                (entry.object, entry.mode) == (wanted.object, wanted.mode) && story.news(wanted).contains(&Some(entry.value))
+            };
+            let sent = &message.entries;
+            let same = sent.len() == wanted.len() && sent.iter().zip(&wanted).all(fits);
+            ensure!(same, "(0) {name:?} sent {sent:?}, but the host wanted {wanted:?}, of {:?} found", story.found);
             ensure!(!is_commit(message) || self.story(name).committed, "(committed) a commit of {name:?}, which is not");
         }
         Ok(())
@@ -241,20 +371,23 @@ impl History {
         self.committed.iter().map(|name| &self.stories[name]).all(|story| inside(story.participants, story.done))
     }
 
-    /// "A booking finds the value held for each of its tallies, then its written ones take their new values."
+    /// "A booking finds the value held for each of its tallies, then its written ones take their new values"; where it is a batch, "the one-by-one running
+    /// adds to the value held".
     fn replay(&self, order: Order) -> Replayed {
         let logged = self.log.iter().filter(|name| self.stories[name].committed);
-        let order: Vec<Name> = match order {
-            Order::Log => logged.copied().collect(),
+        let names: Vec<Name> = match order {
+            Order::Log | Order::Setting => logged.copied().collect(),
             Order::Decisions => self.committed.clone(),
         };
         let mut replayed = Replayed { finds: BTreeMap::new(), last: [0; OBJECTS] };
-        for name in order {
+        for name in names {
             for wanted in &self.stories[&name].wanted {
                 let held = &mut replayed.last[usize::from(wanted.object)];
                 replayed.finds.insert((name, wanted.object), *held);
+                let held_for = if order == Order::Setting { 0 } else { *held };
                 if wanted.mode == WRITE {
-                    *held = wanted.new.unwrap_or(0);
+                    // Past the range only in an order that is wrong, where what is found shows it.
+                    *held = wanted.effect.on(held_for).unwrap_or(*held);
                 }
             }
         }

@@ -1,5 +1,6 @@
 //! The station program: how it reads a line of a scenario, and what it prints, from docs/SCENARIOS.md.
 
+use super::classes::encode_weights;
 use super::coordinator::Call;
 use super::history::History;
 use super::message::{kind, Message, READ, WRITE, YES};
@@ -25,8 +26,10 @@ pub enum Line {
     Clock(u32, u16),
     /// Numbers for the list; none empties it.
     List(Vec<u32>),
-    /// A step that takes the list: a table of packing hours for a node.
+    /// Steps that take the list: a table of packing hours for a node, a table of weight classes, and a batch with its stamp and live nodes.
     Hours(u8),
+    Classes(u8),
+    Batch(u8, u32, u16),
     /// Any other step. A begin is given the clock's day and minute when it is taken.
     Step(Step),
 }
@@ -112,6 +115,11 @@ pub fn read_line(line: &[u8]) -> Line {
             list.iter().map(|&number| bits(number)).collect::<Option<Vec<u32>>>().map_or(Line::Bad, Line::List)
         }
         (b"hours", [node]) => bits(*node).map_or(Line::Bad, Line::Hours),
+        (b"classes", [node]) => bits(*node).map_or(Line::Bad, Line::Classes),
+        (b"batch", [node, stamp, live]) => match (bits(*node), bits(*stamp), bits(*live)) {
+            (Some(node), Some(stamp), Some(live)) => Line::Batch(node, stamp, live),
+            _ => Line::Bad,
+        },
         _ => step(word, &numbers).map_or(Line::Bad, Line::Step),
     }
 }
@@ -133,9 +141,29 @@ pub fn laid(list: &[u32]) -> Option<Vec<u8>> {
     Some(bytes)
 }
 
+/// A list as the bytes of a table of weight classes: its first number n in 1 byte, the n behind it in 2 bytes each, and all that follow in 1 byte each.
+pub fn laid_classes(list: &[u32]) -> Option<Vec<u8>> {
+    let last_of_bounds = list.first().map_or(0, |&count| count as usize);
+    let mut bytes = Vec::new();
+    for (place, &number) in list.iter().enumerate() {
+        if place == 0 || place > last_of_bounds {
+            bytes.push(u8::try_from(number).ok()?);
+        } else {
+            bytes.extend(u16::try_from(number).ok()?.to_le_bytes());
+        }
+    }
+    Some(bytes)
+}
+
+/// A list as the bytes of a batch: how many numbers it has in 2 bytes, then each in 2 bytes.
+pub fn laid_weights(list: &[u32]) -> Option<Vec<u8>> {
+    let weights: Option<Vec<u16>> = list.iter().map(|&number| u16::try_from(number).ok()).collect();
+    weights.map(|weights| encode_weights(&weights))
+}
+
 /// The documents' word of a number.
 fn word_of(number: u8) -> &'static str {
-    const WORDS: [&str; 13] = [
+    const WORDS: [&str; 15] = [
         "length",
         "damaged",
         "garbled",
@@ -149,6 +177,8 @@ fn word_of(number: u8) -> &'static str {
         "not ready",
         "pool full",
         "closed",
+        "bounds",
+        "tally twice",
     ];
     WORDS[usize::from(number) - 1]
 }
@@ -187,7 +217,7 @@ pub fn show(message: &Message) -> String {
 /// What an accepted step answered, by its kind; nothing where it has nothing to tell.
 fn answered(step: &Step, answer: i64) -> String {
     match step {
-        Step::Host { call: Call::Begin { .. } | Call::Reselect { .. }, .. } => format!(" quorum {answer}"),
+        Step::Host { call: Call::Begin { .. } | Call::Batch { .. } | Call::Reselect { .. }, .. } => format!(" quorum {answer}"),
         Step::Host { call: Call::RequestCommit, .. } => format!(" participants {answer}"),
         Step::Host { call: Call::Found { .. }, .. } => format!(" value {answer}"),
         Step::Deliver { .. } => String::from(["", " committed", " aborted", " ready", " finished"][answer as usize]),
@@ -266,6 +296,12 @@ impl Program {
                 self.print(&format!("  object {object} version {version} value {value} nodes {having} replay {replay}"));
             }
         }
+        for node in nodes(ALL) {
+            if let Some(table) = &self.station.settings[node].classes {
+                let tenths = self.station.waiting(node).map(|tenths| tenths.to_string());
+                self.print(&format!("  waiting {node} {}", tenths[..table.objects.len()].join(" ")));
+            }
+        }
         let (at_rest, settled) = (self.station.at_rest(), self.history.settled());
         let yes = |fact: bool| if fact { "yes" } else { "no" };
         self.print(&format!("  at rest {}", yes(at_rest)));
@@ -312,17 +348,18 @@ impl Program {
         Taken::List
     }
 
-    /// An `hours` takes the list, whatever its number; where a number is too wide for its place the line is bad, and the list stays.
-    fn take_hours(&mut self, line: &[u8], node: u8) -> Result<Taken, String> {
-        let Some(list) = laid(&self.list) else { return Ok(self.bad()) };
+    /// An `hours`, a `classes` or a `batch` takes the list, whatever its number; where a number is too wide for its place the line is bad, and the list
+    /// stays.
+    fn take_list(&mut self, line: &[u8], laid: Option<Vec<u8>>, step: impl Fn(Vec<u8>) -> Step) -> Result<Taken, String> {
+        let Some(list) = laid else { return Ok(self.bad()) };
         self.list.clear();
-        self.take_step(line, Step::Load { node, list })
+        self.take_step(line, step(list))
     }
 
     /// A step: "`takes` with the message that it names, `ok` with what was answered or the number with its word, `puts` with the message put".
     fn take_step(&mut self, line: &[u8], mut step: Step) -> Result<Taken, String> {
         self.runs = true;
-        if let Step::Host { call: Call::Begin { day, minute, .. }, .. } = &mut step {
+        if let Step::Host { call: Call::Begin { day, minute, .. } | Call::Batch { day, minute, .. }, .. } = &mut step {
             (*day, *minute) = self.clock;
         }
         self.echo(line);
@@ -335,6 +372,8 @@ impl Program {
         self.history.feed(&event, &self.station)?;
         match &event.told {
             Err(number) => self.refused(*number),
+            // A batch that is given up is refused too.
+            Ok(told) if told.number != super::number::OK => self.refused(told.number),
             Ok(told) => {
                 self.print(&format!("  ok{}", answered(&event.step, told.answer)));
                 if let Some(message) = &told.put {
@@ -354,7 +393,13 @@ impl Program {
             Line::Blank(mask) => Ok(self.anew(line, mask)),
             Line::Clock(day, minute) => Ok(self.set_clock(line, day, minute)),
             Line::List(numbers) => Ok(self.add_to_list(line, &numbers)),
-            Line::Hours(node) => self.take_hours(line, node),
+            Line::Hours(node) => self.take_list(line, laid(&self.list), |list| Step::Load { node, list }),
+            Line::Classes(node) => self.take_list(line, laid_classes(&self.list), |list| Step::LoadClasses { node, list }),
+            Line::Batch(node, timestamp, live) => {
+                let distances = distances(&[]).expect("thirteen");
+                let call = |list| Call::Batch { live, distances: distances.clone(), timestamp, day: 0, minute: 0, list };
+                self.take_list(line, laid_weights(&self.list), |list| Step::Host { node, call: call(list) })
+            }
             Line::Step(step) => self.take_step(line, step),
         }
     }
@@ -364,7 +409,7 @@ impl Program {
         &self.station
     }
 
-    /// What the next begin and the next load would carry.
+    /// What the next begin and the next step that takes the list would carry.
     pub fn clock(&self) -> (u32, u16) {
         self.clock
     }

@@ -26,8 +26,8 @@ abbrev μ-loop : tie.MeasureT-loop
 count-requires : tie.Need-count-requires Inv-loop μ-loop
 count-requires c κs = search needs
 
-tally-place-requires : tie.Need-tally-place-requires Inv-loop μ-loop
-tally-place-requires c κs = search needs
+objects-place-requires : tie.Need-objects-place-requires Inv-loop μ-loop
+objects-place-requires c κs = search needs
 
 add-at : tie.Need-add-at Inv-loop μ-loop
 add-at c = search needs
@@ -37,7 +37,7 @@ unfolding tallies
 loop-holds c =
     let t = now (c .before .before .before .args .list) in
     let n = c .before .count .ensures in
-    let p = c .tally-place .ensures in
+    let p = c .objects-place .ensures in
     (ap₂ (λ (m i : ℕ). every (λ (t : ℕ). ltb t objects) (itemsFrom tallyAt 1 m t (i + 1))) (n .0) (p .0), omega (arith, n .1, p .1))
 
 get-u8-requires : tie.Need-get-u8-requires Inv-loop μ-loop
@@ -82,7 +82,7 @@ is-strange-spec =
     Inv-loop
     μ-loop
     count-requires
-    tally-place-requires
+    objects-place-requires
     add-at
     loop-holds
     get-u8-requires

@@ -11,8 +11,8 @@ use borrow.Author.Needs.{needs}
 use Rattle.classes.proofs.length_number.Statement.{statement}
 use Rattle.classes.proofs.length_number.Tie as tie
 
-tally-place-requires : tie.Need-tally-place-requires
-tally-place-requires c κs = search needs
+objects-place-requires : tie.Need-objects-place-requires
+objects-place-requires c κs = search needs
 
 add-size : tie.Need-add-size
 add-size c = search needs
@@ -31,9 +31,9 @@ unfolding lengthNumber
 returns c =
     let t = now (c .before .before .before .before .args .list) in
     c .pick .ensures ∙ ap₂ (λ (p n : ℕ). cond (eqb (length t) (p + 1 + n)) 0 wrongLength)
-    (c .before .before .tally-place .ensures .0) (c .before .count .ensures .0)
+    (c .before .before .objects-place .ensures .0) (c .before .count .ensures .0)
 
 pub length-number-spec : {M : Type 1} → statement M
 length-number-spec =
     tie.close
-    (tie.spec tally-place-requires add-size count-requires add-size-2 pick-requires returns)
+    (tie.spec objects-place-requires add-size count-requires add-size-2 pick-requires returns)

@@ -20,8 +20,8 @@ abbrev μ-loop : tie.MeasureT-loop
 loop-holds : tie.Need-loop-holds Inv-loop μ-loop
 loop-holds c = (omega arith, refl, λ j h. absurd (omega arith))
 
-tally-of-requires : tie.Need-tally-of-requires Inv-loop μ-loop
-tally-of-requires c κs = search needs
+object-of-requires : tie.Need-object-of-requires Inv-loop μ-loop
+object-of-requires c κs = search needs
 
 array-write-a : tie.Need-array-write-a Inv-loop μ-loop
 array-write-a c = omega arith
@@ -36,11 +36,11 @@ loop-again : tie.Need-loop-again Inv-loop μ-loop
 loop-again c =
     let l = c .before .before .loop in
     let k = now (c .before .before .before .before .args .kept) in
-    let v = c .tally-of .result in
+    let v = c .object-of .result in
     let full : length (l .a) ≡ mostClasses = l .inv .1 in (
       omega arith,
       length-set (l .a) (l .i) v ∙ full,
-      up-more (λ (j : ℕ). getD (tallies k) j 0) (l .a) (l .i) v (omega arith) (l .inv .2) (c .tally-of .ensures),
+      up-more (λ (j : ℕ). getD (tallies k) j 0) (l .a) (l .i) v (omega arith) (l .inv .2) (c .object-of .ensures),
     )
 
 returns : tie.Need-returns Inv-loop μ-loop
@@ -57,7 +57,7 @@ tallies-spec =
     Inv-loop
     μ-loop
     loop-holds
-    tally-of-requires
+    object-of-requires
     array-write-a
     add-i
     loop-less

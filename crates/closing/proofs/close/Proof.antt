@@ -4,7 +4,7 @@ use mathlib.Core.Bool.{Bool}
 use mathlib.Core.List.{[], _∷_, _++_}
 use denote.Ref.{now}
 use Rattle.report.specs.Page.{page, inks, behind}
-use Rattle.closing.specs.Texts.{endText, restText, settledText, objectsTexts, answerTexts, closingTexts}
+use Rattle.closing.specs.Texts.{endText, restText, settledText, objectsTexts, waitingTexts, answerTexts, closingTexts}
 use borrow.Author.Needs.{needs}
 use Rattle.closing.proofs.close.Statement.{statement}
 use Rattle.closing.proofs.close.Tie as tie
@@ -17,6 +17,9 @@ text-requires c κs = search needs
 
 objects-requires : tie.Need-objects-requires
 objects-requires c κs = search needs
+
+waiting-requires : tie.Need-waiting-requires
+waiting-requires c κs = search needs
 
 at-rest-requires : tie.Need-at-rest-requires
 at-rest-requires c κs = search needs
@@ -43,22 +46,26 @@ returns : tie.Need-returns
 unfolding inks closingTexts
 returns c =
     let w = c .before .before .before .before .before .before .before .before in
-    let v = w .before .before .before .before .before .before in
+    let z = w .before .before .before .before .before .before in
+    let v = z .before .before .before .before in
     let u = v .before .before .before .before in
-    let x = u .before .before .before .before .before .before .before .args in
+    let x = u .before .before .before .before .before .before .before .before .args in
     let rest = w .before .before .before .at-rest in
     let over = c .before .before .before .before .before .settled in
     let f = c .before .before .answered2 in
     let p = page (now (x .out)) (x .at) in
     let q = page (v .objects .last .1 .1 .0) (v .objects .result) in
+    let t = page (z .waiting .last .1 .1 .0) (z .waiting .result) in
     let r = page (w .answered .last .0) (w .answered .result) in
     let lines = objectsTexts (now (x .images)) (now (x .sheet)) in
+    let tenths = waitingTexts (now (x .records)) (now (x .settings)) in
     let third = answerTexts restText (rest .result) in
     let a : q ≡ inks p ((endText ∷ []) ++ lines) =
     behind p (page (u .text .last .0) (u .text .result)) q (endText ∷ []) lines (u .text .ensures) (v .objects .ensures) in
-    let b : r ≡ inks p ((endText ∷ []) ++ lines ++ third) = behind p q r ((endText ∷ []) ++ lines) third a (w .answered .ensures) in
-    behind p r (page (f .last .0) (f .result)) ((endText ∷ []) ++ lines ++ third) (answerTexts settledText (over .result)) b (f .ensures)
-    ∙ ap₂ (λ (s t : Bool). inks p ((endText ∷ []) ++ lines ++ answerTexts restText s ++ answerTexts settledText t)) (rest .ensures) (over .ensures)
+    let d : t ≡ inks p ((endText ∷ []) ++ lines ++ tenths) = behind p q t ((endText ∷ []) ++ lines) tenths a (z .waiting .ensures) in
+    let b : r ≡ inks p ((endText ∷ []) ++ lines ++ tenths ++ third) = behind p t r ((endText ∷ []) ++ lines ++ tenths) third d (w .answered .ensures) in
+    behind p r (page (f .last .0) (f .result)) ((endText ∷ []) ++ lines ++ tenths ++ third) (answerTexts settledText (over .result)) b (f .ensures)
+    ∙ ap₂ (λ (s t : Bool). inks p ((endText ∷ []) ++ lines ++ tenths ++ answerTexts restText s ++ answerTexts settledText t)) (rest .ensures) (over .ensures)
 
 pub close-spec : {M : Type 1} → statement M
 close-spec =
@@ -67,6 +74,7 @@ close-spec =
     slice-aggregate-text
     text-requires
     objects-requires
+    waiting-requires
     at-rest-requires
     slice-aggregate-answered
     answered-requires

@@ -1,36 +1,38 @@
--- `lists::width`: each way through the tests computes the definition.
+-- `lists::width`: by the shape.
 use native.Mathlib.Omega.{arith}
 use mathlib.Core.Path.{refl}
-use borrow.Author.Tests.{eq-eqb, ne-eqb, le-leb, lt-leb}
 use Rattle.lists.specs.Lists.{width}
 use borrow.Author.Needs.{needs}
 use Rattle.lists.proofs.width.Statement.{statement}
 use Rattle.lists.proofs.width.Tie as tie
 
+enum-told : tie.Need-enum-told
+enum-told c = search needs
+
+hours-width-requires : tie.Need-hours-width-requires
+hours-width-requires c κs = search needs
+
+enum-told-2 : tie.Need-enum-told-2
+enum-told-2 c = search needs
+
+classes-width-requires : tie.Need-classes-width-requires
+classes-width-requires c κs = search needs
+
+enum-told-3 : tie.Need-enum-told-3
+enum-told-3 c = search needs
+
 returns : tie.Need-returns
 unfolding width
-returns c = simp (eq-eqb _ _ (c .if1 .taken)) (refl, omega arith)
-
-mul-if2 : tie.Need-mul-if2
-mul-if2 c = search needs
+returns c = simp (c .before .enum-told .given .1) (c .hours-width .ensures)
 
 returns-2 : tie.Need-returns-2
 unfolding width
-returns-2 c = simp (le-leb _ _ (c .if2 .taken), ne-eqb _ _ (c .before .if1 .left)) (refl, omega arith)
-
-mul-if3 : tie.Need-mul-if3
-mul-if3 c = search needs
-
-add-if3 : tie.Need-add-if3
-add-if3 c = search needs
+returns-2 c = simp (c .before .enum-told2 .given .1) (c .classes-width .ensures)
 
 returns-3 : tie.Need-returns-3
 unfolding width
-returns-3 c = simp (eq-eqb _ _ (c .if3 .taken), lt-leb _ _ (c .before .if2 .left), ne-eqb _ _ (c .before .before .if1 .left)) (refl, omega arith)
-
-returns-4 : tie.Need-returns-4
-unfolding width
-returns-4 c = simp (ne-eqb _ _ (c .if3 .left), lt-leb _ _ (c .before .if2 .left), ne-eqb _ _ (c .before .before .if1 .left)) (refl, omega arith)
+returns-3 c = simp (c .enum-told3 .given .1) (refl, omega arith)
 
 pub width-spec : {M : Type 1} → statement M
-width-spec = tie.close (tie.spec returns mul-if2 returns-2 mul-if3 add-if3 returns-3 returns-4)
+width-spec =
+    tie.close (tie.spec enum-told hours-width-requires enum-told-2 classes-width-requires enum-told-3 returns returns-2 returns-3)

@@ -4,8 +4,8 @@ use Prim.Native.Nat.{ℕ}
 use native.Mathlib.Omega.{arith}
 use denote.Ref.{now}
 use Rattle.mask.specs.Mask.{contains}
-use Rattle.frontend.specs.Settings.{loadAfter}
-use Rattle.service_calls.proofs.Beginning.{lent-back}
+use Rattle.settings.specs.Settings.{loadAfter}
+use Rattle.service_calls.proofs.Lending.{lent-back}
 use Rattle.service_calls.proofs.Loading.{first-is, first-told, settings-long, stranger-told, off-told, taken-told}
 use borrow.Author.Needs.{needs}
 use Rattle.service_calls.proofs.load_hours.Statement.{statement}

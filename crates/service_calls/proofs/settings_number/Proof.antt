@@ -8,9 +8,9 @@ use lib.ListN.{length}
 use denote.Ref.{now}
 use borrow.Author.Tests.{eq-eqb, ne-eqb, lt-ltb, le-ltb}
 use Rattle.numbers.specs.Sizes.{nodes}
-use Rattle.frontend.specs.Settings.{settingsNumber}
+use Rattle.settings.specs.Settings.{settingsNumber}
 use Rattle.service_calls.specs.Lent.{allSettings, settingsFirst}
-use Rattle.service_calls.proofs.Beginning.{lent-part}
+use Rattle.service_calls.proofs.Lending.{lent-part}
 use borrow.Author.Needs.{needs}
 use Rattle.service_calls.proofs.settings_number.Statement.{statement}
 use Rattle.service_calls.proofs.settings_number.Tie as tie

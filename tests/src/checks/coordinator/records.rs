@@ -1,12 +1,14 @@
 //! Records, calls and messages that meet: valid records of every phase, calls and messages that fit them or miss by one thing.
 
+use crate::checks::classes::tables::some_batch;
+use crate::checks::hours::hours_in;
 use crate::checks::hours::tables::{damaged_settings, some_clock, some_settings};
 use crate::checks::message::records::{other_node, some_byte, some_entries, some_node, some_rivals, some_serial, some_value};
 use crate::model::coordinator::Call;
-use crate::model::hours;
 use crate::model::message::{self, kind, Entry, Message, Rival, Transaction, ABORT, COMMIT, ENTRIES, LAST, NO, WRITE, YES};
 use crate::model::quorum::{nodes, smallest, Kind, ALL, DISTANCES, NODES};
 use crate::model::record::{decided, phase, Opened, Record};
+use crate::model::settings::{self, SETTINGS};
 use crate::model::OBJECTS;
 use crate::random::Random;
 
@@ -153,7 +155,7 @@ pub fn some_distances(random: &mut Random) -> Vec<u8> {
 pub fn lent_settings(random: &mut Random) -> Vec<u8> {
     let mut settings = if random.once_in(20) { damaged_settings(random) } else { some_settings(random) };
     if random.once_in(40) {
-        let length = random.below(2 * hours::SETTINGS);
+        let length = random.below(2 * SETTINGS);
         settings.resize(length, 0);
     }
     settings
@@ -162,11 +164,16 @@ pub fn lent_settings(random: &mut Random) -> Vec<u8> {
 /// A host call with arguments that meet a record and settings.
 pub fn some_call(random: &mut Random, record: &Record, settings: &[u8]) -> Call {
     let object = some_object(random, record);
-    match random.below(10) {
-        0 | 1 => {
+    match random.below(12) {
+        begins @ (0 | 1 | 10 | 11) => {
             let timestamp = some_near(random, record.timestamp);
-            let (day, minute) = some_clock(random, hours::load(settings).ok().flatten().as_ref());
-            Call::Begin { live: some_live(random), distances: some_distances(random), timestamp, day, minute }
+            let (day, minute) = some_clock(random, hours_in(settings).as_ref());
+            let (live, distances) = (some_live(random), some_distances(random));
+            if begins < 10 {
+                return Call::Begin { live, distances, timestamp, day, minute };
+            }
+            let list = some_batch(random, settings::load(settings).ok().and_then(|it| it.classes).as_ref(), 8);
+            Call::Batch { live, distances, timestamp, day, minute, list }
         }
         2 | 3 => Call::Open { object, mode: random.below(2) as u8 },
         4 => Call::SetValue { object, value: some_value(random) },

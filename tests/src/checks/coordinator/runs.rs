@@ -2,6 +2,8 @@
 
 use super::records::{some_call, some_distances, some_message, some_object};
 use super::seen::{Case, Seen, Try};
+use crate::checks::classes::tables::some_batch;
+use crate::checks::hours::hours_in;
 use crate::checks::hours::tables::{some_clock, some_settings};
 use crate::checks::message::records::{some_node, some_value};
 use crate::ffi::coordinator as ffi;
@@ -9,18 +11,32 @@ use crate::model::coordinator::{Brought, Call};
 use crate::model::message::{self, kind, Message, LONGEST, WRITE};
 use crate::model::quorum::ALL;
 use crate::model::record::{self, phase, Opened, Record};
-use crate::model::{hours, number};
+use crate::model::{number, settings};
 use crate::random::Random;
 use crate::runner::{ensure, Verdict};
 
 /// The call that brings a transaction on.
 fn next_call(random: &mut Random, record: &Record, settings: &[u8]) -> Call {
     let unset = record.objects().iter().find(|opened| opened.mode == WRITE && opened.given == 0);
+    let known = settings::load(settings).ok();
+    let batch = known.as_ref().is_some_and(|it| it.kind == settings::kind::BATCH);
     match (record.phase, unset) {
         (phase::IDLE, _) => {
             let timestamp = record.timestamp.saturating_add(1 + random.below(3) as u32);
-            let (day, minute) = some_clock(random, hours::load(settings).ok().flatten().as_ref());
-            Call::Begin { live: ALL, distances: some_distances(random), timestamp, day, minute }
+            let (day, minute) = some_clock(random, hours_in(settings).as_ref());
+            let distances = some_distances(random);
+            let classes = known.and_then(|it| it.classes);
+            if classes.is_some() && random.once_in(2) {
+                return Call::Batch { live: ALL, distances, timestamp, day, minute, list: some_batch(random, classes.as_ref(), 12) };
+            }
+            Call::Begin { live: ALL, distances, timestamp, day, minute }
+        }
+        (phase::OPEN, _) if batch && !random.once_in(12) => {
+            if record.objects().iter().all(Opened::settled) {
+                Call::RequestCommit
+            } else {
+                Call::Found { object: some_object(random, record) }
+            }
         }
         (phase::OPEN, _) if record.count < 2 || random.once_in(12) => {
             Call::Open { object: some_object(random, record), mode: random.below(2) as u8 }
@@ -58,10 +74,13 @@ pub fn long_runs(random: &mut Random, rounds: usize) -> Verdict {
             let bytes = record::encode(&record);
             let after = match random.below(12) {
                 wild @ 0..=4 => {
-                    // Other hours now and then, whatever the phase.
+                    // Other settings now and then, whatever the phase.
                     settings = if random.once_in(12) { some_settings(random) } else { settings };
                     let call = if wild == 0 { some_call(random, &record, &settings) } else { next_call(random, &record, &settings) };
-                    seen.compare(random, &bytes, me, Try::Host(&call, &settings))?
+                    let after = seen.compare(random, &bytes, me, Try::Host(&call, &settings))?;
+                    settings = seen.settings.clone();
+                    ensure!(ffi::check_settings(&settings) == number::OK, "settings are damaged in a run");
+                    after
                 }
                 5 | 6 => {
                     let (node, object) = (some_node(random), some_object(random, &record));

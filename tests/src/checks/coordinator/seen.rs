@@ -1,12 +1,12 @@
 //! One call by the library and by the model, compared byte by byte; and how often each case of the rules was met.
 
 use crate::ffi::coordinator as ffi;
-use crate::model::coordinator::{due_call, host_call, misfits, receive_call, Brought, Call, Left, Misfit};
-use crate::model::hours;
+use crate::model::coordinator::{due_call, host_call, misfits, receive_call, Brought, Call, Done, HostLeft, Misfit};
 use crate::model::message::{self, kind, Message, LONGEST, NO, WRITE, YES};
 use crate::model::number;
 use crate::model::quorum::{inside, only};
 use crate::model::record::{self, decided, phase, Record};
+use crate::model::settings::{self, Settings};
 use crate::random::Random;
 use crate::runner::ensure;
 use std::collections::BTreeMap;
@@ -18,6 +18,7 @@ const MARGIN: usize = 20;
 #[derive(Clone, Copy, Debug, PartialEq, Eq, PartialOrd, Ord)]
 pub enum What {
     Begin,
+    Batch,
     OpenRead,
     OpenWrite,
     SetValue,
@@ -30,8 +31,9 @@ pub enum What {
 }
 
 /// Each call with the numbers that it can have.
-const NUMBERS: [(What, &[u8]); 10] = [
+const NUMBERS: [(What, &[u8]); 11] = [
     (What::Begin, &[0, 1, 2, 3, 4, 5, 8, 9, 10, 13]),
+    (What::Batch, &[0, 1, 2, 3, 4, 5, 8, 9, 10, 13]),
     (What::OpenRead, &[0, 1, 2, 4, 5, 6, 7]),
     (What::OpenWrite, &[0, 1, 2, 4, 5, 6, 7]),
     (What::SetValue, &[0, 1, 2, 4, 5, 6]),
@@ -64,6 +66,15 @@ pub enum Case {
     RivalLower,
     /// A no of a node that said yes.
     NoAfterYes,
+    /// A batch before any table; an open or a value call on a batch; votes asked for on one, with its sums and with one past the range.
+    NoTable,
+    OpenBarred,
+    SetBarred,
+    Summed,
+    GivenUp,
+    /// A begin while the last batch's tenths wait by its commit, and one while they do not.
+    TenthsMoved,
+    TenthsStay,
     /// An abort by the host, or by a yield, with nobody contacted.
     AbortAtOnce,
     YieldAtOnce,
@@ -80,6 +91,7 @@ fn cases() -> Vec<Case> {
     use Case::*;
     let mut all = vec![LateCopy, AgainNewer, AgainOlder, SameVersion, YesAgain, RivalHigher, RivalLower, NoAfterYes];
     all.extend([AbortAtOnce, YieldAtOnce, OutcomeFirst, Unordered]);
+    all.extend([NoTable, OpenBarred, SetBarred, Summed, GivenUp, TenthsMoved, TenthsStay]);
     all.extend(NUMBERS.iter().flat_map(|(what, numbers)| numbers.iter().map(|&number| Number(*what, number))));
     let nothing = [kind::COPY, kind::VOTE, kind::DONE, kind::YIELD].map(|kind| Brings(kind, Brought::Nothing));
     all.extend(nothing);
@@ -99,7 +111,7 @@ fn cases() -> Vec<Case> {
 /// A call to try on the bytes of a record.
 #[derive(Clone, Copy)]
 pub enum Try<'a> {
-    /// A host call, and the settings, which are lent to begin alone.
+    /// A host call, and the settings, which are lent to those that ask for them.
     Host(&'a Call, &'a [u8]),
     Receive(&'a [u8]),
     Due {
@@ -113,6 +125,7 @@ impl Try<'_> {
     fn what(self) -> What {
         match self {
             Try::Host(Call::Begin { .. }, _) => What::Begin,
+            Try::Host(Call::Batch { .. }, _) => What::Batch,
             Try::Host(Call::Open { mode: WRITE, .. }, _) => What::OpenWrite,
             Try::Host(Call::Open { .. }, _) => What::OpenRead,
             Try::Host(Call::SetValue { .. }, _) => What::SetValue,
@@ -128,13 +141,18 @@ impl Try<'_> {
     /// For the words of a failure.
     fn described(self, me: u8, record: &[u8]) -> String {
         let call = match self {
-            Try::Host(call @ Call::Begin { .. }, settings) => format!("{call:?}, settings {:?} {settings:?}", hours::load(settings)),
+            Try::Host(call, settings) if call.asks_settings() => format!("{call:?}, settings {:?} {settings:?}", settings::load(settings)),
             Try::Host(call, _) => format!("{call:?}"),
             Try::Receive(bytes) => message::decode(bytes).map_or(format!("{bytes:?}"), |message| format!("{message:?}")),
             Try::Due { node, object, size } => format!("what is due to {node} for object {object} in {size} bytes"),
         };
         format!("node {me}, {call}, record {:?}", record::decode(record))
     }
+}
+
+/// What a host call tells, and leaves of the record.
+fn left_of(expected: &Result<HostLeft, u8>) -> Result<(Done, Vec<u8>), u8> {
+    expected.clone().map(|left| (left.done, left.record))
 }
 
 /// Random bytes with some others in their middle.
@@ -151,6 +169,8 @@ fn differ(got: &[u8], expected: &[u8]) -> Option<i64> {
 pub struct Seen {
     cases: BTreeMap<Case, usize>,
     pub numbers: [usize; number::COUNT],
+    /// The settings after the last host call.
+    pub settings: Vec<u8>,
 }
 
 impl Seen {
@@ -158,18 +178,27 @@ impl Seen {
     pub fn compare(&mut self, random: &mut Random, record: &[u8], me: u8, asked: Try) -> Result<Vec<u8>, String> {
         let (number, after) = match asked {
             Try::Host(call, settings) => {
-                let (lent, lent_settings) = (call.clone(), settings.to_vec());
+                let lent = call.clone();
                 let expected = host_call(record, settings, me, call);
-                let after =
-                    self.changed(random, record, &expected, |record| ffi::host_call(record, &lent_settings, me, &lent), asked, me)?;
-                ensure!(lent == *call, "{}: the distances became {lent:?}", asked.described(me, record));
-                ensure!(lent_settings == settings, "{}: the settings became {lent_settings:?}", asked.described(me, record));
-                (expected.err().unwrap_or(number::OK), after)
+                let mut kept = framed(random, settings);
+                let mut kept_after = kept.clone();
+                if let Ok(left) = &expected {
+                    kept_after[MARGIN..MARGIN + settings.len()].copy_from_slice(&left.settings);
+                }
+                let on_record = |record: &mut [u8]| ffi::host_call(record, &mut kept[MARGIN..MARGIN + settings.len()], me, &lent);
+                let after = self.changed(random, record, &left_of(&expected), on_record, asked, me)?;
+                ensure!(lent == *call, "{}: the distances or the list became {lent:?}", asked.described(me, record));
+                let place = differ(&kept, &kept_after);
+                ensure!(place.is_none(), "{}: byte {place:?} of the settings is another than the model's", asked.described(me, record));
+                self.settings = kept[MARGIN..MARGIN + settings.len()].to_vec();
+                self.count_host(record, settings, call, &expected);
+                (expected.map_or_else(|number| number, |left| left.done.number), after)
             }
             Try::Receive(message) => {
                 let lent = message.to_vec();
                 let expected = receive_call(record, me, message);
-                let after = self.changed(random, record, &expected, |record| ffi::receive(record, me, &lent), asked, me)?;
+                let taken = expected.clone().map(|left| (Done { number: number::OK, answer: left.answer }, left.record));
+                let after = self.changed(random, record, &taken, |record| ffi::receive(record, me, &lent), asked, me)?;
                 ensure!(lent == message, "{}: the message became {lent:?}", asked.described(me, record));
                 (expected.err().unwrap_or(number::OK), after)
             }
@@ -192,7 +221,7 @@ impl Seen {
         &mut self,
         random: &mut Random,
         record: &[u8],
-        expected: &Result<Left, u8>,
+        expected: &Result<(Done, Vec<u8>), u8>,
         call: impl FnOnce(&mut [u8]) -> (u8, i64),
         asked: Try,
         me: u8,
@@ -200,9 +229,9 @@ impl Seen {
         let mut bytes = framed(random, record);
         let mut after = bytes.clone();
         let (number, answer) = match expected {
-            Ok(left) => {
-                after[MARGIN..MARGIN + record.len()].copy_from_slice(&left.record);
-                (number::OK, left.answer)
+            Ok((done, left)) => {
+                after[MARGIN..MARGIN + record.len()].copy_from_slice(left);
+                (done.number, done.answer)
             }
             Err(number) => (*number, 0),
         };
@@ -245,6 +274,33 @@ impl Seen {
     fn add_if(&mut self, met: bool, case: Case) {
         if met {
             self.add(case);
+        }
+    }
+
+    /// The cases of a host call that has to do with batches, with the record and the settings before it.
+    fn count_host(&mut self, record: &[u8], settings: &[u8], call: &Call, expected: &Result<HostLeft, u8>) {
+        let (Ok(record), Ok(settings)) = (record::load(record), settings::load(settings)) else { return };
+        let batch = settings.kind == settings::kind::BATCH;
+        let number = expected.as_ref().map_or_else(|number| *number, |left| left.done.number);
+        match call {
+            Call::Batch { timestamp, .. } if number == number::OUT_OF_TURN => {
+                self.add_if(*timestamp > record.timestamp && settings.classes.is_none(), Case::NoTable);
+            }
+            Call::Open { .. } if number == number::OUT_OF_TURN => self.add_if(batch && record.phase == phase::OPEN, Case::OpenBarred),
+            Call::SetValue { .. } if number == number::OUT_OF_TURN => self.add_if(batch && record.phase == phase::OPEN, Case::SetBarred),
+            Call::RequestCommit if batch => {
+                let done = expected.as_ref().ok().map(|left| left.done);
+                self.add_if(done == Some(Done::GIVEN_UP), Case::GivenUp);
+                self.add_if(done.is_some_and(|done| done.number == number::OK), Case::Summed);
+            }
+            Call::Begin { .. } | Call::Batch { .. } if number == number::OK => self.count_begin(&record, &settings),
+            _ => {}
+        }
+    }
+
+    fn count_begin(&mut self, record: &Record, settings: &Settings) {
+        if settings.kind == settings::kind::BATCH && settings.waited != settings.left {
+            self.add(if settings.waiting(record) == settings.left { Case::TenthsMoved } else { Case::TenthsStay });
         }
     }
 

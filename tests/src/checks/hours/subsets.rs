@@ -2,34 +2,36 @@
 
 use super::tables::{damaged_settings, some_window, Damage, DAMAGES};
 use super::{same_begin, same_load, same_step};
+use crate::checks::classes::tables::some_tail;
 use crate::model::buffers;
 use crate::model::coordinator::Call;
-use crate::model::hours::{encode, settings_of, Table, Window, LAST_END, SETTINGS};
+use crate::model::hours::{encode, Table, Window, LAST_END};
 use crate::model::message::LAST;
 use crate::model::number;
 use crate::model::quorum::{ALL, DISTANCES, NODES};
 use crate::model::record::{self, decided, phase, Record, RECORD};
+use crate::model::settings::{settings_of, HOURS};
 use crate::model::station::{blank, Step};
 use crate::random::Random;
 use crate::runner::{ensure, Verdict};
 
 /// A fault, and its number.
-type Fault = (&'static str, u8);
+pub type Fault = (&'static str, u8);
 
 /// Whether the fault of this name is in a subset.
-fn has(faults: &[Fault], subset: usize, name: &str) -> bool {
+pub fn has(faults: &[Fault], subset: usize, name: &str) -> bool {
     let at = faults.iter().position(|(other, _)| *other == name).unwrap_or_else(|| panic!("no fault {name}"));
     subset >> at & 1 == 1
 }
 
 /// The number of the first fault in a subset, of those that count; 0 for none.
-fn first(faults: &[Fault], subset: usize, counts: impl Fn(&str) -> bool) -> u8 {
+pub fn first(faults: &[Fault], subset: usize, counts: impl Fn(&str) -> bool) -> u8 {
     let present = |(at, (name, _)): &(usize, &Fault)| subset >> at & 1 == 1 && counts(name);
     faults.iter().enumerate().find(present).map_or(number::OK, |(_, (_, number))| *number)
 }
 
 /// Which numbers were met, in words; each of them must be.
-fn counted(subsets: usize, numbers: &[usize; number::COUNT], reached: &[usize]) -> Verdict {
+pub fn counted(subsets: usize, numbers: &[usize; number::COUNT], reached: &[usize]) -> Verdict {
     ensure!(reached.iter().all(|&number| numbers[number] > 0), "too poor: {numbers:?}");
     Ok(format!("{subsets} subsets, by number {numbers:?}"))
 }
@@ -74,13 +76,13 @@ const STATION_BEGIN: [Fault; 17] = [
 ];
 
 /// Bytes a little shorter or longer.
-fn misfit(random: &mut Random, bytes: &mut Vec<u8>) {
+pub fn misfit(random: &mut Random, bytes: &mut Vec<u8>) {
     let length = bytes.len();
     bytes.resize(*random.pick(&[length - 1, length + 1, length - 1, 0]), 0);
 }
 
 /// The record that a subset asks for: idle or open, with a last serial of any kind or the last there is; the timestamp is 9.
-fn some_record(random: &mut Random, wrong: &impl Fn(&str) -> bool) -> Vec<u8> {
+pub fn some_record(random: &mut Random, wrong: &impl Fn(&str) -> bool) -> Vec<u8> {
     let serial = if wrong("used up") { LAST } else { 1 + random.below(9) as u32 };
     let mut record = Record { serial, timestamp: 9, outcome: decided::COMMITTED, ..Record::default() };
     if wrong("busy") {
@@ -102,8 +104,9 @@ fn some_settings(random: &mut Random, wrong: &impl Fn(&str) -> bool) -> Vec<u8> 
     let mut windows = vec![Window { start: 600, end: 700 }, Window { start: 650, end: 660 }];
     windows.truncate(1 + random.below(2));
     let mut settings = settings_of(Some(&Table { windows, dates: vec![3, 20] }));
-    let noise = random.bytes(SETTINGS - 100);
-    settings[100..].copy_from_slice(&noise);
+    let noise = random.bytes(HOURS - 100);
+    settings[100..HOURS].copy_from_slice(&noise);
+    settings[HOURS..].copy_from_slice(&some_tail(random));
     settings
 }
 
@@ -153,7 +156,7 @@ pub fn begins(random: &mut Random, rounds: usize) -> Verdict {
 }
 
 /// The names of a subset's faults.
-fn named(faults: &[Fault], subset: usize) -> Vec<&'static str> {
+pub fn named(faults: &[Fault], subset: usize) -> Vec<&'static str> {
     faults.iter().enumerate().filter(|(at, _)| subset >> at & 1 == 1).map(|(_, (name, _))| *name).collect()
 }
 

@@ -1,7 +1,9 @@
 //! Tables of packing hours and settings, sound ones and every way in which one is not; days and minutes that meet them.
 
-use crate::model::hours::{encode, settings_of, Table, Window, DATES, LAST_END, LAST_MINUTE, SETTINGS, WINDOWS};
+use crate::checks::classes::tables::{damage_tail, some_tail};
+use crate::model::hours::{encode, Table, Window, DATES, LAST_END, LAST_MINUTE, WINDOWS};
 use crate::model::number;
+use crate::model::settings::{settings_of, HOURS};
 use crate::random::Random;
 
 /// Days that come often, so that a day is a closed date now and then.
@@ -153,7 +155,8 @@ pub fn some_list(random: &mut Random, times: usize) -> Vec<u8> {
     }
 }
 
-/// The settings of a node, sound ones: blank, with a table loaded, or with one that is not loaded. What stands behind the table may be anything.
+/// The settings of a node, sound ones: blank, with a table loaded, or with one that is not loaded. What stands behind a table may be anything. Behind the
+/// hours there may be classes.
 pub fn some_settings(random: &mut Random) -> Vec<u8> {
     if random.once_in(4) {
         return settings_of(None);
@@ -162,16 +165,23 @@ pub fn some_settings(random: &mut Random) -> Vec<u8> {
     let mut settings = settings_of(Some(&table));
     let used = 1 + encode(&table).len();
     if random.once_in(2) {
-        let noise = random.bytes(SETTINGS - used);
-        settings[used..].copy_from_slice(&noise);
+        let noise = random.bytes(HOURS - used);
+        settings[used..HOURS].copy_from_slice(&noise);
     }
     settings[0] = u8::from(!random.once_in(6));
+    if !random.once_in(3) {
+        settings[HOURS..].copy_from_slice(&some_tail(random));
+    }
     settings
 }
 
-/// Settings that are damaged, of the right length: the first byte, a count or a window. The rest is as in sound ones.
+/// Settings that are damaged, of the right length: the first byte, a count or a window; or something behind the hours. The rest is as in sound ones.
 pub fn damaged_settings(random: &mut Random) -> Vec<u8> {
     let mut settings = some_settings(random);
+    if random.once_in(2) {
+        damage_tail(random, &mut settings);
+        return settings;
+    }
     let windows = usize::from(settings[1]);
     match random.below(4) {
         0 => settings[0] = 2 + random.below(254) as u8,

@@ -62,8 +62,15 @@ const WRONGS: [Wrong; 16] = [
 ];
 
 /// The numbers that each step has here, each of them often.
-const REACHED: [&[usize]; 6] =
-    [&[0, 1, 2, 3, 4, 5, 6, 8, 10, 11, 13], &[0, 1, 2, 4, 5, 6, 12], &[0, 1, 2, 3, 5, 12], &[0, 1, 2, 5], &[0, 1, 2, 4], &[0, 1, 2, 4, 5]];
+const REACHED: [&[usize]; 7] = [
+    &[0, 1, 2, 3, 4, 5, 6, 8, 10, 11, 13],
+    &[0, 1, 2, 4, 5, 6, 12],
+    &[0, 1, 2, 3, 5, 12],
+    &[0, 1, 2, 5],
+    &[0, 1, 2, 4],
+    &[0, 1, 2, 4, 5],
+    &[0, 1, 2, 4, 5, 6, 10, 14, 15],
+];
 
 /// One byte shorter or longer.
 fn misfit(random: &mut Random, buffer: &mut Vec<u8>) {
@@ -168,7 +175,8 @@ fn one_step(step: &Step, wrong: Wrong, is: &mut Buffers) -> Result<u8, String> {
     let (number, answer) = library::step(is, step);
     ensure!((number, answer) == answered(&told), "{wrong:?}, {step:?}: the library says {number} and {answer}, the model {told:?}");
     ensure!(*is == expected, "{wrong:?}, {step:?}: other bytes, number {number}");
-    ensure!(number == number::OK || *is == before, "{wrong:?}, {step:?}: refused with {number}, and a byte is altered");
+    // A batch that is given up says so.
+    ensure!(number == number::OK || answer != 0 || *is == before, "{wrong:?}, {step:?}: refused with {number}, and a byte is altered");
     Ok(number)
 }
 

@@ -3,10 +3,12 @@
 
 use super::ends::answered;
 use super::scenario::{next_step, some_style};
+use crate::ffi::coordinator as lone;
 use crate::ffi::station as library;
 use crate::model::buffers::{self, Buffers, IMAGES, OWN, RECORDS, SLOTS};
-use crate::model::hours::STATION_SETTINGS;
+use crate::model::classes::CLASSES;
 use crate::model::quorum::ALL;
+use crate::model::settings::{self, STATION_SETTINGS};
 use crate::model::station::{blank, Event, Station, Step, Told};
 use crate::model::{message, number, record, Fault};
 use crate::random::Random;
@@ -17,7 +19,7 @@ pub struct Compiled {
     is: Buffers,
     /// What they must be.
     expected: Buffers,
-    /// What the library's bytes say, as far as a step touched them: records, who is on, the messages that wait.
+    /// What the library's bytes say, as far as a step touched them: records, settings, who is on, the messages that wait.
     shown: Station,
 }
 
@@ -70,13 +72,14 @@ impl Compiled {
 
     /// The event as the library's station tells it.
     fn tell(&mut self, step: Step, number: u8, answer: i64, waited: usize) -> Result<Event, String> {
-        if number != number::OK {
+        // A batch that is given up is the one refusal that changes something, and its answer tells it.
+        if number != number::OK && answer == 0 {
             return Ok(Event { step, told: Err(number) });
         }
         let waits = library::waiting(&self.is.pool);
         let mut touched = None;
         match step {
-            Step::Host { node, .. } => touched = Some(node),
+            Step::Host { node, .. } | Step::Load { node, .. } | Step::LoadClasses { node, .. } => touched = Some(node),
             Step::Deliver { at, kept } => {
                 touched = Some(self.shown.pool[at].to);
                 if !kept {
@@ -86,7 +89,7 @@ impl Compiled {
             Step::Drop { at } => {
                 self.shown.pool.remove(at);
             }
-            Step::Send { .. } | Step::Switch { .. } | Step::Load { .. } => {}
+            Step::Send { .. } | Step::Switch { .. } => {}
         }
         let left = self.shown.pool.len();
         ensure!(left <= waited && waits >= left && waits <= left + 1, "{waited} waited and {waits} wait");
@@ -96,15 +99,37 @@ impl Compiled {
         if let Some(node) = touched {
             let node = usize::from(node);
             self.shown.records[node] = record::load(self.is.record(node)).map_err(|number| format!("node {node}'s record is {number}"))?;
+            self.shown.settings[node] =
+                settings::load(self.is.settings(node)).map_err(|number| format!("node {node}'s settings are {number}"))?;
+            self.told_waiting(node)?;
         }
-        Ok(Event { step, told: Ok(Told { answer, put }) })
+        Ok(Event { step, told: Ok(Told { number, answer, put }) })
+    }
+
+    /// What the library tells of the tenths that wait at a node, and of the kind of its last transaction.
+    fn told_waiting(&self, node: usize) -> Result<(), String> {
+        let (record, settings) = (self.is.record(node), self.is.settings(node));
+        let waiting = self.shown.waiting(node);
+        let classes = self.shown.settings[node].classes.as_ref().map_or(0, |table| table.objects.len());
+        for class in 0..=CLASSES as u8 {
+            let got = lone::waiting(record, settings, class);
+            let has = usize::from(class) < classes;
+            let expected = if has { (number::OK, i64::from(waiting[usize::from(class)])) } else { (number::NO_SUCH_OBJECT, 0) };
+            ensure!(got == expected, "node {node}, class {class}: the library says {got:?} wait, the model {expected:?}");
+        }
+        let kind = lone::settings_kind(settings);
+        ensure!(kind == (number::OK, i64::from(self.shown.settings[node].kind)), "node {node}: the library says the kind {kind:?}");
+        Ok(())
     }
 
     /// All that the library's bytes say, which is the model's station.
     pub fn whole(&self, model: &Station) -> Result<Station, String> {
         let station = self.is.station().ok_or("the library's bytes are no station")?;
         ensure!(
-            station == *model && station.pool == self.shown.pool && station.records == self.shown.records,
+            station == *model
+                && station.pool == self.shown.pool
+                && station.records == self.shown.records
+                && station.settings == self.shown.settings,
             "the bytes say another station"
         );
         for k in 0..=255u8 {

@@ -2,9 +2,9 @@
 //! image.
 
 use crate::ffi;
-use crate::model::coordinator::{due_call, host_call, receive_call, Call, Left};
-use crate::model::hours::{load_call, settings_of};
+use crate::model::coordinator::{due_call, host_call, receive_call, Call};
 use crate::model::message::{self, Message, LONGEST};
+use crate::model::settings::{self, load_classes_call, load_hours_call};
 use crate::model::station::{for_replica, Event, Station, Step, Told, POOL};
 use crate::model::{image, number, record};
 use crate::runner::ensure;
@@ -12,23 +12,32 @@ use crate::runner::ensure;
 /// A coordinator's calls on the bytes of a record and of settings: the model's own, or a library's.
 #[derive(Clone, Copy)]
 pub struct Ends {
-    pub host: fn(&mut [u8], &[u8], u8, &Call) -> (u8, i64),
+    pub host: fn(&mut [u8], &mut [u8], u8, &Call) -> (u8, i64),
     pub load: fn(&mut [u8], &[u8]) -> u8,
+    pub load_classes: fn(&[u8], &mut [u8], u8, &[u8]) -> (u8, i64),
     pub receive: fn(&mut [u8], u8, &[u8]) -> (u8, i64),
     pub due: fn(&[u8], u8, u8, u8, &mut [u8]) -> (u8, u8),
 }
 
 /// The model's own.
 pub const MODEL: Ends = Ends {
-    host: |record, settings, me, call| leave(record, host_call(record, settings, me, call)),
-    load: |settings, list| match load_call(settings, list) {
-        Err(number) => number,
-        Ok(bytes) => {
-            settings.copy_from_slice(&bytes);
-            number::OK
+    host: |record, settings, me, call| match host_call(record, settings, me, call) {
+        Err(number) => (number, 0),
+        Ok(left) => {
+            record.copy_from_slice(&left.record);
+            settings.copy_from_slice(&left.settings);
+            (left.done.number, left.done.answer)
         }
     },
-    receive: |record, me, message| leave(record, receive_call(record, me, message)),
+    load: |settings, list| leave(settings, load_hours_call(settings, list)),
+    load_classes: |record, settings, me, list| (leave(settings, load_classes_call(record, settings, me, list)), 0),
+    receive: |record, me, message| match receive_call(record, me, message) {
+        Err(number) => (number, 0),
+        Ok(left) => {
+            record.copy_from_slice(&left.record);
+            (number::OK, left.answer)
+        }
+    },
     due: |record, me, node, object, out| match due_call(record, me, node, object, out.len()) {
         Err(number) => (number, 0),
         Ok(bytes) => {
@@ -38,12 +47,12 @@ pub const MODEL: Ends = Ends {
     },
 };
 
-fn leave(record: &mut [u8], left: Result<Left, u8>) -> (u8, i64) {
+fn leave(bytes: &mut [u8], left: Result<Vec<u8>, u8>) -> u8 {
     match left {
-        Err(number) => (number, 0),
+        Err(number) => number,
         Ok(left) => {
-            record.copy_from_slice(&left.record);
-            (number::OK, left.answer)
+            bytes.copy_from_slice(&left);
+            number::OK
         }
     }
 }
@@ -51,7 +60,7 @@ fn leave(record: &mut [u8], left: Result<Left, u8>) -> (u8, i64) {
 /// The number and answer of a step.
 pub fn answered(told: &Result<Told, u8>) -> (u8, i64) {
     match told {
-        Ok(told) => (number::OK, told.answer),
+        Ok(told) => (told.number, told.answer),
         Err(number) => (*number, 0),
     }
 }
@@ -81,15 +90,22 @@ pub fn same(ends: Ends, before: &Station, event: &Event, after: &Station) -> Res
     let full = before.pool.len() == POOL;
     let agrees = match event.step {
         Step::Host { node, ref call } if node < 13 && before.is_on(node) => {
-            let mut bytes = record::encode(&before.records[usize::from(node)]);
-            let settings = settings_of(before.hours[usize::from(node)].as_ref());
-            let told = (ends.host)(&mut bytes, &settings, node, call);
-            told == answered(&event.told) && bytes == record::encode(&after.records[usize::from(node)])
+            let at = usize::from(node);
+            let (mut bytes, mut kept) = (record::encode(&before.records[at]), settings::encode(&before.settings[at]));
+            let told = (ends.host)(&mut bytes, &mut kept, node, call);
+            let same = bytes == record::encode(&after.records[at]) && kept == settings::encode(&after.settings[at]);
+            told == answered(&event.told) && same
         }
         Step::Load { node, ref list } if node < 13 && before.is_on(node) => {
-            let mut settings = settings_of(before.hours[usize::from(node)].as_ref());
-            let number = (ends.load)(&mut settings, list);
-            number == answered(&event.told).0 && settings == settings_of(after.hours[usize::from(node)].as_ref())
+            let mut kept = settings::encode(&before.settings[usize::from(node)]);
+            let number = (ends.load)(&mut kept, list);
+            number == answered(&event.told).0 && kept == settings::encode(&after.settings[usize::from(node)])
+        }
+        Step::LoadClasses { node, ref list } if node < 13 && before.is_on(node) => {
+            let at = usize::from(node);
+            let mut kept = settings::encode(&before.settings[at]);
+            let told = (ends.load_classes)(&record::encode(&before.records[at]), &mut kept, node, list);
+            told == answered(&event.told) && kept == settings::encode(&after.settings[at])
         }
         Step::Send { node, to, object } if node < 13 && before.is_on(node) && !full => {
             let mut out = vec![0; LONGEST];

@@ -1,12 +1,15 @@
 //! Random scenarios (document 01: stories): which step comes next, from what the station is in and how rough the scenario is.
 
+use crate::checks::classes::tables::{classes_among, some_batch, some_list as some_class_list};
 use crate::checks::hours::tables::{some_clock, some_list};
 use crate::checks::message::records::some_byte;
+use crate::model::classes;
 use crate::model::coordinator::{due, known_rivals, Call};
 use crate::model::hours::{encode, Table, Window, LAST_END};
 use crate::model::message::{kind, Message, WRITE};
 use crate::model::quorum::{nodes, ALL, NODES};
 use crate::model::record::{phase, Record};
+use crate::model::settings::kind as kinds;
 use crate::model::station::{Station, Step, POOL};
 use crate::model::OBJECTS;
 use crate::random::Random;
@@ -38,6 +41,12 @@ pub struct Style {
     pub wild: usize,
     /// A table of packing hours is loaded.
     pub load: usize,
+    /// A node that is idle and has no table of classes loads one; one that has a table loads another; it begins a batch.
+    pub first_classes: usize,
+    pub classes: usize,
+    pub batch: usize,
+    /// A value that is set is at the range's end, or near it.
+    pub brink: usize,
 }
 
 /// A style; what is wanted is few or many, and what goes wrong rare or frequent, independently of each other.
@@ -67,6 +76,10 @@ pub fn some_style(random: &mut Random) -> Style {
         write: *random.pick(&[1, 2, 2, 3]),
         wild: *random.pick(&[20, 60, 200][gentle..]),
         load: *random.pick(&[30, 120, 600][gentle..]),
+        first_classes: *random.pick(&[2, 8, 1000]),
+        classes: *random.pick(&[6, 30, 200]),
+        batch: *random.pick(&[1, 2, 4, 1000]),
+        brink: *random.pick(&[2, 8, 1000]),
     }
 }
 
@@ -75,6 +88,15 @@ impl Style {
     pub fn lingering(mut self) -> Style {
         (self.ask, self.keep, self.again, self.old) = (12, 2, 2, 1);
         (self.slow, self.slow_owners) = (kind::YIELD, self.owners.clone());
+        self
+    }
+
+    /// Batches, one after the other, in few objects that are set near the range's end now and then. Little goes wrong, so that many commit.
+    pub fn weighing(mut self) -> Style {
+        self.owners.truncate(3);
+        (self.ask, self.keep, self.lose, self.switch, self.again, self.calm) = (1, 20, 400, 2000, 40, 30);
+        (self.objects, self.first_classes, self.classes, self.batch) = (self.objects.min(3), 1, 20, 2);
+        (self.brink, self.abort, self.wild, self.write, self.most) = (self.brink.min(3), 60, 60, 1, 2);
         self
     }
 
@@ -111,9 +133,19 @@ fn one_of(random: &mut Random, mask: u16) -> u8 {
     }
 }
 
-/// What the host of an open transaction does next.
+/// A value that is set: any, or one that a batch may take past the range.
+fn some_value(random: &mut Random, style: &Style) -> i64 {
+    if random.once_in(style.brink) {
+        let near = random.below(2000) as i64;
+        return *random.pick(&[i64::MAX, i64::MAX - near, i64::MIN, i64::MIN + near]);
+    }
+    random.next() as i64
+}
+
+/// What the host of an open transaction does next. A batch has its objects and its amounts; an open or a value call is tried on it all the same, seldom.
 fn while_open(random: &mut Random, station: &Station, style: &Style, node: u8) -> Step {
     let record = &station.records[usize::from(node)];
+    let batch = station.settings[usize::from(node)].kind == kinds::BATCH;
     let host = |call| Step::Host { node, call };
     let object = random.below(style.objects) as u8;
     let known = if record.count == 0 { object } else { random.pick(record.objects()).object };
@@ -123,16 +155,17 @@ fn while_open(random: &mut Random, station: &Station, style: &Style, node: u8) -
     if random.once_in(style.reselect) {
         return host(Call::Reselect { live: some_live(random, station), distances: some_distances(random) });
     }
-    if record.count == 0 || (usize::from(record.count) < style.most && random.once_in(4)) {
+    let opens = usize::from(record.count) < style.most && random.once_in(4) && (!batch || random.once_in(8));
+    if record.count == 0 || opens {
         return host(Call::Open { object, mode: u8::from(random.once_in(style.write)) });
     }
     let unset = record.objects().iter().find(|opened| opened.mode == WRITE && opened.given == 0);
     if let (Some(opened), true) = (unset, random.once_in(3)) {
-        return host(Call::SetValue { object: opened.object, value: random.next() as i64 });
+        return host(Call::SetValue { object: opened.object, value: some_value(random, style) });
     }
     if record.objects().iter().all(|opened| opened.settled()) {
         return host(match random.below(8) {
-            0 => Call::SetValue { object: known, value: random.next() as i64 },
+            0 if !batch || random.once_in(4) => Call::SetValue { object: known, value: some_value(random, style) },
             1 | 2 => Call::Found { object: known },
             _ if random.once_in(style.ask) => Call::RequestCommit,
             _ => Call::Found { object: known },
@@ -153,6 +186,15 @@ fn while_finishing(random: &mut Random, record: &Record) -> u8 {
     one_of(random, record.awaited() & !record.done)
 }
 
+/// A table of classes as it is lent, sound most often, in the objects that are wanted.
+fn some_table(random: &mut Random, style: &Style) -> Vec<u8> {
+    if random.once_in(8) {
+        return some_class_list(random, 2);
+    }
+    let most = *random.pick(&[1, 2, 3, 8]);
+    classes::encode(&classes_among(random, most, style.objects.min(OBJECTS)))
+}
+
 /// A table with the whole week in one window.
 fn always_open() -> Vec<u8> {
     encode(&Table { windows: vec![Window { start: 0, end: LAST_END }], dates: vec![] })
@@ -164,14 +206,23 @@ fn owner_step(random: &mut Random, station: &Station, style: &Style) -> Step {
     let record = &station.records[usize::from(node)];
     match record.phase {
         phase::IDLE => {
-            let hours = station.hours[usize::from(node)].as_ref();
+            let settings = &station.settings[usize::from(node)];
+            let hours = settings.hours.as_ref();
             // A table without a window closes for good: it is replaced soon.
             if hours.is_some_and(|table| table.windows.is_empty()) && !random.once_in(4) {
                 return Step::Load { node, list: always_open() };
             }
+            let often = if settings.classes.is_some() { style.classes } else { style.first_classes };
+            if random.once_in(often) {
+                return Step::LoadClasses { node, list: some_table(random, style) };
+            }
             let timestamp = record.timestamp + 1 + random.below(4) as u32;
             let (live, distances) = (some_live(random, station), some_distances(random));
             let (day, minute) = some_clock(random, hours);
+            if random.once_in(style.batch) && (settings.classes.is_some() || random.once_in(20)) {
+                let list = some_batch(random, settings.classes.as_ref(), 30);
+                return Step::Host { node, call: Call::Batch { live, distances, timestamp, day, minute, list } };
+            }
             Step::Host { node, call: Call::Begin { live, distances, timestamp, day, minute } }
         }
         phase::OPEN => while_open(random, station, style, node),
@@ -194,7 +245,11 @@ fn wild_distances(random: &mut Random) -> Vec<u8> {
 /// A host call with any arguments, fitting or not.
 fn wild_call(random: &mut Random, object: u8) -> Call {
     let (day, minute) = some_clock(random, None);
-    match random.below(8) {
+    match random.below(9) {
+        8 => {
+            let (live, timestamp, list) = (random.word(), random.below(400) as u32, some_batch(random, None, 2));
+            Call::Batch { live: *random.pick(&[live, ALL]), distances: wild_distances(random), timestamp, day, minute, list }
+        }
         0 => Call::Begin { live: random.word(), distances: wild_distances(random), timestamp: random.below(40) as u32, day, minute },
         1 => {
             let (live, timestamp) = (random.word() & ALL, random.below(900) as u32);
@@ -215,7 +270,8 @@ pub fn wild_step(random: &mut Random, station: &Station, style: &Style) -> Step 
     let node = *random.pick(&[stranger, style.owners[0]]);
     let object = if random.once_in(6) { some_byte(random) } else { random.below(style.objects.min(OBJECTS)) as u8 };
     let at = if random.once_in(10) { usize::from(random.byte()) } else { random.below(station.pool.len() + 2) };
-    match random.below(13) {
+    match random.below(14) {
+        13 => Step::LoadClasses { node: stranger, list: some_class_list(random, 2) },
         0..=4 => Step::Host { node, call: wild_call(random, object) },
         5..=8 => Step::Send { node, to: if random.once_in(8) { some_byte(random) } else { random.below(NODES) as u8 }, object },
         9 => Step::Deliver { at, kept: random.once_in(2) },

@@ -1,11 +1,13 @@
 //! What the scenarios met: each step's number, and what became of transactions and why.
 
+use crate::model::classes::CLASSES;
 use crate::model::coordinator::{misfits, Brought, Call};
 use crate::model::image::Image;
 use crate::model::message::{kind, Message, NO, WRITE};
 use crate::model::number;
-use crate::model::record::phase;
+use crate::model::record::{decided, phase};
 use crate::model::replica::{enter, judge, Standing};
+use crate::model::settings::kind as kinds;
 use crate::model::station::{Event, Station, Step};
 use std::collections::BTreeMap;
 
@@ -26,6 +28,25 @@ pub enum Case {
     LoadedUnderWay,
     /// A table that is refused where another is loaded.
     LoadRefused,
+    /// A batch that begins, with tenths that wait; one that commits, and leaves other tenths; one that is aborted, by its host, a no or a yield; one that
+    /// is given up because a value would be past the range; one that begins again, right after that and with the same weights.
+    BatchBegun,
+    BatchOverTenths,
+    BatchCommitted,
+    BatchMovedTenths,
+    BatchAborted,
+    BatchGivenUp,
+    BatchAgain,
+    /// A batch before any table; the host's own open and value call on a batch.
+    BatchWithoutTable,
+    OpenOnBatch,
+    SetOnBatch,
+    /// A transaction of the host's own behind a batch, with tenths that wait.
+    OwnOverTenths,
+    /// A table of classes in place of another, and where tenths wait; one that is refused where tenths wait.
+    ClassesAgain,
+    ClassesOverTenths,
+    ClassesRefused,
     Reselected,
     /// A look again while objects are open that brings nodes that were not contacted yet.
     ReselectedMore,
@@ -59,7 +80,7 @@ pub enum Case {
 }
 
 impl Case {
-    pub const ALL: [Case; 32] = [
+    pub const ALL: [Case; 46] = [
         Case::Begun,
         Case::BegunFirst,
         Case::BegunLast,
@@ -70,6 +91,20 @@ impl Case {
         Case::LoadedAgain,
         Case::LoadedUnderWay,
         Case::LoadRefused,
+        Case::BatchBegun,
+        Case::BatchOverTenths,
+        Case::BatchCommitted,
+        Case::BatchMovedTenths,
+        Case::BatchAborted,
+        Case::BatchGivenUp,
+        Case::BatchAgain,
+        Case::BatchWithoutTable,
+        Case::OpenOnBatch,
+        Case::SetOnBatch,
+        Case::OwnOverTenths,
+        Case::ClassesAgain,
+        Case::ClassesOverTenths,
+        Case::ClassesRefused,
         Case::Reselected,
         Case::ReselectedMore,
         Case::Ready,
@@ -96,13 +131,21 @@ impl Case {
 }
 
 /// The steps' names, in the order of their counts.
-pub const STEPS: [&str; 6] = ["host", "send", "deliver", "drop", "switch", "load"];
+pub const STEPS: [&str; 7] = ["host", "send", "deliver", "drop", "switch", "load", "classes"];
 
 /// For each step how often it had each number.
 pub type Numbers = [[usize; number::COUNT]; STEPS.len()];
 
 /// The numbers that each step can have in a run from blank.
-const REACHED: [&[usize]; 6] = [&[0, 1, 3, 4, 5, 6, 7, 8, 10, 11, 13], &[0, 4, 5, 6, 12], &[0, 5, 12], &[0, 5], &[0, 4], &[0, 1, 2, 4, 5]];
+const REACHED: [&[usize]; 7] = [
+    &[0, 1, 3, 4, 5, 6, 7, 8, 9, 10, 11, 13],
+    &[0, 4, 5, 6, 12],
+    &[0, 5, 12],
+    &[0, 5],
+    &[0, 4],
+    &[0, 1, 2, 4, 5],
+    &[0, 1, 4, 5, 6, 10, 14, 15],
+];
 
 /// Which of the steps it is.
 pub fn place(step: &Step) -> usize {
@@ -113,6 +156,7 @@ pub fn place(step: &Step) -> usize {
         Step::Drop { .. } => 3,
         Step::Switch { .. } => 4,
         Step::Load { .. } => 5,
+        Step::LoadClasses { .. } => 6,
     }
 }
 
@@ -122,6 +166,8 @@ pub struct Seen {
     cases: BTreeMap<Case, usize>,
     /// Why a node voted no to a transaction: by owner, serial and node.
     reasons: BTreeMap<(u8, u32, u8), Case>,
+    /// The weights of a node's last batch, as they were lent.
+    batches: BTreeMap<u8, Vec<u8>>,
 }
 
 impl Seen {
@@ -138,14 +184,20 @@ impl Seen {
     /// A new scenario: names of transactions come again.
     pub fn start(&mut self) {
         self.reasons.clear();
+        self.batches.clear();
     }
 
     /// One step, with the station before it.
     pub fn count(&mut self, before: &Station, event: &Event) {
-        let number = event.told.as_ref().err().copied().unwrap_or(0);
+        let number = event.told.as_ref().map_or_else(|number| *number, |told| told.number);
         self.numbers[place(&event.step)][usize::from(number)] += 1;
         self.count_hours(before, &event.step, number);
+        self.count_classes(before, &event.step, number);
         let Ok(told) = &event.told else { return };
+        if told.number != number::OK {
+            self.add(Case::BatchGivenUp);
+            return;
+        }
         match &event.step {
             Step::Host { node, call } => self.count_call(before, *node, call),
             Step::Deliver { at, kept } => {
@@ -164,16 +216,47 @@ impl Seen {
         }
     }
 
+    /// What weight classes had to do with a host's step.
+    fn count_classes(&mut self, before: &Station, step: &Step, number: u8) {
+        let (Step::Host { node, .. } | Step::LoadClasses { node, .. }) = *step else { return };
+        let Some(settings) = before.settings.get(usize::from(node)) else { return };
+        let record = &before.records[usize::from(node)];
+        let waits = before.waiting(usize::from(node)) != [0; CLASSES];
+        let open_batch = settings.kind == kinds::BATCH && record.phase == phase::OPEN;
+        match *step {
+            Step::Host { call: Call::Batch { ref list, .. }, .. } if number == number::OK => {
+                self.add(Case::BatchBegun);
+                self.add_if(waits, Case::BatchOverTenths);
+                let again = self.batches.insert(node, list.clone()).as_ref() == Some(list) && record.outcome == decided::ABORTED;
+                self.add_if(again && settings.kind == kinds::BATCH, Case::BatchAgain);
+            }
+            Step::Host { call: Call::Batch { timestamp, .. }, .. } if number == number::OUT_OF_TURN => {
+                let apart = before.is_on(node) && timestamp > record.timestamp;
+                self.add_if(apart && settings.classes.is_none(), Case::BatchWithoutTable);
+            }
+            Step::Host { call: Call::Begin { .. }, .. } if number == number::OK => self.add_if(waits, Case::OwnOverTenths),
+            Step::Host { call: Call::Open { .. }, .. } if number == number::OUT_OF_TURN => self.add_if(open_batch, Case::OpenOnBatch),
+            Step::Host { call: Call::SetValue { .. }, .. } if number == number::OUT_OF_TURN => self.add_if(open_batch, Case::SetOnBatch),
+            Step::Host { call: Call::Abort, .. } if number == number::OK => self.add_if(settings.kind == kinds::BATCH, Case::BatchAborted),
+            Step::LoadClasses { .. } if number == number::OK => {
+                self.add_if(settings.classes.is_some(), Case::ClassesAgain);
+                self.add_if(waits, Case::ClassesOverTenths);
+            }
+            Step::LoadClasses { .. } => self.add_if(waits, Case::ClassesRefused),
+            _ => {}
+        }
+    }
+
     /// What packing hours had to do with a step.
     fn count_hours(&mut self, before: &Station, step: &Step, number: u8) {
         let (Step::Host { node, .. } | Step::Load { node, .. }) = *step else { return };
-        let Some(Some(table)) = before.hours.get(usize::from(node)) else { return };
+        let Some(Some(table)) = before.settings.get(usize::from(node)).map(|settings| &settings.hours) else { return };
         match *step {
-            Step::Host { call: Call::Begin { minute, .. }, .. } if number == number::OK => {
+            Step::Host { call: Call::Begin { minute, .. } | Call::Batch { minute, .. }, .. } if number == number::OK => {
                 self.add_if(table.windows.iter().any(|window| window.start == minute), Case::BegunFirst);
                 self.add_if(table.windows.iter().any(|window| window.end - 1 == minute), Case::BegunLast);
             }
-            Step::Host { call: Call::Begin { day, minute, .. }, .. } if number == number::CLOSED => {
+            Step::Host { call: Call::Begin { day, minute, .. } | Call::Batch { day, minute, .. }, .. } if number == number::CLOSED => {
                 let open = table.windows.iter().any(|window| window.start <= minute && minute < window.end);
                 self.add(if open { Case::ClosedDate } else { Case::ClosedMinute });
                 let dated = table.dates.contains(&day);
@@ -192,7 +275,7 @@ impl Seen {
     fn count_call(&mut self, before: &Station, node: u8, call: &Call) {
         let record = &before.records[usize::from(node)];
         match call {
-            Call::Begin { .. } => self.add(Case::Begun),
+            Call::Begin { .. } | Call::Batch { .. } => self.add(Case::Begun),
             Call::Reselect { .. } => self.add(Case::Reselected),
             Call::Abort if record.contacted == 0 => self.add(Case::GivenUpAtOnce),
             Call::Abort if record.phase == phase::OPEN => self.add(Case::GivenUpOpen),
@@ -228,7 +311,12 @@ impl Seen {
         self.add_if(answer == Brought::Ready as i64, Case::Ready);
         self.add_if(answer == Brought::Finished as i64, Case::Finished);
         self.add_if(answer == Brought::Nothing as i64 && [2, 4, 6, 7].contains(&message.kind), Case::BroughtNothing);
+        let settings = &before.settings[usize::from(message.to)];
+        let batch = settings.kind == kinds::BATCH && [kind::VOTE, kind::YIELD].contains(&message.kind);
+        self.add_if(batch && answer == Brought::Aborted as i64, Case::BatchAborted);
         if answer == Brought::Committed as i64 {
+            self.add_if(batch, Case::BatchCommitted);
+            self.add_if(batch && settings.waited != settings.left, Case::BatchMovedTenths);
             self.add(Case::Committed);
             self.add_if(record.objects().iter().all(|opened| opened.mode != WRITE), Case::CommittedReading);
             self.add_if(record.rivals.iter().any(|&serial| serial != 0) || !message.rivals.is_empty(), Case::CommittedOverRivals);
@@ -267,7 +355,7 @@ impl Seen {
     pub fn aborts(&self) -> [usize; 3] {
         let sum = |cases: &[Case]| cases.iter().map(|&case| self.of(case)).sum();
         [
-            sum(&[Case::GivenUpOpen, Case::GivenUpVoting, Case::GivenUpAtOnce]),
+            sum(&[Case::GivenUpOpen, Case::GivenUpVoting, Case::GivenUpAtOnce, Case::BatchGivenUp]),
             sum(&[Case::AbortedByHolder, Case::AbortedByVersion, Case::AbortedByOlderRival]),
             sum(&[Case::YieldedOpen, Case::YieldedVoting]),
         ]

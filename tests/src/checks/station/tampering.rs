@@ -70,3 +70,58 @@ pub fn tampering(random: &mut Random) -> Verdict {
     fails("(a)", run.check())?;
     Ok(String::from("(0), (a), (b) and (c)"))
 }
+
+/// A batch of node 3, up to its last vote but one; the steps that are left.
+fn up_to_the_last_vote(run: &mut Run) -> Result<Vec<Step>, String> {
+    let deliver = Step::Deliver { at: 0, kept: false };
+    let begin = Call::Batch { live: ALL, distances: [1, 0].repeat(13), timestamp: 1, day: 0, minute: 0, list: vec![1, 0, 37, 0] };
+    run.take(Step::LoadClasses { node: 3, list: vec![0, 1, OBJECT] })?;
+    run.take(Step::Host { node: 3, call: begin })?;
+    run.take(Step::Send { node: 3, to: 0, object: OBJECT })?;
+    run.take(deliver.clone())?;
+    run.take(deliver.clone())?;
+    run.take(Step::Host { node: 3, call: Call::RequestCommit })?;
+    for to in [0, 1, 2, 4, 5, 7] {
+        run.take(Step::Send { node: 3, to, object: 0 })?;
+        run.take(deliver.clone())?;
+        run.take(deliver.clone())?;
+    }
+    run.take(Step::Send { node: 3, to: 8, object: 0 })?;
+    run.take(deliver.clone())?;
+    Ok(vec![deliver, Step::Switch { node: 9, on: true }])
+}
+
+/// The law of the weights is noticed to fail: tenths that move before the commit, others than it leaves, none at all, and more grams than were weighed.
+pub fn weights() -> Verdict {
+    let changes: [(&str, usize, fn(&mut Run)); 4] = [
+        ("before", 0, |run| run.station.settings[3].waited[0] = 7),
+        ("others", 1, |run| run.station.settings[3].left[0] = 8),
+        ("none", 1, |run| run.station.settings[3].kind = 0),
+        ("after", 2, |run| run.station.settings[3].left[0] = 0),
+    ];
+    for (name, accepted, change) in changes {
+        let mut seen = Seen::default();
+        let mut run = Run::new(ALL, SETUP, &mut seen);
+        let mut steps = up_to_the_last_vote(&mut run)?.into_iter();
+        // Before the last vote, so that it shows at the next step or at the commit; or behind the commit.
+        if accepted == 2 {
+            run.take(steps.next().ok_or("a vote")?)?;
+        }
+        change(&mut run);
+        let step = if accepted == 0 { Step::Switch { node: 9, on: true } } else { steps.next().ok_or("a step")? };
+        fails("(weights)", run.take(step)).map_err(|wrong| format!("{name}: {wrong}"))?;
+    }
+    // More grams than the weights say are no longer what the host wanted.
+    let mut seen = Seen::default();
+    let mut run = Run::new(ALL, SETUP, &mut seen);
+    run.take(Step::LoadClasses { node: 3, list: vec![0, 1, OBJECT] })?;
+    let begin = Call::Batch { live: ALL, distances: [1, 0].repeat(13), timestamp: 1, day: 0, minute: 0, list: vec![1, 0, 37, 0] };
+    run.take(Step::Host { node: 3, call: begin })?;
+    run.take(Step::Send { node: 3, to: 0, object: OBJECT })?;
+    run.take(Step::Deliver { at: 0, kept: false })?;
+    run.take(Step::Deliver { at: 0, kept: false })?;
+    run.station.records[3].opened[0].new = 4;
+    run.take(Step::Host { node: 3, call: Call::RequestCommit })?;
+    fails("(0)", run.take(Step::Send { node: 3, to: 0, object: 0 }))?;
+    Ok(String::from("tenths in four ways, and grams"))
+}

@@ -1,19 +1,28 @@
 //! Lines of scenarios: a step in any of the ways in which it may be written, lines that say nothing, and every kind of damage.
 
+use crate::model::classes::read_weights;
 use crate::model::coordinator::Call;
 use crate::model::message::READ;
 use crate::model::quorum::NODES;
-use crate::model::script::{LINE_NUMBERS, LONGEST};
+use crate::model::script::{LINE_NUMBERS, LIST_NUMBERS, LONGEST};
 use crate::model::station::Step;
 use crate::random::Random;
 
 /// The distances that a line leaves out.
 const ONES: [u16; NODES] = [1; NODES];
 
+/// Thirteen distances of 1, as bytes.
+pub fn ones() -> Vec<u8> {
+    ONES.iter().flat_map(|one| one.to_le_bytes()).collect()
+}
+
 /// The words of a host call; none where its distances are not thirteen.
 fn words_of_call(random: &mut Random, node: u8, call: &Call) -> Option<Vec<String>> {
     let line = match call {
         Call::Begin { live, timestamp, .. } => format!("begin {node} {timestamp} {live}"),
+        // A line has no distances for a batch: each is 1.
+        Call::Batch { live, timestamp, distances, .. } if *distances == ones() => format!("batch {node} {timestamp} {live}"),
+        Call::Batch { .. } => return None,
         Call::Open { object, mode: READ } => format!("read {node} {object}"),
         Call::Open { object, .. } => format!("write {node} {object}"),
         Call::SetValue { object, value } => format!("set {node} {object} {value}"),
@@ -35,11 +44,12 @@ fn words_of_call(random: &mut Random, node: u8, call: &Call) -> Option<Vec<Strin
     Some(words)
 }
 
-/// The words of a step; none where a line cannot say it. A begin's clock and a load's list stand in lines before it.
+/// The words of a step; none where a line cannot say it. The clock of a begin or a batch and the list of a load or a batch stand in lines before it.
 pub fn words_of(random: &mut Random, step: &Step) -> Option<Vec<String>> {
     let line = match step {
         Step::Host { node, call } => return words_of_call(random, *node, call),
         Step::Load { node, .. } => format!("hours {node}"),
+        Step::LoadClasses { node, .. } => format!("classes {node}"),
         Step::Send { node, to, object } => format!("send {node} {to} {object}"),
         Step::Deliver { at, kept: false } => format!("deliver {at}"),
         Step::Deliver { at, kept: true } => format!("keep {at}"),
@@ -50,23 +60,38 @@ pub fn words_of(random: &mut Random, step: &Step) -> Option<Vec<String>> {
     Some(line.split(' ').map(String::from).collect())
 }
 
-/// The numbers of a list that are laid as these bytes; none where no list is.
-pub fn numbers_of(bytes: &[u8]) -> Option<Vec<u32>> {
-    let last_of_windows = 2 * bytes.first().map_or(0, |&count| usize::from(count));
+/// The numbers of bytes that have so many each, by their places; none where they end within one.
+fn numbers_by(bytes: &[u8], width: impl Fn(usize) -> usize) -> Option<Vec<u32>> {
     let (mut numbers, mut rest) = (Vec::new(), bytes);
     while !rest.is_empty() {
-        let place = numbers.len();
-        let width = match place {
-            0 => 1,
-            _ if place <= last_of_windows => 2,
-            _ if place == last_of_windows + 1 => 1,
-            _ => 4,
-        };
-        let (number, behind) = rest.split_at_checked(width)?;
+        let (number, behind) = rest.split_at_checked(width(numbers.len()))?;
         numbers.push(number.iter().rev().fold(0, |sum, &byte| sum << 8 | u32::from(byte)));
         rest = behind;
     }
     Some(numbers)
+}
+
+/// The list of a table of packing hours that is laid as these bytes; none where no list is.
+pub fn hours_of(bytes: &[u8]) -> Option<Vec<u32>> {
+    let last_of_windows = 2 * bytes.first().map_or(0, |&count| usize::from(count));
+    numbers_by(bytes, |place| match place {
+        0 => 1,
+        _ if place <= last_of_windows => 2,
+        _ if place == last_of_windows + 1 => 1,
+        _ => 4,
+    })
+}
+
+/// The same of a table of weight classes.
+pub fn classes_of(bytes: &[u8]) -> Option<Vec<u32>> {
+    let last_of_bounds = bytes.first().map_or(0, |&count| usize::from(count));
+    numbers_by(bytes, |place| if place == 0 || place > last_of_bounds { 1 } else { 2 })
+}
+
+/// The same of a batch, whose count is not in the list; none also where there are more weights than a list has numbers.
+pub fn weights_of(bytes: &[u8]) -> Option<Vec<u32>> {
+    let weights = read_weights(bytes).ok().filter(|weights| weights.len() <= LIST_NUMBERS)?;
+    Some(weights.into_iter().map(u32::from).collect())
 }
 
 /// `list` lines, in words, for some numbers: as many to a line as it may have, or fewer.
@@ -177,7 +202,8 @@ pub const DAMAGES: &[Damage] = &[
         name: "unknown word",
         make: |random, mut words| {
             let other = ["begi", "beginn", "open", "vote", "commit", "none", "x", "blanks", "re", "lost", "found7", "end", "ok", "takes"];
-            let more = ["clocks", "cloc", "lists", "lis", "hour", "hourss", "table", "time"];
+            let more =
+                ["clocks", "cloc", "lists", "lis", "hour", "hourss", "table", "time", "class", "classess", "batc", "batchs", "weigh"];
             words[0] = String::from(*random.pick(&[&other[..], &more[..]].concat()));
             joined(&words)
         },
@@ -246,7 +272,8 @@ pub const DAMAGES: &[Damage] = &[
             let lines = ["on 256", "off 260", "deliver 256", "keep 300", "drop 512", "read 256 1", "read 4 256", "write 4 263", "ask 260"];
             let more =
                 ["abort 65540", "send 4 256 7", "send 4 0 263", "found 4 4294967303", "set 4 263 1", "set 260 7 1", "reselect 260 8191"];
-            instead(random, &[&lines[..], &more[..], &["begin 260 1 8191", "hours 256", "hours 260"]].concat())
+            let tables = ["begin 260 1 8191", "hours 256", "hours 260", "classes 256", "classes 260", "batch 260 1 8191"];
+            instead(random, &[&lines[..], &more[..], &tables[..]].concat())
         },
     },
     Damage {
@@ -254,13 +281,13 @@ pub const DAMAGES: &[Damage] = &[
         make: |random, _| {
             let lines =
                 ["blank 65536", "blank 73727", "begin 4 1 65536", "begin 4 1 73727", "reselect 4 73727", "clock 0 65536", "clock 7 75615"];
-            instead(random, &lines)
+            instead(random, &[&lines[..], &["batch 4 1 65536", "batch 4 1 73727"]].concat())
         },
     },
     Damage {
         name: "above 32 bits",
         make: |random, _| {
-            let begins = ["begin 4 4294967296 8191", "begin 4 4294967300 8191"];
+            let begins = ["begin 4 4294967296 8191", "begin 4 4294967300 8191", "batch 4 4294967296 8191"];
             instead(random, &[&begins[..], &["clock 4294967296 0", "list 4294967296", "list 0 0 4294967297", "list 8589934592 0"]].concat())
         },
     },
@@ -271,6 +298,14 @@ pub const DAMAGES: &[Damage] = &[
     Damage {
         name: "a clock without its minute",
         make: |random, _| instead(random, &["clock", "clock 9", "clock 9 600 1", "clock 9 6 0 0"]),
+    },
+    Damage {
+        name: "a batch or classes with other numbers",
+        make: |random, _| {
+            let lines = ["batch 4 1", "batch 4", "batch 4 1 8191 37", "classes", "classes 4 0 1 7", "classes 4 4"];
+            let distances = format!("batch 4 1 8191{}", " 1".repeat(NODES));
+            instead(random, &[&lines[..], &[&distances]].concat())
+        },
     },
     Damage {
         name: "above 64 bits with a sign",
@@ -284,7 +319,8 @@ pub const DAMAGES: &[Damage] = &[
         name: "negative where none may be",
         make: |random, _| {
             let lines = ["ask -1", "on -4", "blank -1", "begin 4 -1 8191", "begin 4 1 -1", "send 4 -1 7", "deliver -1", "set 4 -7 1"];
-            instead(random, &[&lines[..], &["clock -1 0", "clock 0 -1", "list -1", "list 1 0 10080 -1", "hours -4"]].concat())
+            let more = ["clock -1 0", "clock 0 -1", "list -1", "list 1 0 10080 -1", "hours -4", "classes -4", "batch 4 -1 8191"];
+            instead(random, &[&lines[..], &more[..]].concat())
         },
     },
     Damage {

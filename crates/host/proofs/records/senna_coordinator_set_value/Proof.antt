@@ -3,13 +3,12 @@ use mathlib.Core.Path.{_≡_, ap, _∙_}
 use lib.IntN.{ℤ}
 use mir.Syntax.{w64}
 use mir.Val.{toZ, ofZ}
-use Rattle.octets.specs.Signed.{bitsOf}
 use Prim.Native.Nat.{ℕ}
 use denote.Ref.{now}
-use Rattle.coordinator.specs.declared.Coordinator.{Coordinator}
-use Rattle.coordinator.specs.declared.Step.{Step}
-use Rattle.coordinator.specs.Calls.{setOf}
-use Rattle.record.specs.Call.{calledOf, recordAfter}
+use Rattle.octets.specs.Signed.{bitsOf}
+use Rattle.increments.specs.Deeds.{values}
+use Rattle.frontend.specs.Plan.{edit, frontTold, frontRecord}
+use Rattle.frontend.specs.Plan.{Call as Front}
 use borrow.Author.Needs.{needs}
 use Rattle.host.proofs.records.senna_coordinator_set_value.Statement.{statement}
 use Rattle.host.proofs.records.senna_coordinator_set_value.Tie as tie
@@ -25,13 +24,15 @@ same-length c = search needs
 
 returns : tie.Need-returns
 returns c =
-    let x = c .before .before .before .before .before .before .args in
+    let c3 = c .before .before .before in
+    let x = c3 .before .before .before .before .args in
     let l = now (x .bytes) in
-    let s : ℕ → Coordinator → Step = λ v k. setOf k (x .me) (x .object) v in
+    let s = now (x .settings) in
+    let f : ℕ → Front = λ v. edit (values (x .object) v) in
     let back : toZ w64 (ofZ w64 (x .value)) ≡ x .value = search needs in
-    let d = ap s (c .before .before .before .bits .ensures ∙ ap (λ (z : ℤ). bitsOf z) back) in
+    let p = ap f (c3 .bits .ensures ∙ ap (λ (z : ℤ). bitsOf z) back) in
     let w = c .before .before .set-value .ensures in
-    (w .0 ∙ ap (λ (f : Coordinator → Step). calledOf f l) d, w .1 ∙ ap (λ (f : Coordinator → Step). recordAfter f l) d)
+    (w .0 ∙ ap (frontTold l s (x .me)) p, w .1 ∙ ap (frontRecord l s (x .me)) p)
 
 pub senna-coordinator-set-value-spec : {M : Type 1} → statement M
 senna-coordinator-set-value-spec =

@@ -35,26 +35,32 @@ number-requires-3 c κs = search needs
 enum-told-4 : tie.Need-enum-told-4
 enum-told-4 c = search needs
 
+slice-aggregate-number-4 : tie.Need-slice-aggregate-number-4
+slice-aggregate-number-4 c = search needs
+
+number-requires-4 : tie.Need-number-requires-4
+number-requires-4 c κs = search needs
+
+enum-told-5 : tie.Need-enum-told-5
+enum-told-5 c = search needs
+
 slice-aggregate-value : tie.Need-slice-aggregate-value
 slice-aggregate-value c = search needs
 
 value-requires : tie.Need-value-requires
 value-requires c κs = search needs
 
-enum-told-5 : tie.Need-enum-told-5
-enum-told-5 c = search needs
+enum-told-6 : tie.Need-enum-told-6
+enum-told-6 c = search needs
 
 brought-requires : tie.Need-brought-requires
 brought-requires c κs = search needs
 
-enum-told-6 : tie.Need-enum-told-6
-enum-told-6 c = search needs
+enum-told-7 : tie.Need-enum-told-7
+enum-told-7 c = search needs
 
 brought-requires-2 : tie.Need-brought-requires-2
 brought-requires-2 c κs = search needs
-
-enum-told-7 : tie.Need-enum-told-7
-enum-told-7 c = search needs
 
 enum-told-8 : tie.Need-enum-told-8
 enum-told-8 c = search needs
@@ -73,6 +79,12 @@ enum-told-12 c = search needs
 
 enum-told-13 : tie.Need-enum-told-13
 enum-told-13 c = search needs
+
+enum-told-14 : tie.Need-enum-told-14
+enum-told-14 c = search needs
+
+enum-told-15 : tie.Need-enum-told-15
+enum-told-15 c = search needs
 
 same-length : tie.Need-same-length
 same-length c = search needs
@@ -100,25 +112,28 @@ same-length-4 c = search needs
 
 returns-4 : tie.Need-returns-4
 unfolding answerTexts inks
-returns-4 c = simp (c .before .before .before .before .before .enum-told4 .given .1) (c .before .before .value .ensures)
+returns-4 c = simp (c .before .before .before .before .before .enum-told4 .given .1) (c .before .before .number4 .ensures)
 
 same-length-5 : tie.Need-same-length-5
 same-length-5 c = search needs
 
 returns-5 : tie.Need-returns-5
 unfolding answerTexts inks
-returns-5 c = simp (c .before .before .before .before .enum-told5 .given .1) (c .before .before .brought .ensures)
+returns-5 c = simp (c .before .before .before .before .before .enum-told5 .given .1) (c .before .before .value .ensures)
 
 same-length-6 : tie.Need-same-length-6
 same-length-6 c = search needs
 
 returns-6 : tie.Need-returns-6
 unfolding answerTexts inks
-returns-6 c = simp (c .before .before .before .before .enum-told6 .given .1) (c .before .before .brought2 .ensures)
+returns-6 c = simp (c .before .before .before .before .enum-told6 .given .1) (c .before .before .brought .ensures)
+
+same-length-7 : tie.Need-same-length-7
+same-length-7 c = search needs
 
 returns-7 : tie.Need-returns-7
 unfolding answerTexts inks
-returns-7 c = simp (c .enum-told7 .given .1)
+returns-7 c = simp (c .before .before .before .before .enum-told7 .given .1) (c .before .before .brought2 .ensures)
 
 returns-8 : tie.Need-returns-8
 unfolding answerTexts inks
@@ -144,6 +159,14 @@ returns-13 : tie.Need-returns-13
 unfolding answerTexts inks
 returns-13 c = simp (c .enum-told13 .given .1)
 
+returns-14 : tie.Need-returns-14
+unfolding answerTexts inks
+returns-14 c = simp (c .enum-told14 .given .1)
+
+returns-15 : tie.Need-returns-15
+unfolding answerTexts inks
+returns-15 c = simp (c .enum-told15 .given .1)
+
 pub answer-spec : {M : Type 1} → statement M
 answer-spec =
     tie.close
@@ -158,19 +181,23 @@ answer-spec =
     slice-aggregate-number-3
     number-requires-3
     enum-told-4
+    slice-aggregate-number-4
+    number-requires-4
+    enum-told-5
     slice-aggregate-value
     value-requires
-    enum-told-5
-    brought-requires
     enum-told-6
-    brought-requires-2
+    brought-requires
     enum-told-7
+    brought-requires-2
     enum-told-8
     enum-told-9
     enum-told-10
     enum-told-11
     enum-told-12
     enum-told-13
+    enum-told-14
+    enum-told-15
     same-length
     returns
     same-length-2
@@ -183,10 +210,13 @@ answer-spec =
     returns-5
     same-length-6
     returns-6
+    same-length-7
     returns-7
     returns-8
     returns-9
     returns-10
     returns-11
     returns-12
-    returns-13)
+    returns-13
+    returns-14
+    returns-15)

@@ -56,6 +56,12 @@ enum-told-12 c = search needs
 enum-told-13 : tie.Need-enum-told-13
 enum-told-13 c = search needs
 
+enum-told-14 : tie.Need-enum-told-14
+enum-told-14 c = search needs
+
+enum-told-15 : tie.Need-enum-told-15
+enum-told-15 c = search needs
+
 same-length : tie.Need-same-length
 same-length c = search needs
 
@@ -114,6 +120,14 @@ returns-13 : tie.Need-returns-13
 unfolding namedTexts inks
 returns-13 c = simp (c .enum-told13 .given .1)
 
+returns-14 : tie.Need-returns-14
+unfolding namedTexts inks
+returns-14 c = simp (c .enum-told14 .given .1)
+
+returns-15 : tie.Need-returns-15
+unfolding namedTexts inks
+returns-15 c = simp (c .enum-told15 .given .1)
+
 pub named-spec : {M : Type 1} → statement M
 named-spec =
     tie.close
@@ -135,6 +149,8 @@ named-spec =
     enum-told-11
     enum-told-12
     enum-told-13
+    enum-told-14
+    enum-told-15
     same-length
     returns
     same-length-2
@@ -149,4 +165,6 @@ named-spec =
     returns-10
     returns-11
     returns-12
-    returns-13)
+    returns-13
+    returns-14
+    returns-15)

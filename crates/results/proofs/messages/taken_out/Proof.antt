@@ -47,6 +47,12 @@ enum-told-12 c = search needs
 enum-told-13 : tie.Need-enum-told-13
 enum-told-13 c = search needs
 
+enum-told-14 : tie.Need-enum-told-14
+enum-told-14 c = search needs
+
+enum-told-15 : tie.Need-enum-told-15
+enum-told-15 c = search needs
+
 returns-2 : tie.Need-returns-2
 unfolding takenOut
 returns-2 c = simp (c .before .enum-told .given .1, c .if1 .left)
@@ -99,6 +105,14 @@ returns-14 : tie.Need-returns-14
 unfolding takenOut
 returns-14 c = simp (c .enum-told13 .given .1)
 
+returns-15 : tie.Need-returns-15
+unfolding takenOut
+returns-15 c = simp (c .enum-told14 .given .1)
+
+returns-16 : tie.Need-returns-16
+unfolding takenOut
+returns-16 c = simp (c .enum-told15 .given .1)
+
 pub taken-out-spec : {M : Type 1} → statement M
 taken-out-spec =
     tie.close
@@ -117,6 +131,8 @@ taken-out-spec =
     enum-told-11
     enum-told-12
     enum-told-13
+    enum-told-14
+    enum-told-15
     returns-2
     returns-3
     returns-4
@@ -129,4 +145,6 @@ taken-out-spec =
     returns-11
     returns-12
     returns-13
-    returns-14)
+    returns-14
+    returns-15
+    returns-16)

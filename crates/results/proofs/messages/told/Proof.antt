@@ -14,29 +14,32 @@ begun-requires c κs = search needs
 enum-told-2 : tie.Need-enum-told-2
 enum-told-2 c = search needs
 
-opened-requires : tie.Need-opened-requires
-opened-requires c κs = search needs
+begun-requires-2 : tie.Need-begun-requires-2
+begun-requires-2 c κs = search needs
 
 enum-told-3 : tie.Need-enum-told-3
 enum-told-3 c = search needs
 
-opened-requires-2 : tie.Need-opened-requires-2
-opened-requires-2 c κs = search needs
+opened-requires : tie.Need-opened-requires
+opened-requires c κs = search needs
 
 enum-told-4 : tie.Need-enum-told-4
 enum-told-4 c = search needs
 
-valued-requires : tie.Need-valued-requires
-valued-requires c κs = search needs
+opened-requires-2 : tie.Need-opened-requires-2
+opened-requires-2 c κs = search needs
 
 enum-told-5 : tie.Need-enum-told-5
 enum-told-5 c = search needs
 
-committed-requires : tie.Need-committed-requires
-committed-requires c κs = search needs
+valued-requires : tie.Need-valued-requires
+valued-requires c κs = search needs
 
 enum-told-6 : tie.Need-enum-told-6
 enum-told-6 c = search needs
+
+committed-requires : tie.Need-committed-requires
+committed-requires c κs = search needs
 
 enum-told-7 : tie.Need-enum-told-7
 enum-told-7 c = search needs
@@ -59,6 +62,12 @@ enum-told-12 c = search needs
 enum-told-13 : tie.Need-enum-told-13
 enum-told-13 c = search needs
 
+enum-told-14 : tie.Need-enum-told-14
+enum-told-14 c = search needs
+
+enum-told-15 : tie.Need-enum-told-15
+enum-told-15 c = search needs
+
 same-length : tie.Need-same-length
 same-length c = search needs
 
@@ -71,38 +80,41 @@ same-length-2 c = search needs
 
 returns-2 : tie.Need-returns-2
 unfolding sheetTold
-returns-2 c = simp (c .before .before .before .before .enum-told2 .given .1) (c .before .before .opened .ensures .1)
+returns-2 c = simp (c .before .before .before .before .enum-told2 .given .1) (c .before .before .begun2 .ensures .1)
 
 same-length-3 : tie.Need-same-length-3
 same-length-3 c = search needs
 
 returns-3 : tie.Need-returns-3
 unfolding sheetTold
-returns-3 c = simp (c .before .before .before .before .enum-told3 .given .1) (c .before .before .opened2 .ensures .1)
+returns-3 c = simp (c .before .before .before .before .enum-told3 .given .1) (c .before .before .opened .ensures .1)
 
 same-length-4 : tie.Need-same-length-4
 same-length-4 c = search needs
 
 returns-4 : tie.Need-returns-4
 unfolding sheetTold
-returns-4 c = simp (c .before .before .before .before .enum-told4 .given .1) (c .before .before .valued .ensures .1)
+returns-4 c = simp (c .before .before .before .before .enum-told4 .given .1) (c .before .before .opened2 .ensures .1)
 
 same-length-5 : tie.Need-same-length-5
 same-length-5 c = search needs
 
 returns-5 : tie.Need-returns-5
 unfolding sheetTold
-returns-5 c =
-    simp (c .before .before .before .before .before .enum-told5 .given .1, eq-eqb _ _ (c .before .before .before .before .if1 .taken))
-    (c .before .before .committed .ensures .1)
+returns-5 c = simp (c .before .before .before .before .enum-told5 .given .1) (c .before .before .valued .ensures .1)
+
+same-length-6 : tie.Need-same-length-6
+same-length-6 c = search needs
 
 returns-6 : tie.Need-returns-6
 unfolding sheetTold
-returns-6 c = simp (c .before .enum-told5 .given .1, ne-eqb _ _ (c .if1 .left))
+returns-6 c =
+    simp (c .before .before .before .before .before .enum-told6 .given .1, eq-eqb _ _ (c .before .before .before .before .if1 .taken))
+    (c .before .before .committed .ensures .1)
 
 returns-7 : tie.Need-returns-7
 unfolding sheetTold
-returns-7 c = simp (c .enum-told6 .given .1)
+returns-7 c = simp (c .before .enum-told6 .given .1, ne-eqb _ _ (c .if1 .left))
 
 returns-8 : tie.Need-returns-8
 unfolding sheetTold
@@ -132,6 +144,14 @@ returns-14 : tie.Need-returns-14
 unfolding sheetTold
 returns-14 c = simp (c .enum-told13 .given .1)
 
+returns-15 : tie.Need-returns-15
+unfolding sheetTold
+returns-15 c = simp (c .enum-told14 .given .1)
+
+returns-16 : tie.Need-returns-16
+unfolding sheetTold
+returns-16 c = simp (c .enum-told15 .given .1)
+
 pub told-spec : {M : Type 1} → statement M
 told-spec =
     tie.close
@@ -139,14 +159,15 @@ told-spec =
     enum-told
     begun-requires
     enum-told-2
-    opened-requires
+    begun-requires-2
     enum-told-3
-    opened-requires-2
+    opened-requires
     enum-told-4
-    valued-requires
+    opened-requires-2
     enum-told-5
-    committed-requires
+    valued-requires
     enum-told-6
+    committed-requires
     enum-told-7
     enum-told-8
     enum-told-9
@@ -154,6 +175,8 @@ told-spec =
     enum-told-11
     enum-told-12
     enum-told-13
+    enum-told-14
+    enum-told-15
     same-length
     returns
     same-length-2
@@ -164,6 +187,7 @@ told-spec =
     returns-4
     same-length-5
     returns-5
+    same-length-6
     returns-6
     returns-7
     returns-8
@@ -172,4 +196,6 @@ told-spec =
     returns-11
     returns-12
     returns-13
-    returns-14)
+    returns-14
+    returns-15
+    returns-16)

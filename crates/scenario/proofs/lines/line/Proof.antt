@@ -9,12 +9,13 @@ use Rattle.runs.specs.Order.{callOf}
 use Rattle.runs.specs.Left.{leftOf}
 use Rattle.script.specs.declared.Parsed.{Parsed}
 use Rattle.script.specs.Parse.{parsed}
-use Rattle.scenario.specs.declared.Reader.{Reader}
-use Rattle.scenario.specs.Reading.{next}
-use Rattle.scenario.specs.Steps.{stepTexts, stepSheet}
-use Rattle.scenario.specs.Lines.{echoTexts, complaintTexts, hoursBuffers, hoursSheet, hoursTexts, readerWays, buffersWays, listWays}
+use Rattle.reading.specs.declared.Reader.{Reader}
+use Rattle.reading.specs.Reading.{next}
+use Rattle.performing.specs.Steps.{stepTexts, stepSheet}
+use Rattle.reading.specs.Notes.{echoTexts, complaintTexts}
+use Rattle.scenario.specs.Lines.{laidReader, laidBuffers, laidSheet, laidTexts, readerWays, buffersWays, listWays}
 use Rattle.scenario.specs.Lines.{sheetWays, textsWays, lineReader, lineBuffers, lineList, lineSheet, lineTexts}
-use Rattle.scenario.proofs.Ended.{by-blank, by-step, by-clock, by-list, by-hours, by-other}
+use Rattle.scenario.proofs.Ended.{by-blank, by-step, by-clock, by-list, by-laid, by-other}
 use borrow.Author.Needs.{needs}
 use Rattle.scenario.proofs.lines.line.Statement.{statement}
 use Rattle.scenario.proofs.lines.line.Tie as tie
@@ -223,8 +224,8 @@ returns-4 c =
       ),
     )
 
-hours-requires : tie.Need-hours-requires
-hours-requires c κs = search needs
+laid-requires : tie.Need-laid-requires
+laid-requires c κs = search needs
 
 same-length-18 : tie.Need-same-length-18
 same-length-18 c = search needs
@@ -270,17 +271,17 @@ returns-5 c =
     let q = parsed (r .said) in
     let e = c30 .before .before .before .before .before .parse .ensures in
     let f = c18 .before .before .before .before .before .if5 .taken in
-    let a = c12 .before .before .hours .ensures in
+    let a = c12 .before .before .laid .ensures in
     let t = c30 .before .before .before .timed .ensures in (
-      a .0 ∙ by-hours (readerWays r l) p q e f,
+      a .0 ∙ ap (laidReader r l) t ∙ by-laid (readerWays r l) p q e f,
       (
-        a .1 .0 ∙ ap (hoursBuffers r l b) t ∙ by-hours (buffersWays r l b) p q e f,
+        a .1 .0 ∙ ap (laidBuffers r l b) t ∙ by-laid (buffersWays r l b) p q e f,
         (
-          by-hours (listWays r l) p q e f,
+          by-laid (listWays r l) p q e f,
           (
-            a .1 .1 .0 ∙ ap (hoursSheet r l b s) t ∙ by-hours (sheetWays r l b s) p q e f,
-            a .1 .1 .1 ∙ ap (λ (o : Order). inks u (hoursTexts r l b o)) t
-                ∙ ap (inks u) (by-hours (textsWays r l b s (q .what)) p q e f),
+            a .1 .1 .0 ∙ ap (laidSheet r l b s) t ∙ by-laid (sheetWays r l b s) p q e f,
+            a .1 .1 .1 ∙ ap (λ (o : Order). inks u (laidTexts r l b o)) t
+                ∙ ap (inks u) (by-laid (textsWays r l b s (q .what)) p q e f),
           ),
         ),
       ),
@@ -361,7 +362,7 @@ line-spec =
     same-length-16
     same-length-17
     returns-4
-    hours-requires
+    laid-requires
     same-length-18
     same-length-19
     same-length-20

@@ -2,8 +2,8 @@
 use denote.Ref.{now}
 use Rattle.report.specs.Page.{page, behind}
 use Rattle.service_calls.specs.Lent.{lent}
-use Rattle.scenario.specs.Steps.{stepTexts}
-use Rattle.scenario.specs.Lines.{echoTexts}
+use Rattle.performing.specs.Steps.{stepTexts}
+use Rattle.reading.specs.Notes.{echoTexts}
 use borrow.Author.Needs.{needs}
 use Rattle.scenario.proofs.lines.stepped.Statement.{statement}
 use Rattle.scenario.proofs.lines.stepped.Tie as tie

@@ -49,6 +49,12 @@ either-requires-13 c κs = search needs
 either-requires-14 : tie.Need-either-requires-14
 either-requires-14 c κs = search needs
 
+either-requires-15 : tie.Need-either-requires-15
+either-requires-15 c κs = search needs
+
+either-requires-16 : tie.Need-either-requires-16
+either-requires-16 c κs = search needs
+
 choose-requires : tie.Need-choose-requires
 choose-requires c κs = search needs
 
@@ -63,7 +69,7 @@ unfolding arity hasThree hasTwo hasOne
 returns c =
     let c6 = c .before .before .before .before .before .before in
     let c12 = c6 .before .before .before .before .before .before in
-    let w = c12 .before .before .before .before .before .args .w in
+    let w = c12 .before .before .before .before .before .before .before .args .w in
     let e : c .choose3 .result ≡ arity w = cc in
     (e, omega (arith, e, arity-small w))
 
@@ -85,6 +91,8 @@ arity-spec =
     either-requires-12
     either-requires-13
     either-requires-14
+    either-requires-15
+    either-requires-16
     choose-requires
     choose-requires-2
     choose-requires-3

@@ -118,29 +118,28 @@ returns-11 c = simp (
   ne-eqb _ _ (c .before .before .before .before .before .before .before .before .before .before .if1 .left),
 )
 
-either-requires : tie.Need-either-requires
-either-requires c κs = search needs
-
 returns-12 : tie.Need-returns-12
 unfolding kindOf
 returns-12 c = simp (
-  ne-eqb _ _ (c .before .before .if11 .left),
-  ne-eqb _ _ (c .before .before .before .if10 .left),
-  ne-eqb _ _ (c .before .before .before .before .if9 .left),
-  ne-eqb _ _ (c .before .before .before .before .before .if8 .left),
-  ne-eqb _ _ (c .before .before .before .before .before .before .if7 .left),
-  ne-eqb _ _ (c .before .before .before .before .before .before .before .if6 .left),
-  ne-eqb _ _ (c .before .before .before .before .before .before .before .before .if5 .left),
-  ne-eqb _ _ (c .before .before .before .before .before .before .before .before .before .if4 .left),
-  ne-eqb _ _ (c .before .before .before .before .before .before .before .before .before .before .if3 .left),
-  ne-eqb _ _ (c .before .before .before .before .before .before .before .before .before .before .before .if2 .left),
-  ne-eqb _ _ (c .before .before .before .before .before .before .before .before .before .before .before .before .if1 .left),
-  sym (c .before .either .ensures) ∙ c .if12 .taken,
+  eq-eqb _ _ (c .if12 .taken),
+  ne-eqb _ _ (c .before .if11 .left),
+  ne-eqb _ _ (c .before .before .if10 .left),
+  ne-eqb _ _ (c .before .before .before .if9 .left),
+  ne-eqb _ _ (c .before .before .before .before .if8 .left),
+  ne-eqb _ _ (c .before .before .before .before .before .if7 .left),
+  ne-eqb _ _ (c .before .before .before .before .before .before .if6 .left),
+  ne-eqb _ _ (c .before .before .before .before .before .before .before .if5 .left),
+  ne-eqb _ _ (c .before .before .before .before .before .before .before .before .if4 .left),
+  ne-eqb _ _ (c .before .before .before .before .before .before .before .before .before .if3 .left),
+  ne-eqb _ _ (c .before .before .before .before .before .before .before .before .before .before .if2 .left),
+  ne-eqb _ _ (c .before .before .before .before .before .before .before .before .before .before .before .if1 .left),
 )
 
 returns-13 : tie.Need-returns-13
 unfolding kindOf
 returns-13 c = simp (
+  eq-eqb _ _ (c .if13 .taken),
+  ne-eqb _ _ (c .before .if12 .left),
   ne-eqb _ _ (c .before .before .if11 .left),
   ne-eqb _ _ (c .before .before .before .if10 .left),
   ne-eqb _ _ (c .before .before .before .before .if9 .left),
@@ -152,7 +151,47 @@ returns-13 c = simp (
   ne-eqb _ _ (c .before .before .before .before .before .before .before .before .before .before .if3 .left),
   ne-eqb _ _ (c .before .before .before .before .before .before .before .before .before .before .before .if2 .left),
   ne-eqb _ _ (c .before .before .before .before .before .before .before .before .before .before .before .before .if1 .left),
-  sym (c .before .either .ensures) ∙ c .if12 .left,
+)
+
+either-requires : tie.Need-either-requires
+either-requires c κs = search needs
+
+returns-14 : tie.Need-returns-14
+unfolding kindOf
+returns-14 c = simp (
+  ne-eqb _ _ (c .before .before .if13 .left),
+  ne-eqb _ _ (c .before .before .before .if12 .left),
+  ne-eqb _ _ (c .before .before .before .before .if11 .left),
+  ne-eqb _ _ (c .before .before .before .before .before .if10 .left),
+  ne-eqb _ _ (c .before .before .before .before .before .before .if9 .left),
+  ne-eqb _ _ (c .before .before .before .before .before .before .before .if8 .left),
+  ne-eqb _ _ (c .before .before .before .before .before .before .before .before .if7 .left),
+  ne-eqb _ _ (c .before .before .before .before .before .before .before .before .before .if6 .left),
+  ne-eqb _ _ (c .before .before .before .before .before .before .before .before .before .before .if5 .left),
+  ne-eqb _ _ (c .before .before .before .before .before .before .before .before .before .before .before .if4 .left),
+  ne-eqb _ _ (c .before .before .before .before .before .before .before .before .before .before .before .before .if3 .left),
+  ne-eqb _ _ (c .before .before .before .before .before .before .before .before .before .before .before .before .before .if2 .left),
+  ne-eqb _ _ (c .before .before .before .before .before .before .before .before .before .before .before .before .before .before .if1 .left),
+  sym (c .before .either .ensures) ∙ c .if14 .taken,
+)
+
+returns-15 : tie.Need-returns-15
+unfolding kindOf
+returns-15 c = simp (
+  ne-eqb _ _ (c .before .before .if13 .left),
+  ne-eqb _ _ (c .before .before .before .if12 .left),
+  ne-eqb _ _ (c .before .before .before .before .if11 .left),
+  ne-eqb _ _ (c .before .before .before .before .before .if10 .left),
+  ne-eqb _ _ (c .before .before .before .before .before .before .if9 .left),
+  ne-eqb _ _ (c .before .before .before .before .before .before .before .if8 .left),
+  ne-eqb _ _ (c .before .before .before .before .before .before .before .before .if7 .left),
+  ne-eqb _ _ (c .before .before .before .before .before .before .before .before .before .if6 .left),
+  ne-eqb _ _ (c .before .before .before .before .before .before .before .before .before .before .if5 .left),
+  ne-eqb _ _ (c .before .before .before .before .before .before .before .before .before .before .before .if4 .left),
+  ne-eqb _ _ (c .before .before .before .before .before .before .before .before .before .before .before .before .if3 .left),
+  ne-eqb _ _ (c .before .before .before .before .before .before .before .before .before .before .before .before .before .if2 .left),
+  ne-eqb _ _ (c .before .before .before .before .before .before .before .before .before .before .before .before .before .before .if1 .left),
+  sym (c .before .either .ensures) ∙ c .if14 .left,
 )
 
 pub kind-of-spec : {M : Type 1} → statement M
@@ -170,6 +209,8 @@ kind-of-spec =
     returns-9
     returns-10
     returns-11
-    either-requires
     returns-12
-    returns-13)
+    returns-13
+    either-requires
+    returns-14
+    returns-15)

@@ -51,7 +51,22 @@ low16-requires c κs = search needs
 
 returns : tie.Need-returns
 unfolding orderOf
-returns c = cc
+returns c =
+    let c6 = c .before .before .before .before .before .before in
+    simp (
+      c6 .before .before .before .before .before .kind-of .ensures,
+      c6 .before .before .before .before .with-of .ensures,
+      c6 .before .before .before .low8 .ensures,
+      c6 .before .before .low82 .ensures,
+      c6 .before .choose .ensures,
+      c6 .low83 .ensures,
+      c .before .before .before .before .before .low84 .ensures,
+      c .before .before .before .before .either .ensures,
+      c .before .before .before .choose2 .ensures,
+      c .before .before .low32 .ensures,
+      c .before .choose3 .ensures,
+      c .low16 .ensures,
+    )
 
 pub order-of-spec : {M : Type 1} → statement M
 order-of-spec =

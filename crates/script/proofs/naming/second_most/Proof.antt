@@ -7,6 +7,9 @@ use Rattle.script.proofs.naming.second_most.Tie as tie
 either-requires : tie.Need-either-requires
 either-requires c κs = search needs
 
+either-requires-2 : tie.Need-either-requires-2
+either-requires-2 c κs = search needs
+
 choose-requires : tie.Need-choose-requires
 choose-requires c κs = search needs
 
@@ -18,4 +21,4 @@ unfolding secondMost
 returns c = cc
 
 pub second-most-spec : {M : Type 1} → statement M
-second-most-spec = tie.close (tie.spec either-requires choose-requires choose-requires-2 returns)
+second-most-spec = tie.close (tie.spec either-requires either-requires-2 choose-requires choose-requires-2 returns)

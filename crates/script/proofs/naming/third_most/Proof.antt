@@ -4,6 +4,9 @@ use borrow.Author.Needs.{needs}
 use Rattle.script.proofs.naming.third_most.Statement.{statement}
 use Rattle.script.proofs.naming.third_most.Tie as tie
 
+either-requires : tie.Need-either-requires
+either-requires c κs = search needs
+
 choose-requires : tie.Need-choose-requires
 choose-requires c κs = search needs
 
@@ -15,4 +18,4 @@ unfolding thirdMost
 returns c = cc
 
 pub third-most-spec : {M : Type 1} → statement M
-third-most-spec = tie.close (tie.spec choose-requires choose-requires-2 returns)
+third-most-spec = tie.close (tie.spec either-requires choose-requires choose-requires-2 returns)

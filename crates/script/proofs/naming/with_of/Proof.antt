@@ -16,6 +16,9 @@ element-copy-out-c c = search needs
 distances-of-requires : tie.Need-distances-of-requires
 distances-of-requires c κs = search needs
 
+either-requires : tie.Need-either-requires
+either-requires c κs = search needs
+
 choose-requires : tie.Need-choose-requires
 choose-requires c κs = search needs
 
@@ -40,6 +43,7 @@ with-of-spec =
     element-copy-out-b
     element-copy-out-c
     distances-of-requires
+    either-requires
     choose-requires
     choose-requires-2
     low16-requires

@@ -1,0 +1,2 @@
+-- A step with what is printed for it, and what replay is told (Steps).
+pub mod Steps

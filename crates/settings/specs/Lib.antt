@@ -1,0 +1,2 @@
+-- A node's settings (Settings).
+pub mod Settings

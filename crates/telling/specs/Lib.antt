@@ -1,0 +1,2 @@
+-- What replay is told of a batch, from its record (Telling).
+pub mod Telling
