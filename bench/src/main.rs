@@ -1,6 +1,6 @@
 //! Speed, measured: the compiled library against the same rules in Rust written for speed.
 //!
-//! Usage: bench [--check] [--save PATH] [--only WORDS] [--rounds K] [--seed S] [--list] [--once LIBRARY]
+//! Usage: bench [--check] [--save PATH] [--only WORDS] [--rounds K] [--seed S] [--list] [--stack] [--once LIBRARY]
 
 #![deny(unsafe_code)]
 
@@ -14,6 +14,8 @@ mod product;
 mod random;
 mod report;
 mod scenes;
+#[allow(unsafe_code)]
+mod stack;
 mod stage;
 mod station;
 mod timing;
@@ -25,7 +27,7 @@ use report::Report;
 use std::hint::black_box;
 use std::process::ExitCode;
 
-const USAGE: &str = "usage: bench [--check] [--save PATH] [--only WORDS] [--rounds K] [--seed S] [--list] [--once LIBRARY]";
+const USAGE: &str = "usage: bench [--check] [--save PATH] [--only WORDS] [--rounds K] [--seed S] [--list] [--stack] [--once LIBRARY]";
 
 /// What is wanted.
 struct Options {
@@ -38,17 +40,20 @@ struct Options {
     save: Option<String>,
     /// Only the operations' names.
     list: bool,
+    /// Only the stack that each operation of the library needs.
+    stack: bool,
     /// Each operation once, with the `product` or the `rust` library, for a count of its instructions.
     once: Option<String>,
 }
 
 fn options() -> Option<Options> {
-    let mut options = Options { check: false, only: String::new(), rounds: 501, seed: 7, save: None, list: false, once: None };
+    let mut options = Options { check: false, only: String::new(), rounds: 501, seed: 7, save: None, list: false, stack: false, once: None };
     let mut words = std::env::args().skip(1);
     while let Some(word) = words.next() {
         match word.as_str() {
             "--check" => options.check = true,
             "--list" => options.list = true,
+            "--stack" => options.stack = true,
             "--only" => options.only = words.next()?,
             "--save" => options.save = Some(words.next()?),
             "--once" => options.once = Some(words.next().filter(|library| library == "product" || library == "rust")?),
@@ -132,6 +137,10 @@ fn main() -> ExitCode {
     };
     if options.list {
         wanted(&options.only).iter().for_each(|op| println!("{}", op.title()));
+        return ExitCode::SUCCESS;
+    }
+    if options.stack {
+        wanted(&options.only).iter().for_each(|op| println!("{:54} {:6}", op.title(), stack::needed(op)));
         return ExitCode::SUCCESS;
     }
     if let Some(library) = options.once {

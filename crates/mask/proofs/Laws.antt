@@ -15,6 +15,15 @@ use Rattle.mask.proofs.Tests.{same-test, and-both, and-left, and-right,
 pub bit-lt : (m i : ℕ) → bit m i < 2
 bit-lt m i = mod-lt (m / 2 ^ i) (zero-lt-suc 1)
 
+-- a node that is in a mask counts 1
+pub bit-counted : (m i : ℕ) → bit m i ≡ cond (contains m i) 1 0
+bit-counted m i = by (bit m i) (bit-lt m i)
+  where
+    by : (x : ℕ) → x < 2 → x ≡ cond (eqb x 1) 1 0
+    by zero h = refl
+    by (suc zero) h = refl
+    by (suc (suc x)) h = absurd (omega arith)
+
 -- a statement about two bits is a table of four rows
 by-bits : (P : ℕ → ℕ → Type 0) → P 0 0 → P 0 1 → P 1 0 → P 1 1 → (x y : ℕ) → x < 2 → y < 2 → P x y
 by-bits P a b c d zero zero hx hy = a

@@ -42,16 +42,13 @@ fn rooted_by(kind: Kind, own: bool, pair: bool) -> bool
     }
 }
 
-// Which of the eight sets of three nodes have two of them: bit x is 1 where the set x has.
-const PAIRS: u16 = 232;
-
-// Whether m has two of the three nodes that follow node `at`.
+// Whether m has two of the three nodes that follow node `at`: their bits are added.
 fn pair_after(m: u16, at: u8) -> bool
     requires { ⌜ at ≤ 9 ⌝ }
     ensures { λ r. ⌜ r ≡ twoOf (contains m (at + 1)) (contains m (at + 2)) (contains m (at + 3)) ⌝ }
 {
-    let three = (m >> (at + 1)) % 8;
-    (PAIRS >> three) % 2 == 1
+    let three = m >> (at + 1);
+    2 <= three % 2 + three / 2 % 2 + three / 4 % 2
 }
 
 // Whether m has a quorum of the subtree of one of the three nodes below the root (its halls).
