@@ -7,6 +7,7 @@ ghost use Rattle.numbers.specs.Numbers.{noQuorum};
 ghost use Rattle.mask.specs.Mask.{contains};
 ghost use Rattle.quorum.specs.Tree.{last};
 ghost use Rattle.quorum.specs.Quorum.{twoOf, rootedBy, inSubtree, isQuorum};
+ghost use Rattle.quorum.specs.Counts.{leafCounts};
 ghost use Rattle.quorum.specs.Smallest.{smallest};
 ghost use Rattle.quorum.specs.Nearest.{nearestOf, distance, numberOf, maskOf, sumOf};
 ghost use Rattle.quorum.specs.Levels.{aloneOf, leavesOf, bestOf, pairOf};
@@ -42,21 +43,23 @@ fn rooted_by(kind: Kind, own: bool, pair: bool) -> bool
     }
 }
 
-// Whether m has two of the three nodes that follow node `at`: their bits are added.
-fn pair_after(m: u16, at: u8) -> bool
-    requires { ⌜ at ≤ 9 ⌝ }
-    ensures { λ r. ⌜ r ≡ twoOf (contains m (at + 1)) (contains m (at + 2)) (contains m (at + 3)) ⌝ }
+// Bits 0, 3 and 6: one of three that follow each other, three times.
+const THIRDS: u16 = 73;
+
+// How many leaves of each hall are in m, three bits a hall: hall 1's at bit 0, hall 2's at bit 3, hall 3's at bit 6. All nine are counted by two additions.
+fn leaf_counts(m: u16) -> u16
+    ensures { λ r. ⌜ r ≡ leafCounts m ⌝ }
 {
-    let three = m >> (at + 1);
-    2 <= three % 2 + three / 2 % 2 + three / 4 % 2
+    let leaves = m >> 4;
+    (leaves & THIRDS) + ((leaves >> 1) & THIRDS) + ((leaves >> 2) & THIRDS)
 }
 
-// Whether m has a quorum of the subtree of one of the three nodes below the root (its halls).
-fn in_hall(kind: Kind, m: u16, hall: u8) -> bool
-    requires { ⌜ hall ≤ 3 ⌝ }
+// Whether m has a quorum of the subtree of one of the three nodes below the root (its halls), by the counts of its leaves: two or three have bit 1.
+fn in_hall(kind: Kind, m: u16, counts: u16, hall: u8) -> bool
+    requires { ⌜ (1 ≤ hall) × (hall ≤ 3) × (counts ≡ leafCounts m) ⌝ }
     ensures { λ r. ⌜ r ≡ inSubtree kind (contains m) 1 hall ⌝ }
 {
-    rooted_by(kind, mask::has(m, hall), pair_after(m, 3 * hall))
+    rooted_by(kind, mask::has(m, hall), mask::has(counts, 3 * hall - 2))
 }
 
 // Whether m contains a quorum of the whole tree; bits above node 12 do not matter.
@@ -64,9 +67,10 @@ fn in_hall(kind: Kind, m: u16, hall: u8) -> bool
 pub fn is_quorum(kind: Kind, m: u16) -> bool
     ensures { λ r. ⌜ r ≡ isQuorum kind m ⌝ }
 {
-    let a = in_hall(kind, m, 1);
-    let b = in_hall(kind, m, 2);
-    let c = in_hall(kind, m, 3);
+    let counts = leaf_counts(m);
+    let a = in_hall(kind, m, counts, 1);
+    let b = in_hall(kind, m, counts, 2);
+    let c = in_hall(kind, m, counts, 3);
     rooted_by(kind, mask::has(m, 0), two_of(a, b, c))
 }
 

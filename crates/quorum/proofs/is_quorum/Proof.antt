@@ -4,6 +4,9 @@ use Rattle.quorum.specs.Quorum.{isQuorum}
 use Rattle.quorum.proofs.is_quorum.Statement.{statement}
 use Rattle.quorum.proofs.is_quorum.Tie as tie
 
+leaf-counts-requires : tie.Need-leaf-counts-requires
+leaf-counts-requires c κs = search needs
+
 in-hall-requires : tie.Need-in-hall-requires
 in-hall-requires c κs = search needs
 
@@ -40,6 +43,7 @@ pub is-quorum-spec : {M : Type 1} → statement M
 is-quorum-spec =
     tie.close
     (tie.spec
+    leaf-counts-requires
     in-hall-requires
     in-hall-requires-2
     in-hall-requires-3
