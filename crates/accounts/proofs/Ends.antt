@@ -74,13 +74,13 @@ module _ (s : System) (c : Coordinator) (n : ℕ) where
 
   reselect-ends : (live : ℕ) (d : List ℕ) → After (reselectOf s c n live d .coordinator)
   unfolding reselectOf reselectRefusals reselected
-  reselect-ends live d = let q = s .nearestRead live d in
+  reselect-ends live d = let q = s .nearestRead n live d in
       step-keeps After (reselectRefusals c n live q) (maskOf q) c (reselected c live d (maskOf q)) tt (same c refl refl refl) (λ k. same _ refl refl refl)
 
   request-ends : After (requestCommitOf s c n .coordinator)
   unfolding requestCommitOf requestCommitRefusals requested
   request-ends =
-      let q = s .nearestWrite (c .live) (c .distances) in
+      let q = s .nearestWrite n (c .live) (c .distances) in
       let party = joined (maskOf q) (c .contacted) in
       step-keeps After (requestCommitRefusals s c n q) party c (requested c party) tt (same c refl refl refl) (λ k. busy _ 1 refl refl)
 
@@ -192,7 +192,7 @@ module _ (st : Station) (i : ℕ) where
   unfolding step hosted beginOf beginRefusals begun
   begin-next n w =
       let x = beginOf (system st) (st .records n) n w in
-      let q = system st .nearestRead (w .live) (w .distances) in
+      let q = system st .nearestRead n (w .live) (w .distances) in
       either-way EndsOrOpens (contains (st .own .on) n) _ _ (either-way EndsOrOpens (eqb (x .number) 0) _ _
       (put-all (λ (k : ℕ) (d : Coordinator). Ends (st .records k) d (x .answer) ⊎ (d .phase ≡ openPhase)) (st .records) n (x .coordinator)
       (step-keeps (λ (d : Coordinator). Ends (st .records n) d (x .answer) ⊎ (d .phase ≡ openPhase)) (beginRefusals (st .records n) n w q) (maskOf q)

@@ -119,7 +119,7 @@ begun-open s c me w q = ap (λ (d : Coordinator). d .phase) (taken-after _ _ _ _
 
 module _ (s : System) (me : ℕ) where
   abbrev chosen : Coordinator → Choice
-  chosen c = s .nearestWrite (c .live) (c .distances)
+  chosen c = s .nearestWrite me (c .live) (c .distances)
 
   pub request-clear : (c : Coordinator) → requestCommitOf s c me .number ≡ 0 → Clear (requestCommitRefusals s c me (chosen c))
   unfolding requestCommitOf requestCommitRefusals

@@ -50,7 +50,7 @@ edit-open c n (values t v) = step-keeps (OpenStill c) (setRefusals c n t) 0 c (w
 request-shows : (s : System) (c : Coordinator) (n serial t v : ℕ) → Shows s c serial t v → Shows s (requestCommitOf s c n .coordinator) serial t v
 unfolding requestCommitOf requestCommitRefusals requested
 request-shows s c n serial t v f =
-    let q = s .nearestWrite (c .live) (c .distances) in
+    let q = s .nearestWrite n (c .live) (c .distances) in
     let party = joined (maskOf q) (c .contacted) in
     step-keeps (λ (d : Coordinator). Shows s d serial t v) (requestCommitRefusals s c n q) party c (requested c party) tt f
     (λ k. record {

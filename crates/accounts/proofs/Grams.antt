@@ -113,7 +113,7 @@ module _ (y : System) (q : Quorums y) (c : Coordinator) (n : ℕ) (m : Meets y c
   pub is-node : n < nodes
   unfolding beginOf beginRefusals
   is-node = ltb-true n nodes (not-false (ltb n nodes) (neither-left (noNode n) (tooWide (w .live))
-      (clear (beginRefusals c n w (y .nearestRead (w .live) (w .distances))) tt (step-number _ _ _ _ ∙ taken) .0)))
+      (clear (beginRefusals c n w (y .nearestRead n (w .live) (w .distances))) tt (step-number _ _ _ _ ∙ taken) .0)))
 
   many : length l ≡ length ts
   many = amounts-length ts gs

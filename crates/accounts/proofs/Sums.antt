@@ -241,7 +241,7 @@ module _ (o : Machine) (r : MachineRested o) (n : ℕ) (es : List Step) where
     abbrev s : System
     s = system (machineReached o es)
 
-    asked : Clear (requestCommitRefusals s c n (s .nearestWrite (c .live) (c .distances)))
+    asked : Clear (requestCommitRefusals s c n (s .nearestWrite n (c .live) (c .distances)))
     asked = request-clear s n c taken
 
     is-node : noNode n ≡ false

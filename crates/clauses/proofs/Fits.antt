@@ -163,7 +163,7 @@ module _ (s : System) (c : Coordinator) (me : ℕ) (w : Widths c) where
   begin-widths : (b : BeginWith) → b .timestamp < 2 ^ 32 → AllBelow (2 ^ 16) (b .distances) → Widths (beginOf s c me b .coordinator)
   unfolding beginOf beginRefusals begun
   begin-widths b t d =
-      let chosen = s .nearestRead (b .live) (b .distances) in
+      let chosen = s .nearestRead me (b .live) (b .distances) in
       step-keeps Widths (beginRefusals c me b chosen) (maskOf chosen) c (begun c b (maskOf chosen)) tt w
       (λ k. let n : c .serial < highest = ltb-true (c .serial) highest (not-false (ltb (c .serial) highest) (k .1 .1 .1 .1 .0)) in
       record {
@@ -204,7 +204,7 @@ module _ (s : System) (c : Coordinator) (me : ℕ) (w : Widths c) where
   reselect-widths : (live : ℕ) (distances : List ℕ) → AllBelow (2 ^ 16) distances → Widths (reselectOf s c me live distances .coordinator)
   unfolding reselectOf reselectRefusals reselected
   reselect-widths live distances d =
-      let chosen = s .nearestRead live distances in
+      let chosen = s .nearestRead me live distances in
       step-keeps Widths (reselectRefusals c me live chosen) (maskOf chosen) c (reselected c live distances (maskOf chosen)) tt w
       (λ k. record {
         serial-32 = w .serial-32;
@@ -228,7 +228,7 @@ module _ (s : System) (c : Coordinator) (me : ℕ) (w : Widths c) where
   request-widths : Widths (requestCommitOf s c me .coordinator)
   unfolding requestCommitOf requestCommitRefusals requested
   request-widths =
-      let chosen = s .nearestWrite (c .live) (c .distances) in
+      let chosen = s .nearestWrite me (c .live) (c .distances) in
       let all = joined (maskOf chosen) (c .contacted) in
       step-keeps Widths (requestCommitRefusals s c me chosen) all c (requested c all) tt w
       (λ k. same-widths (requested c all) refl refl refl refl (w .rivals-32))

@@ -256,10 +256,10 @@ module _ (s : System) (q : Quorums s) (c : Coordinator) (me : ℕ) (m : Meets s 
   pub begin-keeps : (w : BeginWith) → length (w .distances) ≡ nodes → Meets s (beginOf s c me w .coordinator)
   unfolding beginOf beginRefusals
   begin-keeps w n =
-      let chosen = s .nearestRead (w .live) (w .distances) in
+      let chosen = s .nearestRead me (w .live) (w .distances) in
       step-keeps (Meets s) (beginRefusals c me w chosen) (maskOf chosen) c (begun c w (maskOf chosen)) tt m
       (λ k. let live : w .live ≤ everyNode = ltb-false everyNode (w .live) (neither-right (noNode me) (tooWide (w .live)) (k .0)) in
-      let good = q .read-chosen (w .live) (w .distances) live (k .1 .1 .1 .0) in
+      let good = q .read-chosen me (w .live) (w .distances) live (k .1 .1 .1 .0) in
       begun-meets w (maskOf chosen) n live (leb-false (w .timestamp) (c .timestamp) (k .1 .1 .0)) (good .0) (good .1))
 
   -- open
@@ -351,10 +351,10 @@ module _ (s : System) (q : Quorums s) (c : Coordinator) (me : ℕ) (m : Meets s 
   pub reselect-keeps : (live : ℕ) (distances : List ℕ) → length distances ≡ nodes → Meets s (reselectOf s c me live distances .coordinator)
   unfolding reselectOf reselectRefusals
   reselect-keeps live distances n =
-      let chosen = s .nearestRead live distances in
+      let chosen = s .nearestRead me live distances in
       step-keeps (Meets s) (reselectRefusals c me live chosen) (maskOf chosen) c (reselected c live distances (maskOf chosen)) tt m
       (λ k. let small : live ≤ everyNode = ltb-false everyNode live (neither-right (noNode me) (tooWide live) (k .0)) in
-      let good = q .read-chosen live distances small (k .1 .1 .0) in
+      let good = q .read-chosen me live distances small (k .1 .1 .0) in
       reselected-meets live distances (maskOf chosen) n (eqb-true (c .phase) openPhase (not-false (eqb (c .phase) openPhase) (k .1 .0))) small (good .0)
       (good .1))
 
@@ -494,11 +494,11 @@ module _ (s : System) (q : Quorums s) (c : Coordinator) (me : ℕ) (m : Meets s 
   pub request-keeps : Meets s (requestCommitOf s c me .coordinator)
   unfolding requestCommitOf requestCommitRefusals
   request-keeps =
-      let chosen = s .nearestWrite (c .live) (c .distances) in
+      let chosen = s .nearestWrite me (c .live) (c .distances) in
       let all = joined (maskOf chosen) (c .contacted) in
       let ok = allSettled s (c .objects) (c .count) in
       step-keeps (Meets s) (requestCommitRefusals s c me chosen) all c (requested c all) tt m
-      (λ k. let good = q .write-chosen (c .live) (c .distances) (m .nodes .live-known) (k .1 .1 .1 .0) in
+      (λ k. let good = q .write-chosen me (c .live) (c .distances) (m .nodes .live-known) (k .1 .1 .1 .0) in
       requested-meets (maskOf chosen) (eqb-true (c .phase) openPhase (not-false (eqb (c .phase) openPhase) (k .1 .0)))
       (eqb-false (c .count) 0 (neither-left (eqb (c .count) 0) (not ok) (k .1 .1 .0))) (not-false ok (neither-right (eqb (c .count) 0) (not ok) (k .1 .1 .0)))
       (k .1 .1 .1 .1 .0) (good .0) (good .1))

@@ -51,7 +51,7 @@ module _ (s : System) (c : Coordinator) (me : ℕ) (busy : c .phase ≡ idlePhas
   pub begin-goes-on : (w : BeginWith) → Goes (beginOf s c me w .coordinator)
   unfolding beginOf beginRefusals begun
   begin-goes-on w =
-      let chosen = s .nearestRead (w .live) (w .distances) in
+      let chosen = s .nearestRead me (w .live) (w .distances) in
       step-keeps Goes (beginRefusals c me w chosen) (maskOf chosen) c (begun c w (maskOf chosen)) tt busy (λ k e. omega arith)
 
   pub open-goes-on : (object mode : ℕ) → Goes (openOf c me object mode .coordinator)
@@ -65,13 +65,13 @@ module _ (s : System) (c : Coordinator) (me : ℕ) (busy : c .phase ≡ idlePhas
   pub reselect-goes-on : (live : ℕ) (distances : List ℕ) → Goes (reselectOf s c me live distances .coordinator)
   unfolding reselectOf reselectRefusals reselected
   reselect-goes-on live distances =
-      let chosen = s .nearestRead live distances in
+      let chosen = s .nearestRead me live distances in
       step-keeps Goes (reselectRefusals c me live chosen) (maskOf chosen) c (reselected c live distances (maskOf chosen)) tt busy (λ k. busy)
 
   pub request-goes-on : Goes (requestCommitOf s c me .coordinator)
   unfolding requestCommitOf requestCommitRefusals requested
   request-goes-on =
-      let chosen = s .nearestWrite (c .live) (c .distances) in
+      let chosen = s .nearestWrite me (c .live) (c .distances) in
       let all = joined (maskOf chosen) (c .contacted) in
       step-keeps Goes (requestCommitRefusals s c me chosen) all c (requested c all) tt busy (λ k e. omega arith)
 
@@ -96,13 +96,13 @@ module _ (s : System) (c : Coordinator) (me : ℕ) where
   pub reselect-serial : (live : ℕ) (distances : List ℕ) → Same (reselectOf s c me live distances .coordinator)
   unfolding reselectOf reselectRefusals reselected
   reselect-serial live distances =
-      let chosen = s .nearestRead live distances in
+      let chosen = s .nearestRead me live distances in
       step-keeps Same (reselectRefusals c me live chosen) (maskOf chosen) c (reselected c live distances (maskOf chosen)) tt refl (λ k. refl)
 
   pub request-serial : Same (requestCommitOf s c me .coordinator)
   unfolding requestCommitOf requestCommitRefusals requested
   request-serial =
-      let chosen = s .nearestWrite (c .live) (c .distances) in
+      let chosen = s .nearestWrite me (c .live) (c .distances) in
       let all = joined (maskOf chosen) (c .contacted) in
       step-keeps Same (requestCommitRefusals s c me chosen) all c (requested c all) tt refl (λ k. refl)
 

@@ -27,8 +27,8 @@ abbrev pub GoodChoice : (ℕ → Bool) → Choice → Type 0
 GoodChoice test x = isNone x ≡ false → T (test (maskOf x)) × (maskOf x ≤ everyNode)
 
 pub record Quorums (s : System) : Type 0 where
-  pub read-chosen : (live : ℕ) (d : List ℕ) → live ≤ everyNode → GoodChoice (s .isRead) (s .nearestRead live d)
-  pub write-chosen : (live : ℕ) (d : List ℕ) → live ≤ everyNode → GoodChoice (s .isWrite) (s .nearestWrite live d)
+  pub read-chosen : (asker live : ℕ) (d : List ℕ) → live ≤ everyNode → GoodChoice (s .isRead) (s .nearestRead asker live d)
+  pub write-chosen : (asker live : ℕ) (d : List ℕ) → live ≤ everyNode → GoodChoice (s .isWrite) (s .nearestWrite asker live d)
   pub write-larger : (a b : ℕ) → T (within a b) → T (s .isWrite a) → T (s .isWrite b)
   pub read-some : (m : ℕ) → T (s .isRead m) → m ≡ 0 → ⊥
   pub write-some : (m : ℕ) → T (s .isWrite m) → m ≡ 0 → ⊥
@@ -51,8 +51,8 @@ some Write m t e = subst (λ (n : ℕ). T (isQuorum Write n)) e t
 pub tree-quorums : Quorums tree
 tree-quorums =
     record {
-      read-chosen = λ live d h. good Read live d (nearestIn Read live d) h (chosen live d (smallest Read));
-      write-chosen = λ live d h. good Write live d (nearestIn Write live d) h (chosen live d (smallest Write));
+      read-chosen = λ asker live d h. good Read live d (nearestIn Read asker live d) h (chosen asker live d (smallest Read));
+      write-chosen = λ asker live d h. good Write live d (nearestIn Write asker live d) h (chosen asker live d (smallest Write));
       write-larger = larger-counts Write;
       read-some = some Read;
       write-some = some Write;

@@ -78,7 +78,7 @@ module _ (s : System) (q : Quorums s) (c : Coordinator) (me : ℕ) (m : Meets s 
   pub begin-shows : (w : BeginWith) → S (beginOf s c me w .coordinator)
   unfolding beginOf beginRefusals
   begin-shows w =
-      let chosen = s .nearestRead (w .live) (w .distances) in
+      let chosen = s .nearestRead me (w .live) (w .distances) in
       step-keeps S (beginRefusals c me w chosen) (maskOf chosen) c (begun c w (maskOf chosen)) tt h
       (λ k. let e : c .phase ≡ idlePhase = eqb-true (c .phase) idlePhase (not-false (eqb (c .phase) idlePhase) (k .1 .0)) in
       let n : c .count ≡ 0 = m .nodes .at-idle e .no-object in
@@ -115,14 +115,14 @@ module _ (s : System) (q : Quorums s) (c : Coordinator) (me : ℕ) (m : Meets s 
   pub reselect-shows : (live : ℕ) (distances : List ℕ) → S (reselectOf s c me live distances .coordinator)
   unfolding reselectOf reselectRefusals reselected
   reselect-shows live distances =
-      let chosen = s .nearestRead live distances in
+      let chosen = s .nearestRead me live distances in
       step-keeps S (reselectRefusals c me live chosen) (maskOf chosen) c (reselected c live distances (maskOf chosen)) tt h
       (λ k. same-shows (reselected c live distances (maskOf chosen)) refl refl)
 
   pub request-shows : S (requestCommitOf s c me .coordinator)
   unfolding requestCommitOf requestCommitRefusals requested
   request-shows =
-      let chosen = s .nearestWrite (c .live) (c .distances) in
+      let chosen = s .nearestWrite me (c .live) (c .distances) in
       let all = joined (maskOf chosen) (c .contacted) in
       step-keeps S (requestCommitRefusals s c me chosen) all c (requested c all) tt h (λ k. same-shows (requested c all) refl refl)
 

@@ -51,7 +51,7 @@ module _ (s : System) (me : ℕ) (c : Coordinator) (p : OwnFree me c) where
   pub begin-own : (w : BeginWith) → OwnFree me (beginOf s c me w .coordinator)
   unfolding beginOf beginRefusals begun
   begin-own w =
-      let chosen = s .nearestRead (w .live) (w .distances) in
+      let chosen = s .nearestRead me (w .live) (w .distances) in
       step-keeps (OwnFree me) (beginRefusals c me w chosen) (maskOf chosen) c (begun c w (maskOf chosen)) tt p (λ k. none-named nodes me)
 
   pub open-own : (object mode : ℕ) → OwnFree me (openOf c me object mode .coordinator)
@@ -65,13 +65,13 @@ module _ (s : System) (me : ℕ) (c : Coordinator) (p : OwnFree me c) where
   pub reselect-own : (live : ℕ) (distances : List ℕ) → OwnFree me (reselectOf s c me live distances .coordinator)
   unfolding reselectOf reselectRefusals reselected
   reselect-own live distances =
-      let chosen = s .nearestRead live distances in
+      let chosen = s .nearestRead me live distances in
       step-keeps (OwnFree me) (reselectRefusals c me live chosen) (maskOf chosen) c (reselected c live distances (maskOf chosen)) tt p (λ k. p)
 
   pub request-own : OwnFree me (requestCommitOf s c me .coordinator)
   unfolding requestCommitOf requestCommitRefusals requested
   request-own =
-      let chosen = s .nearestWrite (c .live) (c .distances) in
+      let chosen = s .nearestWrite me (c .live) (c .distances) in
       let all = joined (maskOf chosen) (c .contacted) in
       step-keeps (OwnFree me) (requestCommitRefusals s c me chosen) all c (requested c all) tt p (λ k. p)
 

@@ -52,25 +52,25 @@ opened1 = setOf (openOf begun1 3 5 1 .coordinator) 3 5 77 .coordinator
 abbrev ready1 : Coordinator
 ready1 = receives opened1 (answer 2 0 (record { object = 5; mode = 1; version = 4; value = 8 } ∷ []) [])
 
--- the participants are 439: nodes 0, 1, 2, 4, 5, 7 and 8
+-- the participants are 3131: nodes 0, 1, 3, 4, 5, 10 and 11, the lowest mask with node 3
 abbrev voting1 : Coordinator
-voting1 = fromEach yes (requestCommitOf tree ready1 3 .coordinator) (0 ∷ 1 ∷ 2 ∷ 4 ∷ 5 ∷ 7 ∷ [])
+voting1 = fromEach yes (requestCommitOf tree ready1 3 .coordinator) (0 ∷ 1 ∷ 3 ∷ 4 ∷ 5 ∷ 10 ∷ [])
 
 abbrev finishing1 : Coordinator
-finishing1 = fromEach over (receives voting1 (yes 8)) (0 ∷ 1 ∷ 2 ∷ 4 ∷ 5 ∷ 7 ∷ [])
+finishing1 = fromEach over (receives voting1 (yes 11)) (0 ∷ 1 ∷ 3 ∷ 4 ∷ 5 ∷ 10 ∷ [])
 
 abbrev good : List Coordinator
 good =
-    blankRecord ∷ begun1 ∷ opened1 ∷ ready1 ∷ voting1 ∷ finishing1 ∷ receives finishing1 (over 8) ∷ abortOf opened1 3 .coordinator
+    blankRecord ∷ begun1 ∷ opened1 ∷ ready1 ∷ voting1 ∷ finishing1 ∷ receives finishing1 (over 11) ∷ abortOf opened1 3 .coordinator
     ∷ abortOf voting1 3 .coordinator ∷ []
 
 -- an object at two places; every done while finishing; every yes while voting; a phase of its own
 abbrev bad : List Coordinator
 bad =
     withObjects opened1 1 2 (fresh 5 1 ∷ fresh 5 0 ∷ replicate 6 noObject)
-    ∷ withPhase finishing1 finishingPhase committed 439 439 439 (finishing1 .rivals)
-    ∷ withPhase voting1 2 0 439 439 0 (voting1 .rivals)
-    ∷ withPhase voting1 4 0 439 0 0 (voting1 .rivals)
+    ∷ withPhase finishing1 finishingPhase committed 3131 3131 3131 (finishing1 .rivals)
+    ∷ withPhase voting1 2 0 3131 3131 0 (voting1 .rivals)
+    ∷ withPhase voting1 4 0 3131 0 0 (voting1 .rivals)
     ∷ []
 
 pub samples : (map (λ (c : Coordinator). c .phase) good ≡ 0 ∷ 1 ∷ 1 ∷ 1 ∷ 2 ∷ 3 ∷ 0 ∷ 3 ∷ 3 ∷ [])

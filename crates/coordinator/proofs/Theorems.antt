@@ -32,7 +32,7 @@ pub serial-rises : (s : System) (c : Coordinator) (me : ℕ) (w : BeginWith) →
     → beginOf s c me w .coordinator .serial ≡ c .serial + 1
 unfolding beginOf begun
 serial-rises s c me w e =
-    let chosen = s .nearestRead (w .live) (w .distances) in
+    let chosen = s .nearestRead me (w .live) (w .distances) in
     ap (λ (d : Coordinator). d .serial) (taken-after (firstOf (beginRefusals c me w chosen)) (maskOf chosen) c (begun c w (maskOf chosen)) e)
 
 -- ---- found leaves the record

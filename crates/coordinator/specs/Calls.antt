@@ -61,7 +61,7 @@ begun c w quorum =
 
 unfoldable pub beginOf : System → Coordinator → ℕ → BeginWith → Step
 beginOf s c me w =
-    let chosen = s .nearestRead (w .live) (w .distances) in
+    let chosen = s .nearestRead me (w .live) (w .distances) in
     stepOf (firstOf (beginRefusals c me w chosen)) (maskOf chosen) c (begun c w (maskOf chosen))
 
 -- ---- open, to read (mode 0) or to write (mode 1)
@@ -159,7 +159,7 @@ reselected c live distances quorum =
 
 unfoldable pub reselectOf : System → Coordinator → ℕ → ℕ → List ℕ → Step
 reselectOf s c me live distances =
-    let chosen = s .nearestRead live distances in
+    let chosen = s .nearestRead me live distances in
     stepOf (firstOf (reselectRefusals c me live chosen)) (maskOf chosen) c (reselected c live distances (maskOf chosen))
 
 -- ---- the votes and their end
@@ -199,7 +199,7 @@ requested c participants = withPhase c votingPhase (c .outcome) participants (c 
 
 unfoldable pub requestCommitOf : System → Coordinator → ℕ → Step
 requestCommitOf s c me =
-    let chosen = s .nearestWrite (c .live) (c .distances) in
+    let chosen = s .nearestWrite me (c .live) (c .distances) in
     let participants = joined (maskOf chosen) (c .contacted) in
     stepOf (firstOf (requestCommitRefusals s c me chosen)) participants c (requested c participants)
 

@@ -108,7 +108,7 @@ pub fn begin(c: Coordinator, me: u8, w: BeginWith) -> Step
     ensures { λ r. ⌜ r ≡ beginOf tree c me w ⌝ }
 {
     let distances = w.distances;
-    let chosen = quorum::nearest(Kind::Read, w.live, &distances);
+    let chosen = quorum::nearest(Kind::Read, me, w.live, &distances);
     let number = begin_number(c, me, w, chosen);
     if number != 0 {
         return refused(number, c);
@@ -283,7 +283,7 @@ fn with_reselected(c: Coordinator, live: u16, distances: [u16; NODES], quorum: u
 pub fn reselect(c: Coordinator, me: u8, live: u16, distances: [u16; NODES]) -> Step
     ensures { λ r. ⌜ r ≡ reselectOf tree c me live distances ⌝ }
 {
-    let chosen = quorum::nearest(Kind::Read, live, &distances);
+    let chosen = quorum::nearest(Kind::Read, me, live, &distances);
     let number = reselect_number(c, me, live, chosen);
     if number != 0 {
         return refused(number, c);
@@ -315,7 +315,7 @@ pub fn request_commit(c: Coordinator, me: u8) -> Step
     ensures { λ r. ⌜ r ≡ requestCommitOf tree c me ⌝ }
 {
     let distances = c.distances;
-    let chosen = quorum::nearest(Kind::Write, c.live, &distances);
+    let chosen = quorum::nearest(Kind::Write, me, c.live, &distances);
     let number = request_number(c, me, chosen);
     if number != 0 {
         return refused(number, c);

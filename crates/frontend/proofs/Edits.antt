@@ -64,7 +64,7 @@ unfolding requestCommitOf requestCommitRefusals
 request-late y c me =
     ap outOfTurnAfter (sym (step-number _ _ _ _))
     ∙ late-votes (noNode me) (not (eqb (c .phase) openPhase)) (eqb (c .count) 0 || not (allSettled y (c .objects) (c .count)))
-    (isNone (y .nearestWrite (c .live) (c .distances))) (anyUsedUp (c .objects) (c .count))
+    (isNone (y .nearestWrite me (c .live) (c .distances))) (anyUsedUp (c .objects) (c .count))
 
 -- ---- what an open or a value call tells
 pub edit-told : (c : Coordinator) (me : ℕ) (e : Edit) (ds : List Deed) (s' s : List ℕ)

@@ -41,7 +41,7 @@ unfolding beginOf beginRefusals
 begin-own y c me w =
     subst Own (step-number _ _ _ _)
     (own-codes (noNode me || tooWide (w .live)) (not (eqb (c .phase) idlePhase)) (leb (w .timestamp) (c .timestamp))
-    (isNone (y .nearestRead (w .live) (w .distances))) (not (ltb (c .serial) highest)))
+    (isNone (y .nearestRead me (w .live) (w .distances))) (not (ltb (c .serial) highest)))
 
 -- ---- a missing table alters nothing that is out of turn
 late-barred : (t : Bool) (k : ℕ) → outOfTurnAfter (barred t k) ≡ outOfTurnAfter k

@@ -105,7 +105,7 @@ module _ (st : Station) (L : Ledger) (F : Past) (w : World st L F) where
     pub begin-next : (a : BeginWith) → length (a .distances) ≡ nodes → Next (begin n a) (hosted st n (beginOf (system st) d n a))
     unfolding beginOf beginRefusals noted
     begin-next a size =
-        let chosen = system st .nearestRead (a .live) (a .distances) in
+        let chosen = system st .nearestRead n (a .live) (a .distances) in
         let rs = beginRefusals d n a chosen in
         host-next n (begin n a) rs (maskOf chosen) (begun d a (maskOf chosen)) tt (λ k.
         begin-world st L F w n a (maskOf chosen) (eqb-true (d .phase) idlePhase (not-false _ (k .1 .0)))
@@ -153,7 +153,7 @@ module _ (st : Station) (L : Ledger) (F : Past) (w : World st L F) where
         (hosted st n (reselectOf (system st) d n live distances))
     unfolding reselectOf reselectRefusals noted
     reselect-next live distances size =
-        let chosen = system st .nearestRead live distances in
+        let chosen = system st .nearestRead n live distances in
         let rs = reselectRefusals d n live chosen in
         let c' = reselected d live distances (maskOf chosen) in
         host-next n (reselect n live distances) rs (maskOf chosen) c' tt (λ k.
@@ -170,7 +170,7 @@ module _ (st : Station) (L : Ledger) (F : Past) (w : World st L F) where
     pub request-next : Next (requestCommit n) (hosted st n (requestCommitOf (system st) d n))
     unfolding requestCommitOf requestCommitRefusals noted
     request-next =
-        let chosen = system st .nearestWrite (d .live) (d .distances) in
+        let chosen = system st .nearestWrite n (d .live) (d .distances) in
         let party = joined (maskOf chosen) (d .contacted) in
         let rs = requestCommitRefusals (system st) d n chosen in
         host-next n (requestCommit n) rs party (requested d party) tt (λ k.

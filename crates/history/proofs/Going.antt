@@ -117,7 +117,7 @@ module _ (st : Station) (t : InTurn st) (v : Valid st) (n : ℕ) where
   pub begin-goes : (w : BeginWith) → Goes st t n (beginOf (system st) c n w .coordinator)
   unfolding beginOf beginRefusals
   begin-goes w =
-      let chosen = system st .nearestRead (w .live) (w .distances) in
+      let chosen = system st .nearestRead n (w .live) (w .distances) in
       step-keeps (Goes st t n) (beginRefusals c n w chosen) (maskOf chosen) c (begun c w (maskOf chosen)) tt goes-same
       (λ k. goes-next (eqb-true (c .phase) idlePhase (not-false _ (k .1 .0))) w (maskOf chosen))
 
@@ -140,7 +140,7 @@ module _ (st : Station) (t : InTurn st) (v : Valid st) (n : ℕ) where
   pub reselect-goes : (live : ℕ) (distances : List ℕ) → Goes st t n (reselectOf (system st) c n live distances .coordinator)
   unfolding reselectOf reselectRefusals reselected
   reselect-goes live distances =
-      let chosen = system st .nearestRead live distances in
+      let chosen = system st .nearestRead n live distances in
       let quorum = maskOf chosen in
       step-keeps (Goes st t n) (reselectRefusals c n live chosen) quorum c (reselected c live distances quorum) tt goes-same
       (λ k. goes-on (reselected c live distances quorum) refl (λ p. p)
@@ -153,7 +153,7 @@ module _ (st : Station) (t : InTurn st) (v : Valid st) (n : ℕ) where
   pub request-goes : Goes st t n (requestCommitOf (system st) c n .coordinator)
   unfolding requestCommitOf requestCommitRefusals requested
   request-goes =
-      let chosen = system st .nearestWrite (c .live) (c .distances) in
+      let chosen = system st .nearestWrite n (c .live) (c .distances) in
       let party = joined (maskOf chosen) (c .contacted) in
       step-keeps (Goes st t n) (requestCommitRefusals (system st) c n chosen) party c (requested c party) tt goes-same
       (λ k.

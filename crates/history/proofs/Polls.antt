@@ -127,7 +127,7 @@ module _ (st : Station) (L : Ledger) (F : Past) (B : Ballots) (g : Good st L F) 
     begin-counts : (a : BeginWith) → Next (begin n a) (hosted st n (beginOf (system st) c n a))
     unfolding beginOf beginRefusals begun note noted poll polled
     begin-counts a =
-        let q = system st .nearestRead (a .live) (a .distances) in
+        let q = system st .nearestRead n (a .live) (a .distances) in
         host-cases (Next (begin n a)) st n (beginRefusals c n a q) (maskOf q) (begun c a (maskOf q)) tt (refused-counts (begin n a))
         (λ z. changed-counts (begun c a (maskOf q)) (st .pool) (withSerial L n) B refl (k .all-agreed)
         (begun-next _ _ _ _ n (c .serial) (c .phase) (c .yes) here (eqb-true (c .phase) idlePhase (not-false _ (z .1 .0))) 0) (λ i e. k .counted i))
@@ -155,7 +155,7 @@ module _ (st : Station) (L : Ledger) (F : Past) (B : Ballots) (g : Good st L F) 
     reselect-counts : (live : ℕ) (distances : List ℕ) → Next (reselect n live distances) (hosted st n (reselectOf (system st) c n live distances))
     unfolding reselectOf reselectRefusals reselected note noted poll polled
     reselect-counts live distances =
-        let q = system st .nearestRead live distances in
+        let q = system st .nearestRead n live distances in
         host-cases (Next (reselect n live distances)) st n (reselectRefusals c n live q) (maskOf q) (reselected c live distances (maskOf q)) tt
         (refused-counts (reselect n live distances)) (λ z. same-counts (reselected c live distances (maskOf q)) here)
 
@@ -190,7 +190,7 @@ module _ (st : Station) (L : Ledger) (F : Past) (B : Ballots) (g : Good st L F) 
     request-counts : Next (requestCommit n) (hosted st n (requestCommitOf (system st) c n))
     unfolding requestCommitOf requestCommitRefusals note noted poll polled
     request-counts =
-        let q = system st .nearestWrite (c .live) (c .distances) in
+        let q = system st .nearestWrite n (c .live) (c .distances) in
         let party = joined (maskOf q) (c .contacted) in
         let rs = requestCommitRefusals (system st) c n q in
         host-cases (Next (requestCommit n)) st n rs party (requested c party) tt (refused-counts (requestCommit n))

@@ -72,13 +72,13 @@ module _ (s : System) (c : Coordinator) (n : ℕ) where
 
   reselect-still : (live : ℕ) (d : List ℕ) → Still c (reselectOf s c n live d .coordinator)
   unfolding reselectOf reselectRefusals reselected
-  reselect-still live d = let q = s .nearestRead live d in
+  reselect-still live d = let q = s .nearestRead n live d in
       step-keeps (Still c) (reselectRefusals c n live q) (maskOf q) c (reselected c live d (maskOf q)) tt (same c refl) (λ k. same _ refl)
 
   pub request-still : Still c (requestCommitOf s c n .coordinator)
   unfolding requestCommitOf requestCommitRefusals requested
   request-still =
-      let q = s .nearestWrite (c .live) (c .distances) in
+      let q = s .nearestWrite n (c .live) (c .distances) in
       let party = joined (maskOf q) (c .contacted) in
       step-keeps (Still c) (requestCommitRefusals s c n q) party c (requested c party) tt (same c refl)
       (λ k. on-from 0 (eqb-true (c .phase) openPhase (not-false _ (k .1 .0))) _ (λ e. let z : ⊥ = omega (arith, e) in z))
@@ -191,7 +191,7 @@ Spare st = (n : ℕ) → nodes ≤ n → st .records n .phase ≡ idlePhase
 begin-spare : (s : System) (c : Coordinator) (n : ℕ) (a : BeginWith) → nodes ≤ n → c .phase ≡ idlePhase
     → beginOf s c n a .coordinator .phase ≡ idlePhase
 unfolding beginOf beginRefusals
-begin-spare s c n a h e = let q = s .nearestRead (a .live) (a .distances) in
+begin-spare s c n a h e = let q = s .nearestRead n (a .live) (a .distances) in
     step-keeps (λ (d : Coordinator). d .phase ≡ idlePhase) (beginRefusals c n a q) (maskOf q) c (begun c a (maskOf q)) tt e
     (λ k. absurd (no-both (not-false (ltb n nodes) (neither-left (noNode n) (tooWide (a .live)) (k .0))) (le-ltb n nodes h)))
 

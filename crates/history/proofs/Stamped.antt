@@ -65,7 +65,7 @@ same c = inl (refl, refl)
 module _ (s : System) (c : Coordinator) (n : ℕ) where
   begin-on : (a : BeginWith) → GoesOn c (beginOf s c n a .coordinator)
   unfolding beginOf beginRefusals begun
-  begin-on a = let q = s .nearestRead (a .live) (a .distances) in
+  begin-on a = let q = s .nearestRead n (a .live) (a .distances) in
       step-keeps (GoesOn c) (beginRefusals c n a q) (maskOf q) c (begun c a (maskOf q)) tt (same c) (λ k. inr (omega arith))
 
   open-on : (t mode : ℕ) → GoesOn c (openOf c n t mode .coordinator)
@@ -81,13 +81,13 @@ module _ (s : System) (c : Coordinator) (n : ℕ) where
 
   reselect-on : (live : ℕ) (distances : List ℕ) → GoesOn c (reselectOf s c n live distances .coordinator)
   unfolding reselectOf reselectRefusals reselected
-  reselect-on live distances = let q = s .nearestRead live distances in
+  reselect-on live distances = let q = s .nearestRead n live distances in
       step-keeps (GoesOn c) (reselectRefusals c n live q) (maskOf q) c (reselected c live distances (maskOf q)) tt (same c) (λ k. inl (refl, refl))
 
   request-on : GoesOn c (requestCommitOf s c n .coordinator)
   unfolding requestCommitOf requestCommitRefusals requested
   request-on =
-      let q = s .nearestWrite (c .live) (c .distances) in
+      let q = s .nearestWrite n (c .live) (c .distances) in
       let party = joined (maskOf q) (c .contacted) in
       step-keeps (GoesOn c) (requestCommitRefusals s c n q) party c (requested c party) tt (same c) (λ k. inl (refl, refl))
 

@@ -38,21 +38,27 @@ all-distances d l e f =
     (λ j h. let z : 2 * j ≡ 0 + 2 * j = omega arith in f j (omega arith) ∙ ap (get 2 l) z ∙ sym (getD-pairs nodes l 0 j (omega arith)))
 
 -- ---- the answer, refusal by refusal
-pub answer-length : (k : Kind) (live : ℕ) (bytes : List ℕ) → (length bytes ≡ 26 → ⊥) → nearestAnswer k live bytes ≡ answerOf 1 Nothing
+pub answer-length : (k : Kind) (live : ℕ) (bytes : List ℕ) (asker : ℕ) → (length bytes ≡ 26 → ⊥) → nearestAnswer k live bytes asker ≡ answerOf 1 Nothing
 unfolding nearestAnswer
-answer-length k live bytes f = simp (ne-eqb (length bytes) 26 f)
+answer-length k live bytes asker f = simp (ne-eqb (length bytes) 26 f)
 
-pub answer-stranger : (k : Kind) (live : ℕ) (bytes : List ℕ) → length bytes ≡ 26 → everyNode < live → nearestAnswer k live bytes ≡ answerOf 4 Nothing
+pub answer-stranger : (k : Kind) (live : ℕ) (bytes : List ℕ) (asker : ℕ) → length bytes ≡ 26 → everyNode < live
+    → nearestAnswer k live bytes asker ≡ answerOf 4 Nothing
 unfolding nearestAnswer
-answer-stranger k live bytes e h = simp (eq-eqb (length bytes) 26 e, lt-ltb everyNode live h)
+answer-stranger k live bytes asker e h = simp (eq-eqb (length bytes) 26 e, lt-ltb everyNode live h)
 
--- past these two the choice alone decides: nothing is 8
-pub answer-choice : (k : Kind) (live : ℕ) (bytes : List ℕ) (x : Choice) → length bytes ≡ 26 → live ≤ everyNode
-    → nearestOf live (distancesOf bytes) (smallest k) ≡ x → nearestAnswer k live bytes ≡ answerOf (numberOf x) x
+pub answer-no-node : (k : Kind) (live : ℕ) (bytes : List ℕ) (asker : ℕ) → length bytes ≡ 26 → live ≤ everyNode → nodes ≤ asker
+    → nearestAnswer k live bytes asker ≡ answerOf 4 Nothing
 unfolding nearestAnswer
-answer-choice k live bytes Nothing e h p =
-    let q : isQuorum k live ≡ false = sym (Bool·not-not (isQuorum k live)) ∙ ap not (sym (none-exactly k live (distancesOf bytes)) ∙ ap isNothing p) in
-    simp (eq-eqb (length bytes) 26 e, le-ltb everyNode live h, q)
-answer-choice k live bytes (Quorum m s) e h p =
-    let q : isQuorum k live ≡ true = sym (Bool·not-not (isQuorum k live)) ∙ ap not (sym (none-exactly k live (distancesOf bytes)) ∙ ap isNothing p) in
-    simp (eq-eqb (length bytes) 26 e, le-ltb everyNode live h, q, p)
+answer-no-node k live bytes asker e h n = simp (eq-eqb (length bytes) 26 e, le-ltb everyNode live h, le-ltb asker nodes n)
+
+-- past these the choice alone decides: nothing is 8
+pub answer-choice : (k : Kind) (live : ℕ) (bytes : List ℕ) (asker : ℕ) (x : Choice) → length bytes ≡ 26 → live ≤ everyNode → asker < nodes
+    → nearestOf asker live (distancesOf bytes) (smallest k) ≡ x → nearestAnswer k live bytes asker ≡ answerOf (numberOf x) x
+unfolding nearestAnswer
+answer-choice k live bytes asker Nothing e h n p =
+    let q : isQuorum k live ≡ false = sym (Bool·not-not (isQuorum k live)) ∙ ap not (sym (none-exactly k asker live (distancesOf bytes)) ∙ ap isNothing p) in
+    simp (eq-eqb (length bytes) 26 e, le-ltb everyNode live h, lt-ltb asker nodes n, q)
+answer-choice k live bytes asker (Quorum m s) e h n p =
+    let q : isQuorum k live ≡ true = sym (Bool·not-not (isQuorum k live)) ∙ ap not (sym (none-exactly k asker live (distancesOf bytes)) ∙ ap isNothing p) in
+    simp (eq-eqb (length bytes) 26 e, le-ltb everyNode live h, lt-ltb asker nodes n, q, p)

@@ -16,6 +16,7 @@ ghost use Rattle.host.specs.Distances.{distancesOf};
 ghost use Rattle.host.specs.Nearest.{answerOf, nearestAnswer};
 use numbers::EVERY_NODE;
 use numbers::NODES;
+use numbers::NODES_END;
 use quorum::Choice;
 use quorum::Kind;
 
@@ -54,9 +55,9 @@ fn refused(number: u8) -> Chosen
     }
 }
 
-// The nearest quorum of a kind, or the first refusal that fits.
-fn nearest(kind: Kind, live: u16, distances: &[u8]) -> Chosen
-    ensures { λ r. ⌜ r ≡ nearestAnswer kind live (now (distances .entry)) ⌝ }
+// The nearest quorum of a kind for an asker, or the first refusal that fits.
+fn nearest(kind: Kind, live: u16, distances: &[u8], asker: u8) -> Chosen
+    ensures { λ r. ⌜ r ≡ nearestAnswer kind live (now (distances .entry)) asker ⌝ }
 {
     if distances.len() != DISTANCES {
         return refused(numbers::LENGTH);
@@ -64,8 +65,11 @@ fn nearest(kind: Kind, live: u16, distances: &[u8]) -> Chosen
     if EVERY_NODE < live {
         return refused(numbers::STRANGER);
     }
+    if NODES_END <= asker {
+        return refused(numbers::STRANGER);
+    }
     let d = distances_of(distances);
-    let choice = quorum::nearest(kind, live, &d);
+    let choice = quorum::nearest(kind, asker, live, &d);
     match choice {
         Choice::Quorum(mask, sum) => Chosen {
             number: 0,
@@ -99,18 +103,18 @@ pub extern "C" fn senna_is_write_quorum(mask: u16) -> u8
     is_quorum(Kind::Write, mask)
 }
 
-// The nearest read quorum within live. Ruled out: 8 where live has one; a set's mask with another set's sum.
+// The nearest read quorum within live, for an asker. Ruled out: 8 where live has one; a set's mask with another set's sum.
 #[no_mangle]
-pub extern "C" fn senna_nearest_read(live: u16, distances: &[u8]) -> Chosen
-    ensures { λ r. ⌜ r ≡ nearestAnswer Read live (now (distances .entry)) ⌝ }
+pub extern "C" fn senna_nearest_read(live: u16, distances: &[u8], asker: u8) -> Chosen
+    ensures { λ r. ⌜ r ≡ nearestAnswer Read live (now (distances .entry)) asker ⌝ }
 {
-    nearest(Kind::Read, live, distances)
+    nearest(Kind::Read, live, distances, asker)
 }
 
-// The nearest write quorum within live. Ruled out: 8 before 1 where both fit; of equal sums the higher mask.
+// The nearest write quorum within live, for an asker. Ruled out: 8 before 1 where both fit; of equal sums a set without the asker where one has him.
 #[no_mangle]
-pub extern "C" fn senna_nearest_write(live: u16, distances: &[u8]) -> Chosen
-    ensures { λ r. ⌜ r ≡ nearestAnswer Write live (now (distances .entry)) ⌝ }
+pub extern "C" fn senna_nearest_write(live: u16, distances: &[u8], asker: u8) -> Chosen
+    ensures { λ r. ⌜ r ≡ nearestAnswer Write live (now (distances .entry)) asker ⌝ }
 {
-    nearest(Kind::Write, live, distances)
+    nearest(Kind::Write, live, distances, asker)
 }

@@ -94,15 +94,15 @@ module _ (s : System) (q : Quorums s) (c : Coordinator) (me : ℕ) (m : Meets s 
   -- what a request comes to where only the objects differ, all are settled and none is used up
   asked : (x : Coordinator) → Alike c x → allSettled s (x .objects) (c .count) ≡ true → anyUsedUp (x .objects) (c .count) ≡ false
       → requestCommitOf s c me .number ≡ 0
-      → (requestCommitOf s x me .number ≡ 0) × (requestCommitOf s x me .answer ≡ joined (maskOf (s .nearestWrite (c .live) (c .distances))) (c .contacted))
+      → (requestCommitOf s x me .number ≡ 0) × (requestCommitOf s x me .answer ≡ joined (maskOf (s .nearestWrite me (c .live) (c .distances))) (c .contacted))
   unfolding requestCommitOf requestCommitRefusals
   asked x alike settles unused e =
-      let chosen = s .nearestWrite (c .live) (c .distances) in
+      let chosen = s .nearestWrite me (c .live) (c .distances) in
       let k = clear (requestCommitRefusals s c me chosen) tt (step-number _ _ _ _ ∙ e) in
       let some : eqb (c .count) 0 ≡ false = neither-left (eqb (c .count) 0) (not (allSettled s (c .objects) (c .count))) (k .1 .1 .0) in
       subst
       (λ (y : Coordinator).
-      (requestCommitOf s y me .number ≡ 0) × (requestCommitOf s y me .answer ≡ joined (maskOf (s .nearestWrite (c .live) (c .distances))) (c .contacted)))
+      (requestCommitOf s y me .number ≡ 0) × (requestCommitOf s y me .answer ≡ joined (maskOf (s .nearestWrite me (c .live) (c .distances))) (c .contacted)))
       (sym alike) (stepped _ _ _ _ (simp (k .0, k .1 .0, some, settles, k .1 .1 .1 .0, unused)))
 
   pub summed-number : requestCommitOf s c me .number ≡ 0
@@ -110,7 +110,7 @@ module _ (s : System) (q : Quorums s) (c : Coordinator) (me : ℕ) (m : Meets s 
       × (requestCommitOf s (ran s c me (summing (inUse c) [])) me .answer ≡ requestCommitOf s c me .answer)
   unfolding requestCommitOf requestCommitRefusals
   summed-number e =
-      let chosen = s .nearestWrite (c .live) (c .distances) in
+      let chosen = s .nearestWrite me (c .live) (c .distances) in
       let k = clear (requestCommitRefusals s c me chosen) tt (step-number _ _ _ _ ∙ e) in
       let all : allSettled s (c .objects) (c .count) ≡ true =
       not-false (allSettled s (c .objects) (c .count)) (neither-right (eqb (c .count) 0) (not (allSettled s (c .objects) (c .count))) (k .1 .1 .0)) in

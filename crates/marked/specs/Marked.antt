@@ -1,4 +1,4 @@
--- The nine marked cases of document 01: one table, and one fact over all of its rows, by computation.
+-- The nine marked cases of document 01, whose asker is node 0, and the one of document 02: one table, and one fact over all of its rows, by computation.
 use mathlib.Core.Bool.{Bool, true, false, Bool·beq, _&&_}
 use mathlib.Core.List.{List, [], _∷_}
 use Prim.Native.Nat.{ℕ}
@@ -11,9 +11,9 @@ use Rattle.quorum.specs.declared.Kind.the-variants.{Read, Write}
 use Rattle.quorum.specs.Smallest.{smallest}
 use Rattle.quorum.specs.Nearest.{nearestOf}
 
--- a row: the live nodes, the distances, and the read and write quorums chosen; or two timestamps with their owners, and whether the first is older
+-- a row: the asker, the live nodes, the distances, and the read and write quorums chosen; or two timestamps with their owners, and whether the first is older
 pub data Row : Type 0 where
-  near : ℕ → List ℕ → Choice → Choice → Row
+  near : ℕ → ℕ → List ℕ → Choice → Choice → Row
   aged : ℕ → ℕ → ℕ → ℕ → Bool → Row
 
 abbrev pub sameChoice : Choice → Choice → Bool
@@ -24,7 +24,8 @@ sameChoice (Quorum m s) (Quorum n t) = eqb m n && eqb s t
 
 -- what the rules give is what the row says
 abbrev pub right : Row → Bool
-right (near live d read write) = sameChoice (nearestOf live d (smallest Read)) read && sameChoice (nearestOf live d (smallest Write)) write
+right (near asker live d read write) =
+    sameChoice (nearestOf asker live d (smallest Read)) read && sameChoice (nearestOf asker live d (smallest Write)) write
 right (aged s o t p b) = Bool·beq (older s o t p) b
 
 -- distance x at node 0, 1 elsewhere
@@ -33,15 +34,16 @@ at0 x = x ∷ replicate 12 1
 
 abbrev pub rows : List Row
 rows =
-    near 8191 (at0 1) (Quorum 1 1) (Quorum 439 7)
-    ∷ near 8190 (at0 1) (Quorum 6 2) Nothing
-    ∷ near 8188 (at0 1) (Quorum 12 2) Nothing
-    ∷ near 8176 (at0 1) (Quorum 432 4) Nothing
-    ∷ near 8143 (at0 1) (Quorum 1 1) (Quorum 3469 7)
-    ∷ near 8191 (at0 2) (Quorum 1 2) (Quorum 439 8)
-    ∷ near 8191 (at0 9) (Quorum 6 2) (Quorum 439 15)
-    ∷ near 0 (at0 1) Nothing Nothing
+    near 0 8191 (at0 1) (Quorum 1 1) (Quorum 439 7)
+    ∷ near 0 8190 (at0 1) (Quorum 6 2) Nothing
+    ∷ near 0 8188 (at0 1) (Quorum 12 2) Nothing
+    ∷ near 0 8176 (at0 1) (Quorum 432 4) Nothing
+    ∷ near 0 8143 (at0 1) (Quorum 1 1) (Quorum 3469 7)
+    ∷ near 0 8191 (at0 2) (Quorum 1 2) (Quorum 439 8)
+    ∷ near 0 8191 (at0 9) (Quorum 6 2) (Quorum 439 15)
+    ∷ near 0 0 (at0 1) Nothing Nothing
     ∷ aged 7 4 7 5 true
+    ∷ near 3 8190 (at0 1) (Quorum 10 2) Nothing
     ∷ []
 
 abbrev pub allRight : List Row → Bool

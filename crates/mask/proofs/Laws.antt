@@ -25,7 +25,7 @@ bit-counted m i = by (bit m i) (bit-lt m i)
     by (suc (suc x)) h = absurd (omega arith)
 
 -- a statement about two bits is a table of four rows
-by-bits : (P : ℕ → ℕ → Type 0) → P 0 0 → P 0 1 → P 1 0 → P 1 1 → (x y : ℕ) → x < 2 → y < 2 → P x y
+pub by-bits : (P : ℕ → ℕ → Type 0) → P 0 0 → P 0 1 → P 1 0 → P 1 1 → (x y : ℕ) → x < 2 → y < 2 → P x y
 by-bits P a b c d zero zero hx hy = a
 by-bits P a b c d zero (suc zero) hx hy = b
 by-bits P a b c d (suc zero) zero hx hy = c

@@ -1,18 +1,19 @@
--- The lesser of two keys means the better of two choices, and the sum of two keys means their join.
+-- The lesser of two keys means the lighter of two choices, and the sum of two keys means their join.
 use mathlib.Core.Path.{_≡_, refl, sym, ap₂, subst}
 use mathlib.Core.Bool.{Bool, true, false, cond}
-use Prim.Native.Nat.{ℕ, _+_, _*_, _/_, _%_, _≤_, _<_}
+use Prim.Native.Nat.{ℕ, _+_, _-_, _*_, _/_, _%_, _≤_, _<_}
 use native.Mathlib.Omega.{arith}
 use lib.Dec.{T, ltb, leb, ltb→lt}
 use borrow.Author.Tests.{leb-true, leb-false}
+use Rattle.mask.specs.Mask.{bit}
 use Rattle.quorum.specs.declared.Choice.{Choice}
 use Rattle.quorum.specs.declared.Choice.the-variants.{Quorum, Nothing}
 use Rattle.quorum.specs.declared.Kind.{Kind}
 use Rattle.quorum.specs.declared.Kind.the-variants.{Read, Write}
-use Rattle.quorum.specs.Nearest.{betterOf}
-use Rattle.quorum.specs.Levels.{bothOf, choosePair, withRoot}
+use Rattle.quorum.specs.Levels.{lighterOf, bothOf, choosePair, withRoot}
 use Rattle.quorum.specs.Key.{absent, Means, lesserOf, pairKey, rootKey}
 use Rattle.quorum.proofs.Order.{by-key, not-by-key}
+use Rattle.quorum.proofs.Near.{weighed}
 use Rattle.quorum.proofs.Optimal.{passes}
 
 -- ---- the lesser of two keys
@@ -34,14 +35,14 @@ wider : (b c k : ℕ) (x : Choice) → b ≤ c → Means b k x → Means c k x
 wider b c k Nothing h p = p
 wider b c k (Quorum m s) h p = (p .0, omega arith, omega arith)
 
-means-lesser : (b c k j : ℕ) (x y : Choice) → Small b → Small c → Means b k x → Means c j y → Means (b + c) (lesserOf k j) (betterOf x y)
+means-lesser : (b c k j : ℕ) (x y : Choice) → Small b → Small c → Means b k x → Means c j y → Means (b + c) (lesserOf k j) (lighterOf x y)
 means-lesser b c k j Nothing Nothing u v p q = lesser-cases (λ (i : ℕ). absent ≤ i) k j (λ h. p) (λ h. q)
 means-lesser b c k j Nothing (Quorum n t) u v p q =
     lesser-cases (λ (i : ℕ). Means (b + c) i (Quorum n t)) k j (λ h. absurd (omega arith)) (λ h. (q .0, omega arith, omega arith))
 means-lesser b c k j (Quorum m s) Nothing u v p q =
     lesser-cases (λ (i : ℕ). Means (b + c) i (Quorum m s)) k j (λ h. (p .0, omega arith, omega arith)) (λ h. absurd (omega arith))
 means-lesser b c k j (Quorum m s) (Quorum n t) u v p q =
-    lesser-cases (λ (i : ℕ). Means (b + c) i (betterOf (Quorum m s) (Quorum n t))) k j
+    lesser-cases (λ (i : ℕ). Means (b + c) i (lighterOf (Quorum m s) (Quorum n t))) k j
     (λ h. subst (Means (b + c) k) (sym (by-key m s n t (omega arith) (omega arith) (omega arith))) (p .0, omega arith, omega arith))
     (λ h. subst (Means (b + c) j) (sym (not-by-key m s n t (omega arith) (omega arith) (omega arith))) (q .0, omega arith, omega arith))
 
@@ -55,7 +56,7 @@ pub means-pair : (b i j k : ℕ) (x y z : Choice) → b ≤ 458745 → Means b i
     → Means (6 * b) (pairKey i j k) (choosePair x y z)
 means-pair b i j k x y z h p q r =
     wider (b + b + (b + b + (b + b))) (6 * b) (pairKey i j k) (choosePair x y z) (omega arith)
-    (means-lesser (b + b) (b + b + (b + b)) (i + j) (lesserOf (i + k) (j + k)) (bothOf x y) (betterOf (bothOf x z) (bothOf y z)) (omega arith) (omega arith)
+    (means-lesser (b + b) (b + b + (b + b)) (i + j) (lesserOf (i + k) (j + k)) (bothOf x y) (lighterOf (bothOf x z) (bothOf y z)) (omega arith) (omega arith)
     (means-both b b i j x y p q)
     (means-lesser (b + b) (b + b) (i + k) (j + k) (bothOf x z) (bothOf y z) (omega arith) (omega arith)
     (means-both b b i k x z p r) (means-both b b j k y z q r)))
@@ -75,15 +76,16 @@ root-most Read a b x y p q = lesser-most a b (x + y) (omega arith) (omega arith)
 root-most Write a b x y p q = omega arith
 
 -- ---- the choice that a key means
-pub meant : (b k : ℕ) (x : Choice) → b ≤ 8388608 → Means b k x → T (passes (λ (m : ℕ). ltb m 65536) x) → k < absent
+pub meant : (asker z b k : ℕ) (x : Choice) → b ≤ 8388608 → z ≤ 255 → Means b k (weighed asker z x) → T (passes (λ (m : ℕ). ltb m 65536) x) → k < absent
     → (k % 65536 < 65536) × (k / 4294967296 < 4294967296) × (Quorum (k % 65536) (k / 4294967296) ≡ x)
-meant b k Nothing h p t l = absurd (omega arith)
-meant b k (Quorum m s) h p t l =
-    let g : m < 65536 = ltb→lt m 65536 t in
-    let u : k % 65536 ≡ m = omega arith in
-    let v : k / 4294967296 ≡ s = omega arith in
+meant asker z b k Nothing h g p t l = absurd (omega arith)
+meant asker z b k (Quorum m s) h g p t l =
+    let y : m < 65536 = ltb→lt m 65536 t in
+    let e : k ≡ 16777216 * (256 * s + (z - bit m asker)) + m = p .0 in
+    let u : k % 65536 ≡ m = omega (arith, e) in
+    let v : k / 4294967296 ≡ s = omega (arith, e) in
     (omega arith, omega arith, ap₂ Quorum u v)
 
-pub meant-nothing : (b k : ℕ) (x : Choice) → b ≤ 8388608 → Means b k x → absent ≤ k → Nothing ≡ x
-meant-nothing b k Nothing h p l = refl
-meant-nothing b k (Quorum m s) h p l = absurd (omega arith)
+pub meant-nothing : (asker z b k : ℕ) (x : Choice) → b ≤ 8388608 → Means b k (weighed asker z x) → absent ≤ k → Nothing ≡ x
+meant-nothing asker z b k Nothing h p l = refl
+meant-nothing asker z b k (Quorum m s) h p l = absurd (omega arith)

@@ -3,8 +3,10 @@ pub mod Meet
 pub mod Apart
 pub mod Contain
 pub mod Order
+pub mod Near
 pub mod Steps
 pub mod Optimal
 pub mod Keys
 pub mod Threes
+pub mod Zero
 pub mod Theorems

@@ -1,13 +1,13 @@
 -- What the proofs of the level-by-level functions use: one level of each definition, which roots a call may name, and that keys fit.
 use mathlib.Core.Path.{_≡_, refl, sym, ap, subst}
 use mathlib.Core.List.{List}
-use Prim.Native.Nat.{ℕ, zero, suc, _+_, _-_, _*_, _^_, _≤_, _<_}
+use Prim.Native.Nat.{ℕ, zero, suc, _+_, _-_, _*_, _%_, _^_, _≤_, _<_}
 use native.Mathlib.Nat.{pow-suc}
 use native.Mathlib.Omega.{arith}
 use Rattle.numbers.specs.Sizes.{nodes}
 use Rattle.quorum.specs.declared.Kind.{Kind}
 use Rattle.quorum.specs.Tree.{last}
-use Rattle.quorum.specs.Levels.{aloneOf, leavesOf, withRoot, bestOf, pairOf}
+use Rattle.quorum.specs.Levels.{aloneOf, withRoot, bestOf, pairOf}
 use Rattle.quorum.specs.Key.{absent, bound}
 
 -- ---- roots
@@ -34,21 +34,16 @@ pub child-small : (h r : ℕ) → last h (3 * r + 3) < nodes → 3 * r + 3 < nod
 child-small h r b = omega (arith, root-le-last h (3 * r + 3))
 
 -- ---- one level of the choice
-pub best-zero : (k : Kind) (live : ℕ) (d : List ℕ) (h r : ℕ) → h ≡ 0 → bestOf k live d h r ≡ aloneOf live d r
+pub best-zero : (k : Kind) (asker live : ℕ) (d : List ℕ) (h r : ℕ) → h ≡ 0 → bestOf k asker live d h r ≡ aloneOf asker live d h r
 unfolding bestOf
-best-zero k live d zero r f = refl
-best-zero k live d (suc h) r f = absurd (omega arith)
+best-zero k asker live d zero r f = refl
+best-zero k asker live d (suc h) r f = absurd (omega arith)
 
-pub pair-zero : (k : Kind) (live : ℕ) (d : List ℕ) (h r : ℕ) → h ≡ 0 → pairOf k live d h r ≡ leavesOf live d (3 * r)
+pub best-step : (k : Kind) (asker live : ℕ) (d : List ℕ) (h r : ℕ) → (h ≡ 0 → ⊥)
+    → bestOf k asker live d h r ≡ withRoot k (aloneOf asker live d h r) (pairOf k asker live d (h - 1) r)
 unfolding bestOf pairOf
-pair-zero k live d zero r f = refl
-pair-zero k live d (suc h) r f = absurd (omega arith)
-
-pub best-step : (k : Kind) (live : ℕ) (d : List ℕ) (h r : ℕ) → (h ≡ 0 → ⊥)
-    → bestOf k live d h r ≡ withRoot k (aloneOf live d r) (pairOf k live d (h - 1) r)
-unfolding bestOf pairOf
-best-step k live d zero r f = absurd (f refl)
-best-step k live d (suc h) r f = ap (λ (j : ℕ). withRoot k (aloneOf live d r) (pairOf k live d j r)) (sym (less-one h))
+best-step k asker live d zero r f = absurd (f refl)
+best-step k asker live d (suc h) r f = ap (λ (j : ℕ). withRoot k (aloneOf asker live d (suc h) r) (pairOf k asker live d j r)) (sym (less-one h))
 
 -- ---- keys
 -- the largest key at a height
@@ -83,3 +78,11 @@ pub bound-small : (h : ℕ) → h ≤ 1 → bound h ≤ 458745
 bound-small zero e = omega arith
 bound-small (suc zero) e = omega arith
 bound-small (suc (suc h)) e = absurd (omega arith)
+
+-- ---- turns
+-- 1 shifted by a height: a power of two, from 1 to 4
+pub turn-count : (h : ℕ) → h ≤ 2 → ((1 * 2 ^ h) % 2 ^ 64 ≡ 2 ^ h) × (1 ≤ 2 ^ h) × (2 ^ h ≤ 4)
+turn-count zero e = (refl, omega arith, omega arith)
+turn-count (suc zero) e = (refl, omega arith, omega arith)
+turn-count (suc (suc zero)) e = (refl, omega arith, omega arith)
+turn-count (suc (suc (suc h))) e = absurd (omega arith)

@@ -20,7 +20,7 @@ use Rattle.quorum.specs.Nearest.{distance, nearer, betterOf, oneOf, near
 use Rattle.quorum.proofs.Meet.{meet, write-root, larger}
 use Rattle.quorum.proofs.Apart.{apartFrom, allApart, same-place}
 use Rattle.quorum.proofs.Contain.{anyWithin, any-smallest}
-use Rattle.quorum.proofs.Order.{asNear, as-near-self, as-near-left, as-near-right}
+use Rattle.quorum.proofs.Near.{asNear, as-near-self, as-near-left, as-near-right}
 
 -- ---- the tree
 -- nodes 4 to 12 are the leaves
@@ -81,24 +81,25 @@ pub data In : ℕ → List ℕ → Type 0 where
   there : {q p : ℕ} {qs : List ℕ} → In q qs → In q (p ∷ qs)
 
 -- no set of the list inside live is nearer than the choice
-pub none-nearer : (live : ℕ) (d : List ℕ) (q : ℕ) (qs : List ℕ) → In q qs → T (within q live) → T (asNear (nearestOf live d qs) q (distance d q))
-none-nearer live d q qs (here {qs = rest}) w = as-near-left (oneOf live d q) (nearestOf live d rest) q (distance d q) (by (within q live) w)
+pub none-nearer : (asker live : ℕ) (d : List ℕ) (q : ℕ) (qs : List ℕ) → In q qs → T (within q live)
+    → T (asNear asker (nearestOf asker live d qs) q (distance d q))
+none-nearer asker live d q qs (here {qs = rest}) w = as-near-left asker (oneOf live d q) (nearestOf asker live d rest) q (distance d q) (by (within q live) w)
   where
-    by : (b : Bool) → T b → T (asNear (cond b (Quorum q (distance d q)) Nothing) q (distance d q))
-    by true t = as-near-self q (distance d q)
+    by : (b : Bool) → T b → T (asNear asker (cond b (Quorum q (distance d q)) Nothing) q (distance d q))
+    by true t = as-near-self asker q (distance d q)
     by false t = absurd t
-none-nearer live d q qs (there {p = p} {qs = rest} i) w =
-    as-near-right (oneOf live d p) (nearestOf live d rest) q (distance d q) (none-nearer live d q rest i w)
+none-nearer asker live d q qs (there {p = p} {qs = rest} i) w =
+    as-near-right asker (oneOf live d p) (nearestOf asker live d rest) q (distance d q) (none-nearer asker live d q rest i w)
 
 -- a choice is one of the list, inside live, with its own sum
 abbrev pub Chosen : ℕ → List ℕ → List ℕ → Choice → Type 0
 Chosen live d qs Nothing = T true
 Chosen live d qs (Quorum m s) = In m qs × T (within m live) × (s ≡ distance d m)
 
-chosen-better : (live : ℕ) (d qs : List ℕ) (x y : Choice) → Chosen live d qs x → Chosen live d qs y → Chosen live d qs (betterOf x y)
-chosen-better live d qs Nothing y p q = q
-chosen-better live d qs (Quorum m s) Nothing p q = p
-chosen-better live d qs (Quorum m s) (Quorum n t) p q = by (nearer m s n t)
+chosen-better : (asker live : ℕ) (d qs : List ℕ) (x y : Choice) → Chosen live d qs x → Chosen live d qs y → Chosen live d qs (betterOf asker x y)
+chosen-better asker live d qs Nothing y p q = q
+chosen-better asker live d qs (Quorum m s) Nothing p q = p
+chosen-better asker live d qs (Quorum m s) (Quorum n t) p q = by (nearer asker m s n t)
   where
     by : (b : Bool) → Chosen live d qs (cond b (Quorum m s) (Quorum n t))
     by true = p
@@ -108,11 +109,11 @@ chosen-more : (live : ℕ) (d : List ℕ) (q : ℕ) (qs : List ℕ) (x : Choice)
 chosen-more live d q qs Nothing p = tt
 chosen-more live d q qs (Quorum m s) p = (there (p .0), p .1, p .2)
 
-pub chosen : (live : ℕ) (d qs : List ℕ) → Chosen live d qs (nearestOf live d qs)
-chosen live d [] = tt
-chosen live d (q ∷ qs) =
-    chosen-better live d (q ∷ qs) (oneOf live d q) (nearestOf live d qs) (by (within q live) (λ t. t))
-    (chosen-more live d q qs (nearestOf live d qs) (chosen live d qs))
+pub chosen : (asker live : ℕ) (d qs : List ℕ) → Chosen live d qs (nearestOf asker live d qs)
+chosen asker live d [] = tt
+chosen asker live d (q ∷ qs) =
+    chosen-better asker live d (q ∷ qs) (oneOf live d q) (nearestOf asker live d qs) (by (within q live) (λ t. t))
+    (chosen-more live d q qs (nearestOf asker live d qs) (chosen asker live d qs))
   where
     by : (b : Bool) → (T b → T (within q live)) → Chosen live d (q ∷ qs) (cond b (Quorum q (distance d q)) Nothing)
     by true f = (here, f tt, refl)
@@ -123,26 +124,26 @@ abbrev pub isNothing : Choice → Bool
 isNothing Nothing = true
 isNothing (Quorum m s) = false
 
-nothing-better : (b : Bool) (q s : ℕ) (y : Choice) → isNothing (betterOf (cond b (Quorum q s) Nothing) y) ≡ not (b || not (isNothing y))
-nothing-better true q s Nothing = refl
-nothing-better true q s (Quorum n t) = by (nearer q s n t)
+nothing-better : (asker : ℕ) (b : Bool) (q s : ℕ) (y : Choice) → isNothing (betterOf asker (cond b (Quorum q s) Nothing) y) ≡ not (b || not (isNothing y))
+nothing-better asker true q s Nothing = refl
+nothing-better asker true q s (Quorum n t) = by (nearer asker q s n t)
   where
     by : (b : Bool) → isNothing (cond b (Quorum q s) (Quorum n t)) ≡ false
     by true = refl
     by false = refl
-nothing-better false q s Nothing = refl
-nothing-better false q s (Quorum n t) = refl
+nothing-better asker false q s Nothing = refl
+nothing-better asker false q s (Quorum n t) = refl
 
-pub none-in-list : (live : ℕ) (d qs : List ℕ) → isNothing (nearestOf live d qs) ≡ not (anyWithin qs live)
-none-in-list live d [] = refl
-none-in-list live d (q ∷ qs) =
-    nothing-better (within q live) q (distance d q) (nearestOf live d qs)
-    ∙ ap (λ (b : Bool). not (within q live || b)) (ap not (none-in-list live d qs) ∙ Bool·not-not (anyWithin qs live))
+pub none-in-list : (asker live : ℕ) (d qs : List ℕ) → isNothing (nearestOf asker live d qs) ≡ not (anyWithin qs live)
+none-in-list asker live d [] = refl
+none-in-list asker live d (q ∷ qs) =
+    nothing-better asker (within q live) q (distance d q) (nearestOf asker live d qs)
+    ∙ ap (λ (b : Bool). not (within q live || b)) (ap not (none-in-list asker live d qs) ∙ Bool·not-not (anyWithin qs live))
 
 -- 'no quorum' is said exactly when live contains none
-pub none-exactly : (k : Kind) (live : ℕ) (d : List ℕ) → isNothing (nearestOf live d (smallest k)) ≡ not (isQuorum k live)
+pub none-exactly : (k : Kind) (asker live : ℕ) (d : List ℕ) → isNothing (nearestOf asker live d (smallest k)) ≡ not (isQuorum k live)
 unfolding isQuorum smallest
-none-exactly k live d = none-in-list live d (smallest k) ∙ ap not (any-smallest live k height root)
+none-exactly k asker live d = none-in-list asker live d (smallest k) ∙ ap not (any-smallest live k height root)
 
 -- ---- document 01's number and values
 number-by : (x : Choice) → numberOf x ≡ cond (isNothing x) noQuorum 0
@@ -153,9 +154,9 @@ not-cond : (b : Bool) → cond (not b) noQuorum 0 ≡ cond b 0 noQuorum
 not-cond true = refl
 not-cond false = refl
 
-pub number-exactly : (k : Kind) (live : ℕ) (d : List ℕ) → numberOf (nearestOf live d (smallest k)) ≡ cond (isQuorum k live) 0 noQuorum
-number-exactly k live d =
-    number-by (nearestOf live d (smallest k)) ∙ ap (λ (b : Bool). cond b noQuorum 0) (none-exactly k live d) ∙ not-cond (isQuorum k live)
+pub number-exactly : (k : Kind) (asker live : ℕ) (d : List ℕ) → numberOf (nearestOf asker live d (smallest k)) ≡ cond (isQuorum k live) 0 noQuorum
+number-exactly k asker live d =
+    number-by (nearestOf asker live d (smallest k)) ∙ ap (λ (b : Bool). cond b noQuorum 0) (none-exactly k asker live d) ∙ not-cond (isQuorum k live)
 
 -- the sum is the set's own, 0 for none
 distance-none : (d : List ℕ) → distance d 0 ≡ 0
@@ -166,5 +167,5 @@ own-sum : (live : ℕ) (d qs : List ℕ) (x : Choice) → Chosen live d qs x →
 own-sum live d qs Nothing p = sym (distance-none d)
 own-sum live d qs (Quorum m s) p = p .2
 
-pub sum-exactly : (live : ℕ) (d qs : List ℕ) → sumOf (nearestOf live d qs) ≡ distance d (maskOf (nearestOf live d qs))
-sum-exactly live d qs = own-sum live d qs (nearestOf live d qs) (chosen live d qs)
+pub sum-exactly : (asker live : ℕ) (d qs : List ℕ) → sumOf (nearestOf asker live d qs) ≡ distance d (maskOf (nearestOf asker live d qs))
+sum-exactly asker live d qs = own-sum live d qs (nearestOf asker live d qs) (chosen asker live d qs)

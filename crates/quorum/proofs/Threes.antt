@@ -40,8 +40,10 @@ thirds y =
     let b : ℕ = a / 2 / 2 / 2 in
     let e : a ≡ y / 8 = omega arith in
     let f : b ≡ y / 64 = omega (arith, e) in
-    let s : bitAnd y 73 ≡ bitAnd a 9 * 8 + y % 2 = omega (arith, and-one y 73 36 refl refl, and-none (y / 2) 36 18 refl refl, and-none (y / 2 / 2) 18 9 refl refl) in
-    let t : bitAnd a 9 ≡ bitAnd b 1 * 8 + a % 2 = omega (arith, and-one a 9 4 refl refl, and-none (a / 2) 4 2 refl refl, and-none (a / 2 / 2) 2 1 refl refl) in
+    let s : bitAnd y 73 ≡ bitAnd a 9 * 8 + y % 2 =
+    omega (arith, and-one y 73 36 refl refl, and-none (y / 2) 36 18 refl refl, and-none (y / 2 / 2) 18 9 refl refl) in
+    let t : bitAnd a 9 ≡ bitAnd b 1 * 8 + a % 2 =
+    omega (arith, and-one a 9 4 refl refl, and-none (a / 2) 4 2 refl refl, and-none (a / 2 / 2) 2 1 refl refl) in
     let u : bitAnd b 1 ≡ b % 2 = omega (arith, and-one b 1 0 refl refl, and-zero-r (b / 2)) in
     s ∙ omega (arith, t, u) ∙ ap₂ (λ (p q : ℕ). y % 2 + 8 * (p % 2) + 64 * (q % 2)) e f
 

@@ -1,4 +1,4 @@
--- A choice as one number, as the private functions carry it: the sum times 2 ^ 32, and the mask. What is proved of them is in proofs/Keys.antt.
+-- A weighed choice as one number, as the private functions carry it: the weight times 2 ^ 24, and the mask. What is proved of them is in proofs/Keys.antt.
 use mathlib.Core.Path.{_≡_}
 use mathlib.Core.Bool.{cond}
 use Prim.Native.Nat.{ℕ, zero, suc, _+_, _*_, _≤_}
@@ -13,12 +13,12 @@ abbrev pub absent : ℕ
 absent = 72057594037927936
 
 abbrev pub keyOf : ℕ → ℕ → ℕ
-keyOf m s = 4294967296 * s + m
+keyOf m w = 16777216 * w + m
 
--- the key k means the choice, whose mask and sum are at most b
+-- the key k means the choice, whose mask is at most b, and whose weight is at most what a sum of b weighs
 abbrev pub Means : ℕ → ℕ → Choice → Type 0
 Means b k Nothing = absent ≤ k
-Means b k (Quorum m s) = (k ≡ keyOf m s) × (m ≤ b) × (s ≤ b)
+Means b k (Quorum m w) = (k ≡ keyOf m w) × (m ≤ b) × (w ≤ 257 * b)
 
 -- the b of a subtree of height h
 abbrev pub bound : ℕ → ℕ

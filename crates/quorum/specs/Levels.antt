@@ -1,7 +1,10 @@
--- The choice made level by level: a subtree's best set comes from its children's best pairs, and a pair's from the subtrees one level down.
-use mathlib.Core.Bool.{cond}
+-- The choice made level by level: a subtree's best set comes from its children's best pairs, and a pair's from the subtrees one level down. The choices
+-- here are weighed: beside its mask a set has one number, its weight, which puts the sum of its distances first and then whether the asker is in it.
+-- Weights of sets that share no node add.
+use mathlib.Core.Bool.{Bool, cond, _&&_, _||_}
 use mathlib.Core.List.{List}
-use Prim.Native.Nat.{ℕ, zero, suc, _+_, _^_}
+use Prim.Native.Nat.{ℕ, zero, suc, _+_, _-_, _*_, _^_}
+use lib.Dec.{eqb, ltb, leb}
 use lib.ListN.{getD}
 use Rattle.mask.specs.Mask.{contains}
 use Rattle.quorum.specs.declared.Choice.{Choice}
@@ -9,37 +12,49 @@ use Rattle.quorum.specs.declared.Choice.the-variants.{Quorum, Nothing}
 use Rattle.quorum.specs.declared.Kind.{Kind}
 use Rattle.quorum.specs.declared.Kind.the-variants.{Read, Write}
 use Rattle.quorum.specs.Tree.{child}
-use Rattle.quorum.specs.Nearest.{betterOf}
+
+-- the turns of node i as a member of a subtree whose top it is: twice as many with each level, so that all sets which are compared have equally many, but
+-- for the asker, who has one less
+abbrev pub turnsOf : ℕ → ℕ → ℕ → ℕ
+turnsOf asker h i = 2 ^ h - cond (eqb i asker) 1 0
 
 -- one node by itself, if it is live
-abbrev pub aloneOf : ℕ → List ℕ → ℕ → Choice
-aloneOf live d i = cond (contains live i) (Quorum (2 ^ i) (getD d i 0)) Nothing
+abbrev pub aloneOf : ℕ → ℕ → List ℕ → ℕ → ℕ → Choice
+aloneOf asker live d h i = cond (contains live i) (Quorum (2 ^ i) (256 * getD d i 0 + turnsOf asker h i)) Nothing
 
--- two choices of sets that share no node, joined, so that masks and sums add: nothing unless both are there
+-- the set m of weight v goes before the set n of weight w
+abbrev pub lighter : ℕ → ℕ → ℕ → ℕ → Bool
+lighter m v n w = ltb v w || eqb v w && leb m n
+
+-- of two choices the lighter
+abbrev pub lighterOf : Choice → Choice → Choice
+lighterOf Nothing b = b
+lighterOf (Quorum m v) Nothing = Quorum m v
+lighterOf (Quorum m v) (Quorum n w) = cond (lighter m v n w) (Quorum m v) (Quorum n w)
+
+-- two choices of sets that share no node, joined, so that masks and weights add: nothing unless both are there
 abbrev pub bothOf : Choice → Choice → Choice
 bothOf Nothing b = Nothing
-bothOf (Quorum m s) Nothing = Nothing
-bothOf (Quorum m s) (Quorum n t) = Quorum (m + n) (s + t)
+bothOf (Quorum m v) Nothing = Nothing
+bothOf (Quorum m v) (Quorum n w) = Quorum (m + n) (v + w)
 
--- the nearest join of two of three
+-- the lightest join of two of three
 abbrev pub choosePair : Choice → Choice → Choice → Choice
-choosePair a b c = betterOf (bothOf a b) (betterOf (bothOf a c) (bothOf b c))
-
--- the best pair of the leaves i + 1, i + 2 and i + 3
-abbrev pub leavesOf : ℕ → List ℕ → ℕ → Choice
-leavesOf live d i = choosePair (aloneOf live d (i + 1)) (aloneOf live d (i + 2)) (aloneOf live d (i + 3))
+choosePair a b c = lighterOf (bothOf a b) (lighterOf (bothOf a c) (bothOf b c))
 
 -- the root or a pair, the root with a pair
 abbrev pub withRoot : Kind → Choice → Choice → Choice
-withRoot Read own pair = betterOf own pair
+withRoot Read own pair = lighterOf own pair
 withRoot Write own pair = bothOf own pair
 
 -- the best set of the subtree of height h at node i
-unfoldable pub bestOf : Kind → ℕ → List ℕ → ℕ → ℕ → Choice
-bestOf k live d zero i = aloneOf live d i
-bestOf k live d (suc h) i =
-    withRoot k (aloneOf live d i) (choosePair (bestOf k live d h (child i 1)) (bestOf k live d h (child i 2)) (bestOf k live d h (child i 3)))
+unfoldable pub bestOf : Kind → ℕ → ℕ → List ℕ → ℕ → ℕ → Choice
+bestOf k asker live d zero i = aloneOf asker live d 0 i
+bestOf k asker live d (suc h) i =
+    withRoot k (aloneOf asker live d (suc h) i)
+    (choosePair (bestOf k asker live d h (child i 1)) (bestOf k asker live d h (child i 2)) (bestOf k asker live d h (child i 3)))
 
 -- the best pair of node i's child subtrees, which have height h
-unfoldable pub pairOf : Kind → ℕ → List ℕ → ℕ → ℕ → Choice
-pairOf k live d h i = choosePair (bestOf k live d h (child i 1)) (bestOf k live d h (child i 2)) (bestOf k live d h (child i 3))
+unfoldable pub pairOf : Kind → ℕ → ℕ → List ℕ → ℕ → ℕ → Choice
+pairOf k asker live d h i =
+    choosePair (bestOf k asker live d h (child i 1)) (bestOf k asker live d h (child i 2)) (bestOf k asker live d h (child i 3))

@@ -10,7 +10,7 @@ ghost use Rattle.quorum.specs.Quorum.{twoOf, rootedBy, inSubtree, isQuor
 ghost use Rattle.quorum.specs.Counts.{leafCounts};
 ghost use Rattle.quorum.specs.Smallest.{smallest};
 ghost use Rattle.quorum.specs.Nearest.{nearestOf, distance, numberOf, maskOf, sumOf};
-ghost use Rattle.quorum.specs.Levels.{aloneOf, leavesOf, bestOf, pairOf};
+ghost use Rattle.quorum.specs.Levels.{turnsOf, aloneOf, bestOf, pairOf};
 ghost use Rattle.quorum.specs.Key.{Means, bound, lesserOf, pairKey, rootKey};
 use numbers::NODES;
 
@@ -74,12 +74,14 @@ pub fn is_quorum(kind: Kind, m: u16) -> bool
     rooted_by(kind, mask::has(m, 0), two_of(a, b, c))
 }
 
-// A choice as one number, its key: the sum above the mask. The lesser key is the nearer set, and of equal sums the lower mask; keys of sets that
-// share no node add. A node that is not live has this key; that of every set is below it.
+// A choice as one number, its key: the sum, below it the turns (they put the asker's sets first), below them the mask. The lesser key is the nearer set; keys
+// of sets that share no node add. A node that is not live has this key; that of every set is below it.
 const ABSENT: u64 = 72057594037927936;
 
-// What the sum is multiplied by in a key.
+// What the sum and the turns are multiplied by in a key.
 const ABOVE: u64 = 4294967296;
+
+const TURN: u64 = 16777216;
 
 // Of two keys the lesser.
 fn lesser(a: u64, b: u64) -> u64
@@ -95,15 +97,25 @@ fn wide(x: u16) -> u64
     x as u64
 }
 
-// One node by itself, if it is live.
-fn alone(live: u16, distances: &[u16; NODES], node: u8) -> u64
-    requires { ⌜ node < nodes ⌝ }
-    ensures { λ r. ⌜ Means 65535 r (aloneOf live (now (distances .entry)) node) ⌝ }
+// The turns of a node as the top of a subtree of this height: twice as many with each level, so that all sets which are compared have equally many, but for
+// the asker, who has one less.
+fn turns(asker: u8, node: u8, height: u8) -> u64
+    requires { ⌜ height ≤ 2 ⌝ }
+    ensures { λ r. ⌜ (r ≡ turnsOf asker height node) × (r ≤ 4) ⌝ }
+{
+    let all: u64 = 1 << height;
+    if node == asker { all - 1 } else { all }
+}
+
+// One node by itself, if it is live, as the top of a subtree of this height.
+fn alone(asker: u8, live: u16, distances: &[u16; NODES], node: u8, height: u8) -> u64
+    requires { ⌜ (node < nodes) × (height ≤ 2) ⌝ }
+    ensures { λ r. ⌜ Means 65535 r (aloneOf asker live (now (distances .entry)) height node) ⌝ }
     ensures { λ r. ⌜ r ≤ 72057594037927936 ⌝ }
 {
     if mask::has(live, node) {
         let i = node as usize;
-        ABOVE * wide(distances[i]) + wide(mask::single(node))
+        ABOVE * wide(distances[i]) + TURN * turns(asker, node, height) + wide(mask::single(node))
     } else {
         ABSENT
     }
@@ -115,18 +127,6 @@ fn choose_pair(a: u64, b: u64, c: u64) -> u64
     ensures { λ r. ⌜ r ≡ pairKey a b c ⌝ }
 {
     lesser(a + b, lesser(a + c, b + c))
-}
-
-// The key of the nearest pair of the three leaves that follow a node number: the last level, without a call of `best` for each leaf.
-fn leaf_pair(live: u16, distances: &[u16; NODES], at: u8) -> u64
-    requires { ⌜ at + 3 < nodes ⌝ }
-    ensures { λ r. ⌜ Means 393210 r (leavesOf live (now (distances .entry)) at) ⌝ }
-    ensures { λ r. ⌜ r ≤ 144115188075855872 ⌝ }
-{
-    let a = alone(live, distances, at + 1);
-    let b = alone(live, distances, at + 2);
-    let c = alone(live, distances, at + 3);
-    choose_pair(a, b, c)
 }
 
 // For a read quorum the nearer of the root and the pair, for a write quorum the two joined.
@@ -141,44 +141,48 @@ fn with_root(kind: Kind, own: u64, pair: u64) -> u64
 }
 
 // The key of the nearest quorum of the subtree of this height at this root.
-fn best(kind: Kind, live: u16, distances: &[u16; NODES], root: u8, height: u8) -> u64
+fn best(kind: Kind, asker: u8, live: u16, distances: &[u16; NODES], root: u8, height: u8) -> u64
     requires { ⌜ (last height root < nodes) × (height ≤ 2) ⌝ }
-    ensures { λ r. ⌜ Means (bound height) r (bestOf kind live (now (distances .entry)) height root) ⌝ }
+    ensures { λ r. ⌜ Means (bound height) r (bestOf kind asker live (now (distances .entry)) height root) ⌝ }
     ensures { λ r. ⌜ r ≤ 72057594037927936 * 3 ^ height ⌝ }
 {
-    let own = alone(live, distances, root);
+    let own = alone(asker, live, distances, root, height);
     if height == 0 {
         return own;
     }
-    let pair = best_pair(kind, live, distances, root, height - 1);
+    let pair = best_pair(kind, asker, live, distances, root, height - 1);
     with_root(kind, own, pair)
 }
 
 // The key of the nearest pair of quorums of two of a root's child subtrees, which have this height.
-fn best_pair(kind: Kind, live: u16, distances: &[u16; NODES], root: u8, height: u8) -> u64
+fn best_pair(
+    kind: Kind,
+    asker: u8,
+    live: u16,
+    distances: &[u16; NODES],
+    root: u8,
+    height: u8,
+) -> u64
     requires { ⌜ (last height (3 * root + 3) < nodes) × (height ≤ 1) ⌝ }
-    ensures { λ r. ⌜ Means (6 * bound height) r (pairOf kind live (now (distances .entry)) height root) ⌝ }
+    ensures { λ r. ⌜ Means (6 * bound height) r (pairOf kind asker live (now (distances .entry)) height root) ⌝ }
     ensures { λ r. ⌜ r ≤ 2 * (72057594037927936 * 3 ^ height) ⌝ }
 {
     let at = 3 * root;
-    if height == 0 {
-        return leaf_pair(live, distances, at);
-    }
-    let a = best(kind, live, distances, at + 1, height);
-    let b = best(kind, live, distances, at + 2, height);
-    let c = best(kind, live, distances, at + 3, height);
+    let a = best(kind, asker, live, distances, at + 1, height);
+    let b = best(kind, asker, live, distances, at + 2, height);
+    let c = best(kind, asker, live, distances, at + 3, height);
     choose_pair(a, b, c)
 }
 
-// The nearest quorum within the live nodes: of the smallest quorums inside live the one with the least sum, of equal sums the lowest mask. Its number is
-// 8 exactly where live has no quorum, and its sum is that of its mask.
-// Ruled out: a tie that goes to the higher mask; a sum that is not the set's own; 'nothing' where live has a quorum.
-pub fn nearest(kind: Kind, live: u16, distances: &[u16; NODES]) -> Choice
-    ensures { λ r. ⌜ r ≡ nearestOf live (now (distances .entry)) (smallest kind) ⌝ }
+// The nearest quorum within the live nodes, for the node that asks: of the smallest quorums inside live the one with the least sum; of equal sums one with the
+// asker first, and then the lowest mask. Its number is 8 exactly where live has no quorum, and its sum is that of its mask. An asker above 12 is in no set.
+// Ruled out: a tie that goes to the lower mask although only the other set has the asker; the asker's set where another is nearer.
+pub fn nearest(kind: Kind, asker: u8, live: u16, distances: &[u16; NODES]) -> Choice
+    ensures { λ r. ⌜ r ≡ nearestOf asker live (now (distances .entry)) (smallest kind) ⌝ }
     ensures { λ r. ⌜ numberOf r ≡ cond (isQuorum kind live) 0 noQuorum ⌝ }
     ensures { λ r. ⌜ sumOf r ≡ distance (now (distances .entry)) (maskOf r) ⌝ }
 {
-    let key = best(kind, live, distances, 0, 2);
+    let key = best(kind, asker, live, distances, 0, 2);
     if key < ABSENT {
         Choice::Quorum((key % 65536) as u16, (key / ABOVE) as u32)
     } else {

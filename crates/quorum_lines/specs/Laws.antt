@@ -1,14 +1,16 @@
 -- What the proofs cite of the definitions: each by its cases. Assumes nothing.
-use Prim.Native.Nat.{ℕ, _-_, _≤_, _<_}
+use Prim.Native.Nat.{ℕ, _+_, _-_, _≤_, _<_}
 use native.Mathlib.Omega.{arith}
 use mathlib.Core.Path.{_≡_, refl, sym, ap, _∙_}
-use mathlib.Core.Bool.{Bool, true, false, cond, not, _&&_}
+use mathlib.Core.Bool.{Bool, true, false, cond, not, _&&_, _||_}
+use mathlib.Core.Logic.{_⊎_, inl, inr, ⊎-elim}
 use mathlib.Core.List.{List, [], _∷_, _++_, append-assoc}
 use lib.ListN.{length}
-use borrow.Author.Tests.{eqb-true, eq-eqb, ne-eqb, lt-ltb, le-ltb}
+use lib.Dec.{eqb, ltb}
+use borrow.Author.Tests.{eqb-true, ltb-true, eq-eqb, ne-eqb, lt-ltb, le-ltb}
 use Rattle.numbers.specs.Sizes.{nodes}
 use Rattle.quorum_lines.specs.declared.Line.{Line}
-use Rattle.quorum_lines.specs.Line.{Good, Bad, fresh, step, keep, isGood, ended, begun}
+use Rattle.quorum_lines.specs.Line.{Bad, fresh, step, keep, mayEnd, isGood, atAsker, says, ended, begun}
 use Rattle.quorum_lines.specs.Reply.{row, reply}
 use Rattle.quorum_lines.specs.Output.{nextLine, replyAt, after, repliesIn, lastReply, longestRow, piece, lastIn}
 
@@ -25,19 +27,48 @@ pub and-right : (a b : Bool) → (a && b) ≡ true → b ≡ true
 and-right true b e = e
 and-right false b e = absurd (true-false (sym e))
 
--- a good line has thirteen numbers complete
-pub good-count : (s : Line) → isGood s ≡ true → s .count ≡ nodes
-unfolding isGood
-good-count s e = eqb-true (s .count) nodes (and-right (s .digits) _ (and-right (not (s .spoilt)) _ e))
+-- one part or the other
+pub or-either : (a b : Bool) → (a || b) ≡ true → (a ≡ true) ⊎ (b ≡ true)
+or-either true b e = inl refl
+or-either false b e = inr e
+
+-- a good line ends with the last distance, or with an asker that is a node
+pub good-ends : (s : Line) → isGood s ≡ true → (s .count ≡ nodes) ⊎ ((s .count ≡ nodes + 1) × (s .value < nodes))
+unfolding mayEnd isGood
+good-ends s e =
+    let fifteenth = eqb (s .count) (nodes + 1) in
+    let node = ltb (s .value) nodes in
+    ⊎-elim
+    (λ p. inl (eqb-true (s .count) nodes p))
+    (λ p. inr (eqb-true (s .count) (nodes + 1) (and-left fifteenth node p), ltb-true (s .value) nodes (and-right fifteenth node p)))
+    (or-either (eqb (s .count) nodes) (fifteenth && node) (and-right (s .digits) _ (and-right (not (s .spoilt)) _ e)))
+
+-- a line at its asker: one that ends with the last distance, and one that ends with the asker
+pub at-distance : (s : Line) → s .count ≡ nodes → atAsker s ≡ keep s
+unfolding atAsker
+at-distance s e = ap (λ (t : Bool). cond t (keep s) s) (eq-eqb (s .count) nodes e)
+
+pub at-asker : (s : Line) → (s .count ≡ nodes → ⊥) → atAsker s ≡ s
+unfolding atAsker
+at-asker s e = ap (λ (t : Bool). cond t (keep s) s) (ne-eqb (s .count) nodes e)
+
+-- the asker of a good line is a node
+pub good-asker : (s : Line) → isGood s ≡ true → atAsker s .value < nodes
+unfolding keep
+good-asker s e =
+    ⊎-elim
+    (λ p. omega (arith, ap (λ (t : Line). t .value) (at-distance s p)))
+    (λ p. omega (arith, ap (λ (t : Line). t .value) (at-asker s (λ z. omega (arith, p .0))), p .1))
+    (good-ends s e)
 
 -- the reply to a line that ends
-pub reply-good : (s : Line) → isGood s ≡ true → reply (ended s) ≡ row (keep s .live) (keep s .distances)
-unfolding ended reply
-reply-good s e = ap (λ (t : Bool). reply (cond t (Good (keep s .live) (keep s .distances)) Bad)) e
+pub reply-good : (s : Line) → isGood s ≡ true → reply (ended s) ≡ row (atAsker s .value) (atAsker s .live) (atAsker s .distances)
+unfolding ended says reply
+reply-good s e = ap (λ (t : Bool). reply (cond t (says (atAsker s)) Bad)) e
 
 pub reply-bad : (s : Line) → isGood s ≡ false → reply (ended s) ≡ 98 ∷ 97 ∷ 100 ∷ 10 ∷ []
 unfolding ended reply
-reply-bad s e = ap (λ (t : Bool). reply (cond t (Good (keep s .live) (keep s .distances)) Bad)) e
+reply-bad s e = ap (λ (t : Bool). reply (cond t (says (atAsker s)) Bad)) e
 
 -- a byte that ends a line, and one that does not
 pub reply-newline : (s : Line) (b : ℕ) → b ≡ 10 → replyAt s b ≡ reply (ended s)

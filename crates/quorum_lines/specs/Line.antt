@@ -1,5 +1,6 @@
--- What a line means: fourteen decimal numbers, one space apart and nothing else, are a live mask and thirteen distances; any other line is bad.
--- A line is read byte by byte; Text has the theorems that say which lines are good. Assumes nothing.
+-- What a line means: fourteen or fifteen decimal numbers, one space apart and nothing else, are a live mask, thirteen distances and the asker, which is
+-- node 0 where no fifteenth is given; any other line is bad. A line is read byte by byte; Text has the theorems that say which lines are good.
+-- Assumes nothing.
 use Prim.Native.Nat.{ℕ, _+_, _*_, _-_}
 use mathlib.Core.Bool.{Bool, true, false, cond, not, _&&_, _||_}
 use mathlib.Core.List.{List, [], _∷_}
@@ -12,7 +13,7 @@ use Rattle.quorum_lines.specs.declared.Line.{Line}
 unfoldable pub fresh : Line
 fresh = record { count = 0; digits = false; value = 0; spoilt = false; live = 0; distances = replicate nodes 0 }
 
--- the largest that a number may be, after k others: the mask is the first, then come the distances
+-- the largest that a number may be, after k others: the mask is the first, then come the distances; `mayEnd` has the asker's own limit
 unfoldable pub most : ℕ → ℕ
 most k = cond (eqb k 0) everyNode 65535
 
@@ -33,9 +34,9 @@ keep s =
       distances = cond (eqb (s .count) 0) (s .distances) (set (s .distances) (s .count - 1) (s .value));
     }
 
--- a space: it stands behind the digits of a number, and another number follows
+-- a space: it stands behind the digits of the mask or of a distance, and another number follows
 unfoldable pub space : Line → Line
-space s = cond (s .digits && ltb (s .count) nodes) (keep s) (spoil s)
+space s = cond (s .digits && leb (s .count) nodes) (keep s) (spoil s)
 
 -- whether a digit d may follow: the number is not too large with it, and does not begin with the digit 0
 unfoldable pub mayFollow : Line → ℕ → Bool
@@ -70,17 +71,29 @@ unfoldable pub readFrom : Line → List ℕ → Line
 readFrom s [] = s
 readFrom s (b ∷ bs) = readFrom (step s b) bs
 
--- what a whole line says
+-- what a whole line says: the live mask, the distances and the asker
 pub data Reading : Type 0 where
-  Good : ℕ → List ℕ → Reading
+  Good : ℕ → List ℕ → ℕ → Reading
   Bad : Reading
 
--- good: nothing spoilt it, and it ends behind the digits of the fourteenth number
+-- the number that is being read may be the line's last: it is the fourteenth, or the fifteenth and names a node
+unfoldable pub mayEnd : Line → Bool
+mayEnd s = eqb (s .count) nodes || (eqb (s .count) (nodes + 1) && ltb (s .value) nodes)
+
+-- good: nothing spoilt it, and it ends behind the digits of a number that may be its last
 unfoldable pub isGood : Line → Bool
-isGood s = not (s .spoilt) && (s .digits && eqb (s .count) nodes)
+isGood s = not (s .spoilt) && (s .digits && mayEnd s)
+
+-- a good line as it stands at the asker: where it ends with the last distance, this is complete, and the asker, of which nothing is read, is 0
+unfoldable pub atAsker : Line → Line
+atAsker s = cond (eqb (s .count) nodes) (keep s) s
+
+-- what a good line says, as it stands at the asker
+unfoldable pub says : Line → Reading
+says s = Good (s .live) (s .distances) (s .value)
 
 unfoldable pub ended : Line → Reading
-ended s = cond (isGood s) (Good (keep s .live) (keep s .distances)) Bad
+ended s = cond (isGood s) (says (atAsker s)) Bad
 
 unfoldable pub reading : List ℕ → Reading
 reading line = ended (readFrom fresh line)

@@ -44,7 +44,7 @@ begun-step s b = from (s .spoilt) refl
     on : begun (stepOn s b) ≡ true
     on =
         begun-cond (eqb b 32) (space s) _
-        (begun-cond (s .digits && ltb (s .count) nodes) (keep s) (spoil s) (begun-keep s) (begun-spoil s))
+        (begun-cond (s .digits && leb (s .count) nodes) (keep s) (spoil s) (begun-keep s) (begun-spoil s))
         (begun-cond (leb 48 b && leb b 57) (digit s (b - 48)) (spoil s)
         (begun-cond (mayFollow s (b - 48)) (more s (b - 48)) (spoil s) (begun-more s (b - 48)) (begun-spoil s))
         (begun-spoil s))

@@ -10,9 +10,9 @@ use Rattle.quorum.specs.Nearest.{nearestOf}
 use Rattle.quorum.specs.Smallest.{smallest}
 use Rattle.quorum_lines.specs.Line.{Reading, Good, Bad}
 
--- the quorum of a kind that is chosen within the live nodes
-unfoldable pub chosen : Kind → ℕ → List ℕ → Choice
-chosen kind live distances = nearestOf live distances (smallest kind)
+-- the quorum of a kind that is chosen for an asker within the live nodes
+unfoldable pub chosen : Kind → ℕ → ℕ → List ℕ → Choice
+chosen kind asker live distances = nearestOf asker live distances (smallest kind)
 
 -- its mask and its sum with a space between, or `- -`
 unfoldable pub choiceText : Choice → List ℕ
@@ -20,16 +20,16 @@ choiceText (Quorum mask sum) = decimal mask ++ (32 ∷ []) ++ decimal sum
 choiceText Nothing = 45 ∷ 32 ∷ 45 ∷ []
 
 -- a column: a space, and the quorum of a kind that is chosen
-unfoldable pub column : Kind → ℕ → List ℕ → List ℕ
-column kind live distances = (32 ∷ []) ++ choiceText (chosen kind live distances)
+unfoldable pub column : Kind → ℕ → ℕ → List ℕ → List ℕ
+column kind asker live distances = (32 ∷ []) ++ choiceText (chosen kind asker live distances)
 
--- a good line: its mask, the read quorum and the write quorum
-unfoldable pub row : ℕ → List ℕ → List ℕ
-row live distances = decimal live ++ column Read live distances ++ column Write live distances ++ (10 ∷ [])
+-- a good line: its mask, and the read quorum and the write quorum that are chosen for its asker
+unfoldable pub row : ℕ → ℕ → List ℕ → List ℕ
+row asker live distances = decimal live ++ column Read asker live distances ++ column Write asker live distances ++ (10 ∷ [])
 
 -- the reply to a line: its row, or `bad`; each ends with byte 10
 unfoldable pub reply : Reading → List ℕ
-reply (Good live distances) = row live distances
+reply (Good live distances asker) = row asker live distances
 reply Bad = 98 ∷ 97 ∷ 100 ∷ 10 ∷ []
 
 -- the header: `live read sum write sum`

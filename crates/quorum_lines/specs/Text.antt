@@ -1,25 +1,26 @@
--- Which lines are good: exactly the texts of a mask and thirteen distances in range, with one space before each distance.
+-- Which lines are good: exactly the texts of a mask, thirteen distances and, if wanted, an asker in range, with one space before each number but the first.
 -- The idea: one way by reading the digits of each text; the other by what is known of the bytes behind a line that is not spoilt. Assumes nothing.
 use Prim.Native.Nat.{ℕ, zero, suc, _+_, _*_, _-_, _/_, _%_, _^_, _≤_, _<_}
 use native.Mathlib.Numerals.{add-one}
 use native.Mathlib.Omega.{arith}
 use mathlib.Core.Path.{_≡_, refl, sym, ap, subst, _∙_}
-use mathlib.Core.Bool.{Bool, true, false, cond, not, _&&_}
-use mathlib.Core.Logic.{⊎-elim}
+use mathlib.Core.Bool.{Bool, true, false, cond, not, _&&_, _||_}
+use mathlib.Core.Logic.{_⊎_, inl, inr, ⊎-elim}
 use mathlib.Core.List.{List, [], _∷_, _++_, append-assoc, append-nil}
 use lib.Dec.{eqb, ltb, leb}
 use lib.ListN.{length, take, set, replicate, length-append, length-set}
 use lib.Seq.{set-at, append-snoc, take-suc-set, take-all}
-use borrow.Author.Tests.{eq-eqb, ne-eqb, lt-ltb, le-leb, eqb-true, eqb-false, ltb-true, leb-true, not-true}
+use borrow.Author.Tests.{eq-eqb, ne-eqb, lt-ltb, le-leb, eqb-true, eqb-false, leb-true, not-true}
 use Rattle.numbers.specs.Sizes.{nodes, everyNode}
 use Rattle.decimal.specs.Decimal.{digits, decimal}
 use Rattle.decimal.specs.Laws.{digits-one, digits-more, tenth, one-more, less-or-not, decimal-digit, decimal-more}
 use Rattle.quorum_lines.specs.declared.Line.{Line}
-use Rattle.quorum_lines.specs.Line.{Good, Bad, fresh, most, spoil, keep, space, mayFollow, more, digit, stepOn, step, readFrom, isGood, ended, reading}
-use Rattle.quorum_lines.specs.Laws.{true-false, and-left, and-right}
+use Rattle.quorum_lines.specs.Line.{Reading, Good, Bad, fresh, most, spoil, keep, space, mayFollow, more, digit, stepOn, step, readFrom}
+use Rattle.quorum_lines.specs.Line.{mayEnd, isGood, atAsker, says, ended, reading}
+use Rattle.quorum_lines.specs.Laws.{true-false, and-left, and-right, good-ends, at-distance, at-asker}
 use Rattle.quorum_lines.specs.Pieces.{read-append}
 
--- distances, each behind one space
+-- numbers, each behind one space
 unfoldable pub spaced : List ℕ → List ℕ
 spaced [] = []
 spaced (d ∷ ds) = (32 ∷ []) ++ decimal d ++ spaced ds
@@ -28,16 +29,25 @@ spaced (d ∷ ds) = (32 ∷ []) ++ decimal d ++ spaced ds
 unfoldable pub lineText : ℕ → List ℕ → List ℕ
 lineText live ds = decimal live ++ spaced ds
 
+-- the text of a mask, distances and an asker
+unfoldable pub askedText : ℕ → List ℕ → ℕ → List ℕ
+askedText live ds asker = lineText live ds ++ (32 ∷ []) ++ decimal asker
+
+-- a line is a text of these: without the asker, which is node 0 then, or with it
+abbrev pub IsText : List ℕ → ℕ → List ℕ → ℕ → Type 0
+IsText line live ds asker = ((line ≡ lineText live ds) × (asker ≡ 0)) ⊎ (line ≡ askedText live ds asker)
+
 -- every distance is at most 65,535
 abbrev pub Small : List ℕ → Type 0
 Small [] = Unit {0}
 Small (d ∷ ds) = (d ≤ 65535) × Small ds
 
--- a mask and distances in range
-pub record InRange (live : ℕ) (ds : List ℕ) : Type 0 where
+-- a mask, distances and an asker in range
+pub record InRange (live : ℕ) (ds : List ℕ) (asker : ℕ) : Type 0 where
   pub mask : live ≤ everyNode
   pub thirteen : length ds ≡ nodes
   pub small : Small ds
+  pub node : asker < nodes
 
 -- a line after k numbers: before the next, and within it at v
 abbrev blank : ℕ → ℕ → List ℕ → Line
@@ -100,10 +110,11 @@ read-decimal : (n c live : ℕ) (ds : List ℕ) → n ≤ most c → readFrom (b
 unfolding decimal
 read-decimal n c live ds m = read-digits 20 n c live ds (omega arith) (omega (arith, most-small c)) m
 
--- a space behind a number that is not the last
-step-space : (k v live : ℕ) (ds : List ℕ) → k < nodes → step (number k v live ds) 32 ≡ keep (number k v live ds)
+-- a space behind the mask or a distance
+step-space : (s : Line) → s .spoilt ≡ false → s .digits ≡ true → s .count ≤ nodes → step s 32 ≡ keep s
 unfolding step stepOn space
-step-space k v live ds h = ap (λ (t : Bool). cond t (keep (number k v live ds)) (spoil (number k v live ds))) (lt-ltb k nodes h)
+step-space s p q h =
+    ap (λ (t : Bool). cond t s (stepOn s 32)) p ∙ (λ j. cond (q j && le-leb (s .count) nodes h j) (keep s) (spoil s))
 
 keep-first : (v live : ℕ) (ds : List ℕ) → keep (number 0 v live ds) ≡ blank 1 v ds
 unfolding keep
@@ -116,7 +127,7 @@ keep-later k j v live ds h =
     let f : eqb k 0 ≡ false = ne-eqb k 0 (λ z. omega arith) in
     (λ i. blank (k + 1) (cond (f i) v live) (cond (f i) ds (set ds (e i) v)))
 
--- a space and a distance, behind a number
+-- a space and the next number, behind a number
 read-next : (s : Line) (k live d : ℕ) (ds rest : List ℕ) → step s 32 ≡ blank k live ds → d ≤ most k
     → readFrom s ((32 ∷ []) ++ decimal d ++ rest) ≡ readFrom (number k d live ds) rest
 unfolding readFrom
@@ -125,39 +136,90 @@ read-next s k live d ds rest e m =
     ∙ ap (λ (u : Line). readFrom (readFrom u (decimal d)) rest) e
     ∙ ap (λ (u : Line). readFrom u rest) (read-decimal d k live ds m)
 
+-- the line ends behind the last distance, and with this number complete the mask and the distances are these
+record Last (live : ℕ) (ds : List ℕ) (s : Line) : Type 0 where
+  count : s .count ≡ nodes
+  digits : s .digits ≡ true
+  good : s .spoilt ≡ false
+  complete : keep s ≡ blank (nodes + 1) live ds
+
 -- the distances ds that are left, where p are complete and v is read
 read-rest : (ds p q : List ℕ) (v live : ℕ) → length p + length ds ≡ 12 → length q ≡ length ds + 1 → Small ds
-    → ended (readFrom (number (length p + 1) v live (p ++ q)) (spaced ds)) ≡ Good live (p ++ (v ∷ ds))
-unfolding spaced readFrom ended isGood
+    → Last live (p ++ (v ∷ ds)) (readFrom (number (length p + 1) v live (p ++ q)) (spaced ds))
+unfolding spaced readFrom
 read-rest ds p [] v live h i m = absurd (omega arith)
 read-rest [] p (y ∷ y₂ ∷ q) v live h i m = absurd (omega arith)
 read-rest [] p (y ∷ []) v live h i m =
-    let s = number (length p + 1) v live (p ++ (y ∷ [])) in
-    ap (λ (t : Bool). cond t (Good (keep s .live) (keep s .distances)) Bad) (eq-eqb (length p + 1) nodes (omega arith))
-    ∙ ap (λ (u : Line). Good (u .live) (u .distances)) (keep-later (length p + 1) (length p) v live (p ++ (y ∷ [])) refl)
-    ∙ ap (Good live) (set-at p y [] v (length p) refl)
+    let e : length p + 1 ≡ nodes = omega arith in
+    record {
+      count = e;
+      digits = refl;
+      good = refl;
+      complete =
+          keep-later (length p + 1) (length p) v live (p ++ (y ∷ [])) refl
+          ∙ (λ j. blank (e j + 1) live (set-at p y [] v (length p) refl j));
+    }
 read-rest (d ∷ ds) p (y ∷ q) v live h i m =
     let l = length-append p (v ∷ []) in
-    ap ended
-    (read-next (number (length p + 1) v live (p ++ (y ∷ q))) (length p + 1 + 1) live d (set (p ++ (y ∷ q)) (length p) v) (spaced ds)
-    (step-space (length p + 1) v live (p ++ (y ∷ q)) (omega arith) ∙ keep-later (length p + 1) (length p) v live (p ++ (y ∷ q)) refl)
+    let s = number (length p + 1) v live (p ++ (y ∷ q)) in
+    let after = read-rest ds (p ++ (v ∷ [])) q d live (omega arith) (omega arith) (m .1) in
+    subst (λ (all : List ℕ). Last live all (readFrom s (spaced (d ∷ ds)))) (append-snoc p v (d ∷ ds))
+    (subst (Last live (p ++ (v ∷ []) ++ (d ∷ ds)))
+    (sym
+    (read-next s (length p + 1 + 1) live d (set (p ++ (y ∷ q)) (length p) v) (spaced ds)
+    (step-space s refl refl (omega arith) ∙ keep-later (length p + 1) (length p) v live (p ++ (y ∷ q)) refl)
     (omega (arith, most-later (length p + 1), m .0))
-    ∙ (λ j. readFrom (number (sym l j + 1) d live ((set-at p y q v (length p) refl ∙ sym (append-snoc p v q)) j)) (spaced ds)))
-    ∙ read-rest ds (p ++ (v ∷ [])) q d live (omega arith) (omega arith) (m .1)
-    ∙ ap (Good live) (append-snoc p v (d ∷ ds))
+    ∙ (λ j. readFrom (number (sym l j + 1) d live ((set-at p y q v (length p) refl ∙ sym (append-snoc p v q)) j)) (spaced ds))))
+    after)
 
--- THEOREM. The text of a mask and distances in range is read back as them.
-pub read-text : (live : ℕ) (ds : List ℕ) → InRange live ds → reading (lineText live ds) ≡ Good live ds
-unfolding reading lineText spaced fresh
-read-text live [] r = absurd (omega (arith, r .thirteen))
-read-text live (d ∷ ds) r =
-    ap ended
+-- the text of a mask and distances in range
+read-line : (live : ℕ) (ds : List ℕ) (asker : ℕ) → InRange live ds asker → Last live ds (readFrom fresh (lineText live ds))
+unfolding lineText spaced fresh
+read-line live [] asker r = absurd (omega (arith, r .thirteen))
+read-line live (d ∷ ds) asker r =
+    let s = number 0 live 0 (replicate nodes 0) in
+    subst (Last live (d ∷ ds))
+    (sym
     (read-append fresh (decimal live) (spaced (d ∷ ds))
-    ∙ ap (λ (s : Line). readFrom s (spaced (d ∷ ds))) (read-decimal live 0 0 (replicate nodes 0) (omega (arith, most-first, r .mask)))
-    ∙ read-next (number 0 live 0 (replicate nodes 0)) 1 live d (replicate nodes 0) (spaced ds)
-    (step-space 0 live 0 (replicate nodes 0) (omega arith) ∙ keep-first live 0 (replicate nodes 0))
-    (omega (arith, most-later 0, r .small .0)))
-    ∙ read-rest ds [] (replicate nodes 0) d live (omega (arith, r .thirteen)) (omega (arith, r .thirteen)) (r .small .1)
+    ∙ ap (λ (u : Line). readFrom u (spaced (d ∷ ds))) (read-decimal live 0 0 (replicate nodes 0) (omega (arith, most-first, r .mask)))
+    ∙ read-next s 1 live d (replicate nodes 0) (spaced ds)
+    (step-space s refl refl (omega arith) ∙ keep-first live 0 (replicate nodes 0))
+    (omega (arith, most-later 0, r .small .0))))
+    (read-rest ds [] (replicate nodes 0) d live (omega (arith, r .thirteen)) (omega (arith, r .thirteen)) (r .small .1))
+
+-- the line ends there: the asker is 0
+ended-plain : (live : ℕ) (ds : List ℕ) (s : Line) → Last live ds s → ended s ≡ Good live ds 0
+unfolding mayEnd isGood says ended
+ended-plain live ds s l =
+    let asked = eqb (s .count) (nodes + 1) && ltb (s .value) nodes in
+    let good : isGood s ≡ true = (λ j. not (l .good j) && (l .digits j && (eq-eqb (s .count) nodes (l .count) j || asked))) in
+    ap (λ (t : Bool). cond t (says (atAsker s)) Bad) good ∙ ap says (at-distance s (l .count) ∙ l .complete)
+
+-- or an asker follows
+ended-asked : (live : ℕ) (ds : List ℕ) (asker : ℕ) (s : Line) → Last live ds s → asker < nodes
+    → ended (readFrom s ((32 ∷ []) ++ decimal asker)) ≡ Good live ds asker
+unfolding readFrom mayEnd isGood atAsker says ended
+ended-asked live ds asker s l h =
+    let t = number (nodes + 1) asker live ds in
+    ap (λ (u : Line). ended (readFrom u (decimal asker))) (step-space s (l .good) (l .digits) (omega (arith, l .count)) ∙ l .complete)
+    ∙ ap ended (read-decimal asker (nodes + 1) live ds (omega (arith, most-later nodes)))
+    ∙ ap (λ (b : Bool). cond b (says (atAsker t)) Bad) (lt-ltb asker nodes h)
+
+-- THEOREM. A text of a mask, distances and an asker in range is read back as them.
+pub read-text : (line : List ℕ) (live : ℕ) (ds : List ℕ) (asker : ℕ) → IsText line live ds asker → InRange live ds asker
+    → reading line ≡ Good live ds asker
+unfolding reading askedText
+read-text line live ds asker w r =
+    let plain = lineText live ds in
+    let s = readFrom fresh plain in
+    let l = read-line live ds asker r in
+    ⊎-elim
+    (λ p. ap reading (p .0) ∙ ended-plain live ds s l ∙ ap (Good live ds) (sym (p .1)))
+    (λ e.
+    ap reading (e ∙ append-assoc plain (32 ∷ []) (decimal asker))
+    ∙ ap ended (read-append fresh plain ((32 ∷ []) ++ decimal asker))
+    ∙ ended-asked live ds asker s l (r .node))
+    w
 
 -- What is known of the bytes l behind a line that is not spoilt: k complete numbers, each with a space behind it, and the digits so far of the next.
 abbrev front : ℕ → ℕ → List ℕ → List ℕ
@@ -224,11 +286,11 @@ seen-later j l v live ds h g =
       kept = (g .kept .0, rw (take-suc-set ds j v i) (small-more (take j ds) v (g .kept .1) (omega (arith, g .small, most-small (suc j)))));
     }
 
-seen-keep : (s : Line) (l : List ℕ) → s .digits ≡ true → s .count < nodes → SeenLine l s → SeenLine (l ++ (32 ∷ [])) (keep s)
+seen-keep : (s : Line) (l : List ℕ) → s .digits ≡ true → s .count ≤ nodes → SeenLine l s → SeenLine (l ++ (32 ∷ [])) (keep s)
 unfolding keep
 seen-keep s l e h g = from (s .count) h (subst (λ (t : Bool). Seen l (s .count) t (s .value) (s .live) (s .distances)) e g)
   where
-    from : (k : ℕ) → k < nodes → Seen l k true (s .value) (s .live) (s .distances)
+    from : (k : ℕ) → k ≤ nodes → Seen l k true (s .value) (s .live) (s .distances)
         → Seen (l ++ (32 ∷ [])) (k + 1) false 0 (cond (eqb k 0) (s .value) (s .live)) (cond (eqb k 0) (s .distances) (set (s .distances) (k - 1) (s .value)))
     from zero h g = seen-first l (s .value) (s .live) (s .distances) g
     from (suc j) h g =
@@ -267,12 +329,12 @@ seen-more s l d h e g =
 -- a space, and a digit, that do not spoil the line
 seen-space : (s : Line) (l : List ℕ) → space s .spoilt ≡ false → SeenLine l s → SeenLine (l ++ (32 ∷ [])) (space s)
 unfolding space spoil
-seen-space s l f g = from (s .digits && ltb (s .count) nodes) refl f
+seen-space s l f g = from (s .digits && leb (s .count) nodes) refl f
   where
-    from : (t : Bool) → (s .digits && ltb (s .count) nodes) ≡ t → cond t (keep s) (spoil s) .spoilt ≡ false
+    from : (t : Bool) → (s .digits && leb (s .count) nodes) ≡ t → cond t (keep s) (spoil s) .spoilt ≡ false
         → SeenLine (l ++ (32 ∷ [])) (cond t (keep s) (spoil s))
     from true e f =
-        seen-keep s l (and-left (s .digits) (ltb (s .count) nodes) e) (ltb-true (s .count) nodes (and-right (s .digits) (ltb (s .count) nodes) e)) g
+        seen-keep s l (and-left (s .digits) (leb (s .count) nodes) e) (leb-true (s .count) nodes (and-right (s .digits) (leb (s .count) nodes) e)) g
     from false e f = absurd (true-false f)
 
 seen-digit : (s : Line) (l : List ℕ) (d : ℕ) → d < 10 → digit s d .spoilt ≡ false → SeenLine l s → SeenLine (l ++ ((48 + d) ∷ [])) (digit s d)
@@ -328,18 +390,12 @@ seen-read (b ∷ l) p s f g =
     subst (λ (m : List ℕ). SeenLine m (readFrom (step s b) l)) (append-snoc p b l)
     (seen-read l (p ++ (b ∷ [])) (step s b) f (seen-step s p b (not-spoilt s (b ∷ l) f) e g))
 
-mask-of : {m n : ℕ} {a b : List ℕ} → Good m a ≡ Good n b → m ≡ n
-mask-of e = cc
-
-distances-of : {m n : ℕ} {a b : List ℕ} → Good m a ≡ Good n b → a ≡ b
-distances-of e = cc
-
 seen-start : SeenLine [] fresh
 unfolding fresh
 seen-start = record { text = refl; size = refl; small = omega arith; none = λ e. refl; kept = tt }
 
--- the whole of a good line
-seen-last : (l : List ℕ) (v live : ℕ) (ds : List ℕ) → Seen l nodes true v live ds → (l ≡ lineText live (set ds 12 v)) × InRange live (set ds 12 v)
+-- the whole of a good line that ends with the last distance, and of one that ends with an asker
+seen-last : (l : List ℕ) (v live : ℕ) (ds : List ℕ) → Seen l nodes true v live ds → (l ≡ lineText live (set ds 12 v)) × InRange live (set ds 12 v) 0
 seen-last l v live ds g =
     let i : 12 < length ds = omega (arith, g .size) in
     let n : length (set ds 12 v) ≡ nodes = length-set ds 12 v ∙ g .size in
@@ -349,38 +405,58 @@ seen-last l v live ds g =
         mask = g .kept .0;
         thirteen = n;
         small = subst Small (sym (take-suc-set ds 12 v i) ∙ e) (small-more (take 12 ds) v (g .kept .1) (omega (arith, g .small, most-small nodes)));
+        node = omega arith;
       },
     )
 
--- a line that is read as good ends as a good line does
-good-line : (s : Line) (live : ℕ) (ds : List ℕ) → ended s ≡ Good live ds → isGood s ≡ true
-unfolding ended
-good-line s live ds e = from (isGood s) refl e
-  where
-    from : (t : Bool) → isGood s ≡ t → cond t (Good (keep s .live) (keep s .distances)) Bad ≡ Good live ds → isGood s ≡ true
-    from true p q = p
-    from false p q = absurd (let z : _≡_ {A = ℕ} 0 1 = cc in omega arith)
-
--- THEOREM. A line that is read as good is the text of a mask and distances, which are in range.
-pub text-read : (line : List ℕ) (live : ℕ) (ds : List ℕ) → reading line ≡ Good live ds → (line ≡ lineText live ds) × InRange live ds
-unfolding reading ended isGood keep
-text-read line live ds e =
-    let s = readFrom fresh line in
-    let good : isGood s ≡ true = good-line s live ds e in
-    let rest = s .digits && eqb (s .count) nodes in
-    let spoilt : s .spoilt ≡ false = not-true (s .spoilt) (and-left (not (s .spoilt)) rest good) in
-    let ends : rest ≡ true = and-right (not (s .spoilt)) rest good in
-    let count : s .count ≡ nodes = eqb-true (s .count) nodes (and-right (s .digits) (eqb (s .count) nodes) ends) in
-    let both : Good (keep s .live) (keep s .distances) ≡ Good live ds =
-    sym (ap (λ (t : Bool). cond t (Good (keep s .live) (keep s .distances)) Bad) good) ∙ e in
-    let a : s .live ≡ live = sym (ap (λ (k : ℕ). cond (eqb k 0) (s .value) (s .live)) count) ∙ mask-of both in
-    let b : set (s .distances) 12 (s .value) ≡ ds =
-    sym (ap (λ (k : ℕ). cond (eqb k 0) (s .distances) (set (s .distances) (k - 1) (s .value))) count) ∙ distances-of both in
-    let g : Seen line nodes true (s .value) (s .live) (s .distances) =
-    subst (λ (k : ℕ). Seen line k true (s .value) (s .live) (s .distances)) count
-    (subst (λ (t : Bool). Seen line (s .count) t (s .value) (s .live) (s .distances)) (and-left (s .digits) (eqb (s .count) nodes) ends)
-    (seen-read line [] fresh spoilt seen-start)) in
-    let r = seen-last line (s .value) (s .live) (s .distances) g in (
-      r .0 ∙ (λ j. lineText (a j) (b j)),
-      subst (InRange live) b (subst (λ (m : ℕ). InRange m (set (s .distances) 12 (s .value))) a (r .1)),
+seen-asked : (l : List ℕ) (v live : ℕ) (ds : List ℕ) → v < nodes → Seen l (nodes + 1) true v live ds → (l ≡ askedText live ds v) × InRange live ds v
+unfolding askedText
+seen-asked l v live ds h g =
+    let e : take nodes ds ≡ ds = take-all nodes ds (omega (arith, g .size)) in (
+      g .text ∙ ap (λ (m : List ℕ). lineText live m ++ (32 ∷ []) ++ decimal v) e,
+      record { mask = g .kept .0; thirteen = g .size; small = subst Small e (g .kept .1); node = h },
     )
+
+-- what a reading tells of its line
+abbrev Tells : List ℕ → Reading → Type 0
+Tells line (Good live ds asker) = IsText line live ds asker × InRange live ds asker
+Tells line Bad = Unit {0}
+
+-- a line that ends with the last distance says it with the others
+says-last : (s : Line) → s .count ≡ nodes → says (atAsker s) ≡ Good (s .live) (set (s .distances) 12 (s .value)) 0
+unfolding keep says
+says-last s e =
+    ap says (at-distance s e)
+    ∙ (λ j. Good (cond (eqb (e j) 0) (s .value) (s .live)) (cond (eqb (e j) 0) (s .distances) (set (s .distances) (e j - 1) (s .value))) 0)
+
+tells : (line : List ℕ) → Tells line (reading line)
+unfolding reading isGood says ended
+tells line = from (isGood s) refl
+  where
+    s : Line
+    s = readFrom fresh line
+
+    seen : isGood s ≡ true → Seen line (s .count) true (s .value) (s .live) (s .distances)
+    seen e =
+        let rest = s .digits && mayEnd s in
+        let spoilt : s .spoilt ≡ false = not-true (s .spoilt) (and-left (not (s .spoilt)) rest e) in
+        subst (λ (t : Bool). Seen line (s .count) t (s .value) (s .live) (s .distances)) (and-left (s .digits) (mayEnd s) (and-right (not (s .spoilt)) rest e))
+        (seen-read line [] fresh spoilt seen-start)
+
+    from : (t : Bool) → isGood s ≡ t → Tells line (cond t (says (atAsker s)) Bad)
+    from false e = tt
+    from true e =
+        let at : ℕ → Type 0 = λ k. Seen line k true (s .value) (s .live) (s .distances) in
+        ⊎-elim
+        (λ p.
+        let r = seen-last line (s .value) (s .live) (s .distances) (subst at p (seen e)) in
+        subst (Tells line) (sym (says-last s p)) (inl (r .0, refl), r .1))
+        (λ p.
+        let r = seen-asked line (s .value) (s .live) (s .distances) (p .1) (subst at (p .0) (seen e)) in
+        subst (Tells line) (sym (ap says (at-asker s (λ z. omega (arith, p .0))))) (inr (r .0), r .1))
+        (good-ends s e)
+
+-- THEOREM. A line that is read as good is a text of the mask, the distances and the asker that it is read as, and these are in range.
+pub text-read : (line : List ℕ) (live : ℕ) (ds : List ℕ) (asker : ℕ) → reading line ≡ Good live ds asker
+    → IsText line live ds asker × InRange live ds asker
+text-read line live ds asker e = subst (Tells line) e (tells line)

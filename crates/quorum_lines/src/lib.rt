@@ -4,12 +4,13 @@ ghost use Prim.Native.Nat.{_+_, _≤_, _<_};
 ghost use lib.ListN.{length};
 ghost use Rattle.numbers.specs.Sizes.{nodes};
 ghost use Rattle.decimal.specs.Decimal.{putAt, nextAt};
-ghost use Rattle.quorum_lines.specs.Line.{fresh as freshLine, most, spoil, keep, space, digit, isGood, begun, ended};
-ghost use Rattle.quorum_lines.specs.Line.{step as stepLine};
+ghost use Rattle.quorum_lines.specs.Line.{fresh as freshLine, most, spoil, keep, space, digit, mayEnd, isGood, atAsker, begun};
+ghost use Rattle.quorum_lines.specs.Line.{step as stepLine, ended};
 ghost use Rattle.quorum_lines.specs.Reply.{choiceText, column, row, reply, headerText};
 ghost use Rattle.quorum_lines.specs.Output.{nextLine, replyAt, after, repliesIn, piece, lastIn};
 use numbers::EVERY_NODE;
 use numbers::NODES;
+use numbers::NODES_END;
 use quorum::Choice;
 use quorum::Kind;
 
@@ -18,6 +19,9 @@ pub const LONGEST_ROW: usize = 40;
 
 // The largest live mask.
 const MOST_LIVE: u32 = EVERY_NODE as u32;
+
+// The first number that is no asker.
+const ASKERS_END: u16 = NODES_END as u16;
 
 // A line that is being read, byte by byte.
 pub struct Line {
@@ -28,7 +32,7 @@ pub struct Line {
     pub value: u16,
     // Whether the line is bad, whatever comes.
     pub spoilt: bool,
-    // The complete numbers: the live mask, then the distances.
+    // The complete numbers: the live mask, then the distances. The asker, if one comes, is the last number and stands in value.
     pub live: u16,
     pub distances: [u16; NODES],
 }
@@ -47,7 +51,7 @@ pub fn fresh() -> Line
     }
 }
 
-// The largest that a number may be, after k others.
+// The largest that a number may be, after k others; the asker's own limit is tested where the line ends.
 fn largest(k: usize) -> u32
     ensures { λ r. ⌜ (r ≡ most k) × (r < 65536) ⌝ }
 {
@@ -82,12 +86,12 @@ fn kept(line: Line) -> Line
     l
 }
 
-// A space.
+// A space: it is good behind the mask and behind each distance.
 fn spaced(line: Line) -> Line
     ensures { λ r. ⌜ r ≡ space line ⌝ }
 {
     if line.digits {
-        if line.count < NODES {
+        if line.count <= NODES {
             return kept(line);
         }
     }
@@ -135,6 +139,19 @@ pub fn step(line: Line, b: u8) -> Line
     with_digit(line, b - 48)
 }
 
+// Whether the number that is being read may be the line's last: the last distance, or an asker that is a node.
+fn may_end(line: Line) -> bool
+    ensures { λ r. ⌜ r ≡ mayEnd line ⌝ }
+{
+    if line.count == NODES {
+        return true;
+    }
+    if line.count == NODES + 1 {
+        return line.value < ASKERS_END;
+    }
+    false
+}
+
 // Whether a line that ends here is good.
 fn is_good(line: Line) -> bool
     ensures { λ r. ⌜ r ≡ isGood line ⌝ }
@@ -143,9 +160,19 @@ fn is_good(line: Line) -> bool
         return false;
     }
     if line.digits {
-        return line.count == NODES;
+        return may_end(line);
     }
     false
+}
+
+// A good line as it stands at the asker: one that ends with the last distance has this complete, and asker 0.
+fn at_asker(line: Line) -> Line
+    ensures { λ r. ⌜ r ≡ atAsker line ⌝ }
+{
+    if line.count == NODES {
+        return kept(line);
+    }
+    line
 }
 
 // Whether something of a line is read.
@@ -178,28 +205,35 @@ fn put_choice(out: &mut [u8], at: usize, choice: Choice) -> usize
     }
 }
 
-// A column of a row: a space, and the quorum of a kind that is chosen.
-fn put_column(out: &mut [u8], at: usize, kind: Kind, live: u16, distances: &[u16; NODES]) -> usize
+// A column of a row: a space, and the quorum of a kind that is chosen for the asker.
+fn put_column(
+    out: &mut [u8],
+    at: usize,
+    kind: Kind,
+    asker: u8,
+    live: u16,
+    distances: &[u16; NODES],
+) -> usize
     requires { ⌜ at + 17 ≤ length (now out) ⌝ }
-    ensures next { λ r. ⌜ r ≡ at + length (column kind live (now (distances .entry))) ⌝ }
-    ensures buffer { λ r. ⌜ now (out .exit) ≡ putAt (now (out .entry)) at (column kind live (now (distances .entry))) ⌝ }
-    ensures within { λ r. ⌜ length (column kind live (now (distances .entry))) ≤ 17 ⌝ }
+    ensures next { λ r. ⌜ r ≡ at + length (column kind asker live (now (distances .entry))) ⌝ }
+    ensures buffer { λ r. ⌜ now (out .exit) ≡ putAt (now (out .entry)) at (column kind asker live (now (distances .entry))) ⌝ }
+    ensures within { λ r. ⌜ length (column kind asker live (now (distances .entry))) ≤ 17 ⌝ }
 {
-    let choice = quorum::nearest(kind, live, distances);
+    let choice = quorum::nearest(kind, asker, live, distances);
     let a = decimal::append(out, at, b" ");
     put_choice(out, a, choice)
 }
 
-// The row of a good line.
-fn put_row(out: &mut [u8], at: usize, live: u16, distances: &[u16; NODES]) -> usize
+// The row of a good line: its mask, and the quorums that are chosen for its asker.
+fn put_row(out: &mut [u8], at: usize, asker: u8, live: u16, distances: &[u16; NODES]) -> usize
     requires { ⌜ at + 40 ≤ length (now out) ⌝ }
-    ensures next { λ r. ⌜ r ≡ at + length (row live (now (distances .entry))) ⌝ }
-    ensures buffer { λ r. ⌜ now (out .exit) ≡ putAt (now (out .entry)) at (row live (now (distances .entry))) ⌝ }
-    ensures within { λ r. ⌜ length (row live (now (distances .entry))) ≤ 40 ⌝ }
+    ensures next { λ r. ⌜ r ≡ at + length (row asker live (now (distances .entry))) ⌝ }
+    ensures buffer { λ r. ⌜ now (out .exit) ≡ putAt (now (out .entry)) at (row asker live (now (distances .entry))) ⌝ }
+    ensures within { λ r. ⌜ length (row asker live (now (distances .entry))) ≤ 40 ⌝ }
 {
     let a = decimal::put(out, at, live as u64);
-    let b = put_column(out, a, Kind::Read, live, distances);
-    let c = put_column(out, b, Kind::Write, live, distances);
+    let b = put_column(out, a, Kind::Read, asker, live, distances);
+    let c = put_column(out, b, Kind::Write, asker, live, distances);
     decimal::append(out, c, b"\n")
 }
 
@@ -211,10 +245,11 @@ fn put_reply(out: &mut [u8], at: usize, line: Line) -> usize
     ensures within { λ r. ⌜ length (reply (ended line)) ≤ 40 ⌝ }
 {
     if is_good(line) {
-        let l = kept(line);
+        let l = at_asker(line);
+        let asker = l.value as u8;
         let live = l.live;
         let distances = l.distances;
-        return put_row(out, at, live, &distances);
+        return put_row(out, at, asker, live, &distances);
     }
     decimal::append(out, at, b"bad\n")
 }

@@ -1,4 +1,4 @@
-// The quorum program: reads lines of a live mask and thirteen distances, and writes the nearest read and write quorum of each.
+// The quorum program: reads lines of a live mask, thirteen distances and, if given, the asker, and writes the nearest read and write quorum of each.
 // It moves bytes only: what is written for what is read is `quorum_lines`, which is proved.
 use libc::STDIN_FILENO;
 use libc::STDOUT_FILENO;

@@ -26,7 +26,7 @@ pub fn begin_number(bytes: &[u8], me: u8, w: BeginWith) -> u8
         return number;
     }
     let distances = w.distances;
-    let chosen = quorum::nearest(Kind::Read, w.live, &distances);
+    let chosen = quorum::nearest(Kind::Read, me, w.live, &distances);
     begin_refusal(bytes, me, w, chosen)
 }
 
@@ -71,7 +71,7 @@ pub fn reselect_number(bytes: &[u8], me: u8, live: u16, distances: [u16; NODES])
     if number != 0 {
         return number;
     }
-    let chosen = quorum::nearest(Kind::Read, live, &distances);
+    let chosen = quorum::nearest(Kind::Read, me, live, &distances);
     reselect_refusal(bytes, me, live, chosen)
 }
 

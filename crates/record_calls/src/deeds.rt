@@ -89,7 +89,7 @@ pub fn begin(bytes: &mut [u8], me: u8, w: BeginWith) -> Called
     ensures { λ r. ⌜ now (bytes .exit) ≡ kept (beginOf tree (recordOf (now (bytes .entry))) me w) (now (bytes .entry)) ⌝ }
 {
     let distances = w.distances;
-    let chosen = quorum::nearest(Kind::Read, w.live, &distances);
+    let chosen = quorum::nearest(Kind::Read, me, w.live, &distances);
     let number = begin_refusal(bytes, me, w, chosen);
     if number != 0 {
         return refused(number);
@@ -234,7 +234,7 @@ pub(crate) fn reselect(bytes: &mut [u8], me: u8, live: u16, distances: [u16; NOD
     ensures { λ r. ⌜ r ≡ toldBy (reselectOf tree (recordOf (now (bytes .entry))) me live distances) ⌝ }
     ensures { λ r. ⌜ now (bytes .exit) ≡ kept (reselectOf tree (recordOf (now (bytes .entry))) me live distances) (now (bytes .entry)) ⌝ }
 {
-    let chosen = quorum::nearest(Kind::Read, live, &distances);
+    let chosen = quorum::nearest(Kind::Read, me, live, &distances);
     let number = reselect_refusal(bytes, me, live, chosen);
     if number != 0 {
         return refused(number);
@@ -263,15 +263,22 @@ pub(crate) fn request_refusal(bytes: &[u8], me: u8, chosen: Choice) -> u8
     refuse(numbers::STRANGER, !(me < NODES_END), turn)
 }
 
+// The nearest write quorum for a node, by the live mask and the distances that its record has.
+fn write_quorum(bytes: &[u8], me: u8) -> Choice
+    ensures { λ r. ⌜ r ≡ tree .nearestWrite me (recordOf (now (bytes .entry)) .live) (recordOf (now (bytes .entry)) .distances) ⌝ }
+{
+    let distances = distances_of(bytes);
+    let live = octets::get_u16(bytes, LIVE);
+    quorum::nearest(Kind::Write, me, live, &distances)
+}
+
 // The number of a request to commit, with no byte altered. Ruled out: 8 before 11; 0 with an object that is not ready.
 // The condition is a plain fact of a record that was checked; only the crates that work on one use it, and each proves it.
 pub fn request_ahead(bytes: &[u8], me: u8) -> u8
     requires { ⌜ check (now bytes) ≡ 0 ⌝ }
     ensures { λ r. ⌜ r ≡ requestCommitOf tree (recordOf (now (bytes .entry))) me .number ⌝ }
 {
-    let distances = distances_of(bytes);
-    let live = octets::get_u16(bytes, LIVE);
-    let chosen = quorum::nearest(Kind::Write, live, &distances);
+    let chosen = write_quorum(bytes, me);
     request_refusal(bytes, me, chosen)
 }
 
@@ -282,9 +289,7 @@ pub fn request_commit(bytes: &mut [u8], me: u8) -> Called
     ensures { λ r. ⌜ r ≡ toldBy (requestCommitOf tree (recordOf (now (bytes .entry))) me) ⌝ }
     ensures { λ r. ⌜ now (bytes .exit) ≡ kept (requestCommitOf tree (recordOf (now (bytes .entry))) me) (now (bytes .entry)) ⌝ }
 {
-    let distances = distances_of(bytes);
-    let live = octets::get_u16(bytes, LIVE);
-    let chosen = quorum::nearest(Kind::Write, live, &distances);
+    let chosen = write_quorum(bytes, me);
     let number = request_refusal(bytes, me, chosen);
     if number != 0 {
         return refused(number);

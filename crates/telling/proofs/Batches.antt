@@ -151,7 +151,7 @@ module _ (y : System) (q : Quorums y) (c : Coordinator) (n : ℕ) (m : Meets y c
   asked-same : (b : Coordinator) → inUse (requestCommitOf y b n .coordinator) ≡ inUse b
   unfolding requestCommitOf requestCommitRefusals requested
   asked-same b =
-      let chosen = y .nearestWrite (b .live) (b .distances) in
+      let chosen = y .nearestWrite n (b .live) (b .distances) in
       step-keeps (λ (a : Coordinator). inUse a ≡ inUse b) (requestCommitRefusals y b n chosen) _ b _ tt refl (λ k. refl)
 
   asks-tell : (b : Coordinator) (z : List ℕ) → keptDeed y b n asks z ≡ z

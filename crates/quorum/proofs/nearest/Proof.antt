@@ -12,7 +12,7 @@ use Rattle.quorum.specs.Quorum.{isQuorum}
 use Rattle.quorum.specs.Smallest.{smallest}
 use Rattle.quorum.specs.Nearest.{distance, nearestOf, numberOf, maskOf, sumOf}
 use Rattle.quorum.specs.Key.{Means, bound}
-use Rattle.quorum.proofs.Optimal.{optimal, mask-small}
+use Rattle.quorum.proofs.Optimal.{optimal, mask-small, turns, few-turns}
 use Rattle.quorum.proofs.Theorems.{number-exactly, sum-exactly}
 use Rattle.quorum.proofs.Keys.{meant, meant-nothing}
 use borrow.Author.Needs.{needs}
@@ -20,35 +20,38 @@ use Rattle.quorum.proofs.nearest.Statement.{statement}
 use Rattle.quorum.proofs.nearest.Tie as tie
 
 -- what holds of the nearest holds of the answer
-all-said : (k : Kind) (live : ℕ) (d : List ℕ) (r : Choice) → r ≡ nearestOf live d (smallest k)
-    → (r ≡ nearestOf live d (smallest k)) × ((numberOf r ≡ cond (isQuorum k live) 0 noQuorum) × (sumOf r ≡ distance d (maskOf r)))
-all-said k live d r e =
-    (e, (ap numberOf e ∙ number-exactly k live d, subst (λ (x : Choice). sumOf x ≡ distance d (maskOf x)) (sym e) (sum-exactly live d (smallest k))))
+all-said : (k : Kind) (asker live : ℕ) (d : List ℕ) (r : Choice) → r ≡ nearestOf asker live d (smallest k)
+    → (r ≡ nearestOf asker live d (smallest k)) × ((numberOf r ≡ cond (isQuorum k live) 0 noQuorum) × (sumOf r ≡ distance d (maskOf r)))
+all-said k asker live d r e =
+    let s = sum-exactly asker live d (smallest k) in
+    (e, (ap numberOf e ∙ number-exactly k asker live d, subst (λ (x : Choice). sumOf x ≡ distance d (maskOf x)) (sym e) s))
 
 best-requires : tie.Need-best-requires
 best-requires c κs = search needs
 
-cast-t8 : tie.Need-cast-t8
-cast-t8 c = search needs
+cast-t9 : tie.Need-cast-t9
+cast-t9 c = search needs
 
-cast-t10 : tie.Need-cast-t10
-cast-t10 c = search needs
+cast-t11 : tie.Need-cast-t11
+cast-t11 c = search needs
 
 returns : tie.Need-returns
 returns c =
     let a = c .before .before .args in
     let d = now (a .distances) in
     let k = c .before .best in
-    let m = subst (Means (bound 2) (k .result)) (optimal (a .live) d (a .kind)) (k .ensures .0) in
-    all-said (a .kind) (a .live) d _ (meant (bound 2) (k .result) _ (omega arith) m (mask-small (a .live) d (a .kind)) (c .if1 .taken) .2)
+    let m = subst (Means (bound 2) (k .result)) (optimal (a .asker) (a .live) d (a .kind)) (k .ensures .0) in
+    let small = mask-small (a .asker) (a .live) d (a .kind) in
+    all-said (a .kind) (a .asker) (a .live) d _
+    (meant (a .asker) (turns (a .kind)) (bound 2) (k .result) _ (omega arith) (few-turns (a .kind)) m small (c .if1 .taken) .2)
 
 returns-2 : tie.Need-returns-2
 returns-2 c =
     let a = c .before .before .args in
     let d = now (a .distances) in
     let k = c .before .best in
-    let m = subst (Means (bound 2) (k .result)) (optimal (a .live) d (a .kind)) (k .ensures .0) in
-    all-said (a .kind) (a .live) d _ (meant-nothing (bound 2) (k .result) _ (omega arith) m (c .if1 .left))
+    let m = subst (Means (bound 2) (k .result)) (optimal (a .asker) (a .live) d (a .kind)) (k .ensures .0) in
+    all-said (a .kind) (a .asker) (a .live) d _ (meant-nothing (a .asker) (turns (a .kind)) (bound 2) (k .result) _ (omega arith) m (c .if1 .left))
 
 pub nearest-spec : {M : Type 1} → statement M
-nearest-spec = tie.close (tie.spec best-requires cast-t8 cast-t10 returns returns-2)
+nearest-spec = tie.close (tie.spec best-requires cast-t9 cast-t11 returns returns-2)

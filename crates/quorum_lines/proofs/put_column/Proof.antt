@@ -43,7 +43,7 @@ returns c =
     let h : x .at + 17 ≤ length l = p .before .before .pre in
     let s = put-first l (x .at) (32 ∷ []) (omega arith) (a .ensures .0) (a .ensures .1) in
     let u = put-next l (x .at) (32 ∷ []) t (omega (arith, r .1 .1)) s (r .0, r .1 .0) in
-    let e : (32 ∷ []) ++ t ≡ column (x .kind) (x .live) (now (x .distances)) =
+    let e : (32 ∷ []) ++ t ≡ column (x .kind) (x .asker) (x .live) (now (x .distances)) =
     ap (λ k. (32 ∷ []) ++ choiceText k) (p .nearest .ensures .0) in
     (u .0 ∙ ap (λ (k : List ℕ). x .at + length k) e, (u .1 ∙ ap (putAt l (x .at)) e, omega (arith, ap length e, r .1 .1)))
 

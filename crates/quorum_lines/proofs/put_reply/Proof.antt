@@ -1,4 +1,4 @@
--- `quorum_lines::put_reply` meets its contract: the reply is the row of the mask and the distances, or `bad`.
+-- `quorum_lines::put_reply` meets its contract: the reply is the row of the asker, the mask and the distances, or `bad`.
 use Prim.Native.Nat.{ℕ, _+_}
 use native.Mathlib.Omega.{arith}
 use mathlib.Core.Path.{_≡_, sym, ap, _∙_}
@@ -10,7 +10,7 @@ use Rattle.decimal.specs.Laws.{next-fits}
 use Rattle.quorum_lines.specs.declared.Line.{Line}
 use Rattle.quorum_lines.specs.Line.{ended}
 use Rattle.quorum_lines.specs.Reply.{row, reply}
-use Rattle.quorum_lines.specs.Laws.{good-count, reply-good, reply-bad}
+use Rattle.quorum_lines.specs.Laws.{good-asker, reply-good, reply-bad}
 use borrow.Author.Needs.{needs}
 use Rattle.quorum_lines.proofs.put_reply.Statement.{statement}
 use Rattle.quorum_lines.proofs.put_reply.Tie as tie
@@ -18,8 +18,14 @@ use Rattle.quorum_lines.proofs.put_reply.Tie as tie
 is-good-requires : tie.Need-is-good-requires
 is-good-requires c κs = search needs
 
-kept-requires : tie.Need-kept-requires
-kept-requires c κs = let e = good-count (c .before .before .before .args .line) (sym (c .before .is-good .ensures) ∙ c .if1 .taken) in omega arith
+at-asker-requires : tie.Need-at-asker-requires
+at-asker-requires c κs = search needs
+
+cast-asker : tie.Need-cast-asker
+cast-asker c =
+    let p = c .before .before in
+    let e = good-asker (p .before .before .before .args .line) (sym (p .before .is-good .ensures) ∙ p .if1 .taken) in
+    omega (arith, e, ap (λ (s : Line). s .value) (c .before .at-asker .ensures))
 
 put-row-requires : tie.Need-put-row-requires
 put-row-requires c κs = search needs
@@ -29,11 +35,12 @@ same-length c = search needs
 
 returns : tie.Need-returns
 returns c =
-    let p = c .before .before .before .before .before .before in
+    let p = c .before .before .before .before .before .before .before in
     let x = p .before .before .before .before .args in
     let r = c .before .before .put-row in
-    let e : row (p .kept .result .live) (p .kept .result .distances) ≡ reply (ended (x .line)) =
-    ap (λ (s : Line). row (s .live) (s .distances)) (p .kept .ensures)
+    let l = p .at-asker .result in
+    let e : row (l .value) (l .live) (l .distances) ≡ reply (ended (x .line)) =
+    ap (λ (s : Line). row (s .value) (s .live) (s .distances)) (p .at-asker .ensures)
     ∙ sym (reply-good (x .line) (sym (p .before .before .is-good .ensures) ∙ p .before .if1 .taken)) in (
       r .ensures .0 ∙ ap (λ (t : List ℕ). x .at + length t) e,
       (r .ensures .1 .0 ∙ ap (putAt (now (x .out)) (x .at)) e, omega (arith, ap length e, r .ensures .1 .1)),
@@ -64,7 +71,8 @@ put-reply-spec =
     tie.close
     (tie.spec
     is-good-requires
-    kept-requires
+    at-asker-requires
+    cast-asker
     put-row-requires
     same-length
     returns

@@ -42,7 +42,7 @@ put-column-requires-2 c κs =
     let room : x .at + 40 ≤ length (now (x .out)) = p .before .before .before .pre in
     let small : x .live < 65536 = omega (arith, p .before .before .before .fits .live) in
     let s = mask-first (now (x .out)) (x .at) (x .live) room small (p .put .ensures .0) (p .put .ensures .1) in
-    let r = column Read (x .live) (now (x .distances)) in
+    let r = column Read (x .asker) (x .live) (now (x .distances)) in
     let t = q .put-column .ensures in
     omega (
       arith,
@@ -73,8 +73,8 @@ returns c =
     let room : x .at + 40 ≤ length l = p .before .before .before .pre in
     let s = mask-first l (x .at) (x .live) room (omega (arith, p .before .before .before .fits .live)) (p .put .ensures .0) (p .put .ensures .1) in
     let d = decimal (x .live) in
-    let r = column Read (x .live) (now (x .distances)) in
-    let w = column Write (x .live) (now (x .distances)) in
+    let r = column Read (x .asker) (x .live) (now (x .distances)) in
+    let w = column Write (x .asker) (x .live) (now (x .distances)) in
     let t = q .put-column .ensures in
     let u = n .put-column2 .ensures in
     let small : length r ≤ 17 = t .1 .1 in

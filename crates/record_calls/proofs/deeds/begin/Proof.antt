@@ -38,7 +38,7 @@ returns c =
     let b4 = c .before .before .before .before in
     let x = b4 .before .before .before .before .args in
     let l = now (x .bytes) in
-    let q : ℕ = maskOf (tree .nearestRead (x .w .live) (x .w .distances)) in
+    let q : ℕ = maskOf (tree .nearestRead (x .me) (x .w .live) (x .w .distances)) in
     let d = begun (recordOf l) (x .w) q in
     let e = c .before .before .begin-refusal .ensures
     ∙ ap (λ (k : Choice). firstOf (beginRefusals (recordOf l) (x .me) (x .w) k)) (b4 .nearest .ensures .0) in
@@ -92,10 +92,10 @@ returns-2 c =
     let x = b22 .before .before .before .before .args in
     let l = now (x .bytes) in
     let k = recordOf l in
-    let q : ℕ = maskOf (tree .nearestRead (x .w .live) (x .w .distances)) in
+    let q : ℕ = maskOf (tree .nearestRead (x .me) (x .w .live) (x .w .distances)) in
     let z = sym (b16 .before .before .before .before .begin-refusal .ensures
     ∙ ap (λ (m : Choice). firstOf (beginRefusals k (x .me) (x .w) m)) (b22 .nearest .ensures .0)) ∙ b16 .before .before .before .if1 .left in
-    let free = clear (beginRefusals k (x .me) (x .w) (tree .nearestRead (x .w .live) (x .w .distances))) tt z in
+    let free = clear (beginRefusals k (x .me) (x .w) (tree .nearestRead (x .me) (x .w .live) (x .w .distances))) tt z in
     let idle : k .phase ≡ 0 = eqb-true (k .phase) 0 (not-false _ (free .1 .0)) in
     let small : Bytes l = λ j. omega (arith, b22 .before .before .before .slice-known .given j) in
     let m = b16 .before .before .mask-of .ensures ∙ ap maskOf (b22 .nearest .ensures .0) in (

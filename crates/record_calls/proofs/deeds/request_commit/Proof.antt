@@ -1,6 +1,5 @@
 -- `record_calls::deeds::request_commit`: a number refuses; 0 stores the phase and the participants.
 use mathlib.Core.Path.{sym, ap, _∙_}
-use mathlib.Core.List.{List}
 use Prim.Native.Nat.{ℕ}
 use native.Mathlib.Omega.{arith}
 use denote.Ref.{now}
@@ -20,17 +19,11 @@ use borrow.Author.Needs.{needs}
 use Rattle.record_calls.proofs.deeds.request_commit.Statement.{statement}
 use Rattle.record_calls.proofs.deeds.request_commit.Tie as tie
 
-distances-of-requires : tie.Need-distances-of-requires
-distances-of-requires c κs = search needs
-
-get-u16-requires : tie.Need-get-u16-requires
-get-u16-requires c κs = search needs
-
-nearest-requires : tie.Need-nearest-requires
-nearest-requires c κs = search needs
+write-quorum-requires : tie.Need-write-quorum-requires
+write-quorum-requires c κs = search needs
 
 request-refusal-requires : tie.Need-request-refusal-requires
-request-refusal-requires c κs = readable _ (c .before .before .before .before .before .before .before .before .pre)
+request-refusal-requires c κs = readable _ (c .before .before .before .before .pre)
 
 refused-requires : tie.Need-refused-requires
 refused-requires c κs = search needs
@@ -42,20 +35,17 @@ returns : tie.Need-returns
 unfolding requestCommitOf recordOf
 returns c =
     let b4 = c .before .before .before .before in
-    let b8 = b4 .before .before .before .before in
-    let x = b8 .before .before .before .args in
+    let x = b4 .before .before .before .args in
     let l = now (x .bytes) in
     let k = recordOf l in
-    let p : ℕ = joined (maskOf (tree .nearestWrite (k .live) (k .distances))) (k .contacted) in
-    let near = b4 .nearest .ensures .0
-    ∙ ap (λ (n : ℕ). tree .nearestWrite n (b8 .distances-of .result)) (b4 .before .before .get-u16 .ensures)
-    ∙ ap (λ (d : List ℕ). tree .nearestWrite (k .live) d) (b8 .distances-of .ensures) in
+    let p : ℕ = joined (maskOf (tree .nearestWrite (x .me) (k .live) (k .distances))) (k .contacted) in
+    let near = b4 .write-quorum .ensures in
     let e = c .before .before .request-refusal .ensures ∙ ap (λ (m : Choice). firstOf (requestCommitRefusals tree k (x .me) m)) near in
     let h = c .before .if1 .taken in
     (c .refused .ensures ∙ told-refused _ p k (requested k p) l _ e h, kept-refused _ p k (requested k p) l _ e h)
 
-get-u16-requires-2 : tie.Need-get-u16-requires-2
-get-u16-requires-2 c κs = search needs
+get-u16-requires : tie.Need-get-u16-requires
+get-u16-requires c κs = search needs
 
 mask-of-requires : tie.Need-mask-of-requires
 mask-of-requires c κs = search needs
@@ -87,38 +77,33 @@ returns-2 c =
     let b8 = c .before .before .before .before .before .before .before .before in
     let b16 = b8 .before .before .before .before .before .before .before .before in
     let b19 = b16 .before .before .before in
-    let b23 = b19 .before .before .before .before in
-    let x = b23 .before .before .before .args in
+    let x = b19 .before .before .before .args in
     let l = now (x .bytes) in
     let k = recordOf l in
-    let q : ℕ = maskOf (tree .nearestWrite (k .live) (k .distances)) in
+    let q : ℕ = maskOf (tree .nearestWrite (x .me) (k .live) (k .distances)) in
     let p : ℕ = joined q (k .contacted) in
-    let near = b19 .nearest .ensures .0
-    ∙ ap (λ (n : ℕ). tree .nearestWrite n (b23 .distances-of .result)) (b19 .before .before .get-u16 .ensures)
-    ∙ ap (λ (d : List ℕ). tree .nearestWrite (k .live) d) (b23 .distances-of .ensures) in
+    let near = b19 .write-quorum .ensures in
     let z = sym (b16 .before .request-refusal .ensures ∙ ap (λ (m : Choice). firstOf (requestCommitRefusals tree k (x .me) m)) near) ∙ b16 .if1 .left in
-    let small : Bytes l = λ j. omega (arith, b23 .before .before .slice-known .given j) in
+    let small : Bytes l = λ j. omega (arith, b19 .before .before .slice-known .given j) in
     let b12 = b8 .before .before .before .before in
     let all = b12 .join .ensures
-    ∙ ap (λ (m : ℕ). joined m (b12 .before .before .get-u162 .result)) (b12 .before .mask-of .ensures ∙ ap maskOf near)
-    ∙ ap (joined q) (b12 .before .before .get-u162 .ensures) in (
+    ∙ ap (λ (m : ℕ). joined m (b12 .before .before .get-u16 .result)) (b12 .before .mask-of .ensures ∙ ap maskOf near)
+    ∙ ap (joined q) (b12 .before .before .get-u16 .ensures) in (
       c .taken .ensures ∙ ap (called 0) (c .before .wide .ensures ∙ all) ∙ told-taken _ p k (requested k p) l z,
       rw (c .before .before .before .before .put-u16 .ensures, b8 .turn .ensures, b8 .before .get-u8 .ensures, all)
-          (requested-stored l small (b23 .before .before .before .pre) p ∙ kept-taken _ p k (requested k p) l z),
+          (requested-stored l small (b19 .before .before .before .pre) p ∙ kept-taken _ p k (requested k p) l z),
     )
 
 pub request-commit-spec : {M : Type 1} → statement M
 request-commit-spec =
     tie.close
     (tie.spec
-    distances-of-requires
-    get-u16-requires
-    nearest-requires
+    write-quorum-requires
     request-refusal-requires
     refused-requires
     same-length
     returns
-    get-u16-requires-2
+    get-u16-requires
     mask-of-requires
     join-requires
     get-u8-requires

@@ -35,7 +35,7 @@ returns c =
     let b4 = c .before .before .before .before in
     let x = b4 .before .before .before .args in
     let l = now (x .bytes) in
-    let q : ℕ = maskOf (tree .nearestRead (x .live) (x .t4)) in
+    let q : ℕ = maskOf (tree .nearestRead (x .me) (x .live) (x .t4)) in
     let d = reselected (recordOf l) (x .live) (x .t4) q in
     let e = c .before .before .reselect-refusal .ensures
     ∙ ap (λ (k : Choice). firstOf (reselectRefusals (recordOf l) (x .me) (x .live) k)) (b4 .nearest .ensures .0) in
@@ -81,7 +81,7 @@ returns-2 c =
     let x = b23 .before .before .before .args in
     let l = now (x .bytes) in
     let k = recordOf l in
-    let q : ℕ = maskOf (tree .nearestRead (x .live) (x .t4)) in
+    let q : ℕ = maskOf (tree .nearestRead (x .me) (x .live) (x .t4)) in
     let d = reselected k (x .live) (x .t4) q in
     let z = sym (b15 .before .before .before .before .before .before .reselect-refusal .ensures
     ∙ ap (λ (m : Choice). firstOf (reselectRefusals k (x .me) (x .live) m)) (b23 .nearest .ensures .0))

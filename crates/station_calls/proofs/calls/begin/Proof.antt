@@ -92,7 +92,7 @@ returns-3 c =
     let above = c .before .if3 .taken in
     let h : nodes ≤ x .node = omega (arith, above) in
     off-stranger (now (x .records)) (now (x .own)) (x .node) e z (beginOf tree k (x .node) (x .w)) above
-    (step-stranger (beginRefusals k (x .node) (x .w) (tree .nearestRead (x .w .live) (x .w .distances))) _ _ _ (simp (le-ltb (x .node) nodes h))) _
+    (step-stranger (beginRefusals k (x .node) (x .w) (tree .nearestRead (x .node) (x .w .live) (x .w .distances))) _ _ _ (simp (le-ltb (x .node) nodes h))) _
     (c .refused2 .ensures)
 
 wide-requires-2 : tie.Need-wide-requires-2
@@ -142,7 +142,7 @@ returns-4 c =
     let f : Coordinator → Step = λ k. beginOf tree k (x .node) (x .w) in
     let h : x .node < nodes = omega (arith, c6 .if3 .left) in
     off-lent (now (x .records)) (now (x .own)) (x .node) e z f h
-    (step-not-two (beginRefusals k (x .node) (x .w) (tree .nearestRead (x .w .live) (x .w .distances))) _ _ _ tt) _
+    (step-not-two (beginRefusals k (x .node) (x .w) (tree .nearestRead (x .node) (x .w .live) (x .w .distances))) _ _ _ tt) _
     (c .before .before .before .before .before .wide2 .ensures) _
     (c .before .before .begin-number .ensures) _ (c .before .off-number .ensures) _ (c .refused3 .ensures)
 
