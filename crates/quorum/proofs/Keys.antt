@@ -5,13 +5,17 @@ use Prim.Native.Nat.{ℕ, _+_, _-_, _*_, _/_, _%_, _≤_, _<_}
 use native.Mathlib.Omega.{arith}
 use lib.Dec.{T, ltb, leb, ltb→lt}
 use borrow.Author.Tests.{leb-true, leb-false}
+use mathlib.Core.List.{List}
+use lib.ListN.{getD}
+use Rattle.numbers.specs.Sizes.{nodes}
 use Rattle.mask.specs.Mask.{bit}
 use Rattle.quorum.specs.declared.Choice.{Choice}
 use Rattle.quorum.specs.declared.Choice.the-variants.{Quorum, Nothing}
 use Rattle.quorum.specs.declared.Kind.{Kind}
 use Rattle.quorum.specs.declared.Kind.the-variants.{Read, Write}
-use Rattle.quorum.specs.Levels.{lighterOf, bothOf, choosePair, withRoot}
-use Rattle.quorum.specs.Key.{absent, Means, lesserOf, pairKey, rootKey}
+use Rattle.quorum.specs.Tree.{child}
+use Rattle.quorum.specs.Levels.{lighterOf, bothOf, aloneOf, choosePair, withRoot, bestOf}
+use Rattle.quorum.specs.Key.{absent, Means, heightOf, AllMean, lesserOf, pairKey, rootKey, bestKey}
 use Rattle.quorum.proofs.Order.{by-key, not-by-key}
 use Rattle.quorum.proofs.Near.{weighed}
 use Rattle.quorum.proofs.Optimal.{passes}
@@ -74,6 +78,36 @@ pair-most a b c n p q r =
 pub root-most : (t : Kind) (a b x y : ℕ) → a ≤ x → b ≤ y → rootKey t a b ≤ x + y
 root-most Read a b x y p q = lesser-most a b (x + y) (omega arith) (omega arith)
 root-most Write a b x y p q = omega arith
+
+-- ---- the best set's key means the best set
+module _ (k : Kind) (asker live : ℕ) (d ks : List ℕ) (f : AllMean asker live d ks) where
+  at-height : (h i : ℕ) → i < nodes → heightOf i ≡ h → Means 65535 (getD ks i 0) (aloneOf asker live d h i)
+  at-height h i b e = subst (λ (j : ℕ). Means 65535 (getD ks i 0) (aloneOf asker live d j i)) e (f i b .0)
+
+  leaf : (i : ℕ) → i < nodes → heightOf i ≡ 0 → Means 65535 (bestKey k ks 0 i) (bestOf k asker live d 0 i)
+  unfolding bestKey bestOf
+  leaf i b e = at-height 0 i b e
+
+  abbrev key : ℕ → ℕ → ℕ → ℕ
+  key h r i = bestKey k ks h (child r i)
+
+  abbrev set : ℕ → ℕ → ℕ → Choice
+  set h r i = bestOf k asker live d h (child r i)
+
+  hall : (r : ℕ) → child r 3 < nodes → heightOf r ≡ 1 → heightOf (child r 1) ≡ 0 → heightOf (child r 2) ≡ 0 → heightOf (child r 3) ≡ 0
+      → Means 458745 (bestKey k ks 1 r) (bestOf k asker live d 1 r)
+  unfolding bestKey bestOf
+  hall r b e a1 a2 a3 =
+      means-root k 65535 393210 (getD ks r 0) _ _ _ (omega arith) (omega arith) (at-height 1 r (omega arith) e)
+      (means-pair 65535 (key 0 r 1) (key 0 r 2) (key 0 r 3) (set 0 r 1) (set 0 r 2) (set 0 r 3) (omega arith) (leaf (child r 1) (omega arith) a1)
+      (leaf (child r 2) (omega arith) a2) (leaf (child r 3) b a3))
+
+  pub means-best : Means 2818005 (bestKey k ks 2 0) (bestOf k asker live d 2 0)
+  unfolding bestKey bestOf
+  means-best =
+      means-root k 65535 2752470 (getD ks 0 0) _ _ _ (omega arith) (omega arith) (at-height 2 0 (omega arith) refl)
+      (means-pair 458745 (key 1 0 1) (key 1 0 2) (key 1 0 3) (set 1 0 1) (set 1 0 2) (set 1 0 3) (omega arith) (hall 1 (omega arith) refl refl refl refl)
+      (hall 2 (omega arith) refl refl refl refl) (hall 3 (omega arith) refl refl refl refl))
 
 -- ---- the choice that a key means
 pub meant : (asker z b k : ℕ) (x : Choice) → b ≤ 8388608 → z ≤ 255 → Means b k (weighed asker z x) → T (passes (λ (m : ℕ). ltb m 65536) x) → k < absent

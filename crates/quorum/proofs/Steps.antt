@@ -4,11 +4,12 @@ use mathlib.Core.List.{List}
 use Prim.Native.Nat.{ℕ, zero, suc, _+_, _-_, _*_, _%_, _^_, _≤_, _<_}
 use native.Mathlib.Nat.{pow-suc}
 use native.Mathlib.Omega.{arith}
+use lib.ListN.{getD}
 use Rattle.numbers.specs.Sizes.{nodes}
 use Rattle.quorum.specs.declared.Kind.{Kind}
 use Rattle.quorum.specs.Tree.{last}
-use Rattle.quorum.specs.Levels.{aloneOf, withRoot, bestOf, pairOf}
-use Rattle.quorum.specs.Key.{absent, bound}
+use Rattle.quorum.specs.Key.{absent, AllSmall, rootKey, bestKey, bestPairKey}
+use Rattle.quorum.proofs.Keys.{pair-most, root-most}
 
 -- ---- roots
 last-mono : (h : ℕ) {r s : ℕ} → r ≤ s → last h r ≤ last h s
@@ -33,51 +34,48 @@ child-last h r i e b = omega (arith, last-mono h {r = 3 * r + i} {s = 3 * r + 3}
 pub child-small : (h r : ℕ) → last h (3 * r + 3) < nodes → 3 * r + 3 < nodes
 child-small h r b = omega (arith, root-le-last h (3 * r + 3))
 
--- ---- one level of the choice
-pub best-zero : (k : Kind) (asker live : ℕ) (d : List ℕ) (h r : ℕ) → h ≡ 0 → bestOf k asker live d h r ≡ aloneOf asker live d h r
-unfolding bestOf
-best-zero k asker live d zero r f = refl
-best-zero k asker live d (suc h) r f = absurd (omega arith)
+-- ---- one level of the keys
+pub best-zero : (k : Kind) (ks : List ℕ) (h r : ℕ) → h ≡ 0 → bestKey k ks h r ≡ getD ks r 0
+unfolding bestKey
+best-zero k ks zero r f = refl
+best-zero k ks (suc h) r f = absurd (omega arith)
 
-pub best-step : (k : Kind) (asker live : ℕ) (d : List ℕ) (h r : ℕ) → (h ≡ 0 → ⊥)
-    → bestOf k asker live d h r ≡ withRoot k (aloneOf asker live d h r) (pairOf k asker live d (h - 1) r)
-unfolding bestOf pairOf
-best-step k asker live d zero r f = absurd (f refl)
-best-step k asker live d (suc h) r f = ap (λ (j : ℕ). withRoot k (aloneOf asker live d (suc h) r) (pairOf k asker live d j r)) (sym (less-one h))
+pub best-step : (k : Kind) (ks : List ℕ) (h r : ℕ) → (h ≡ 0 → ⊥) → bestKey k ks h r ≡ rootKey k (getD ks r 0) (bestPairKey k ks (h - 1) r)
+unfolding bestKey bestPairKey
+best-step k ks zero r f = absurd (f refl)
+best-step k ks (suc h) r f = ap (λ (j : ℕ). rootKey k (getD ks r 0) (bestPairKey k ks j r)) (sym (less-one h))
 
--- ---- keys
+-- ---- how large keys are
 -- the largest key at a height
-abbrev pub most : ℕ → ℕ
+abbrev most : ℕ → ℕ
 most h = absent * 3 ^ h
 
 one-le-pow : (h : ℕ) → 1 ≤ 3 ^ h
 one-le-pow zero = omega arith
 one-le-pow (suc h) = omega (arith, pow-suc 3 h, one-le-pow h)
 
-pub most-step : (h : ℕ) → (h ≡ 0 → ⊥) → absent + 2 * most (h - 1) ≤ most h
-most-step zero f = absurd (f refl)
-most-step (suc h) f = subst (λ (j : ℕ). absent + 2 * most j ≤ most (suc h)) (sym (less-one h)) (omega (arith, pow-suc 3 h, one-le-pow h))
+best-most : (k : Kind) (ks : List ℕ) → AllSmall ks → (h r : ℕ) → last h r < nodes → bestKey k ks h r ≤ most h
+unfolding bestKey
+best-most k ks f zero r b = omega (arith, f r b)
+best-most k ks f (suc h) r b =
+    let below : (i : ℕ) → i ≤ 3 → bestKey k ks h (3 * r + i) ≤ most h = λ i e. best-most k ks f h (3 * r + i) (child-last h r i e b) in
+    let own = f r (omega (arith, root-le-last (suc h) r)) in
+    let pair = pair-most _ _ _ (most h) (below 1 (omega arith)) (below 2 (omega arith)) (below 3 (omega arith)) in
+    omega (arith, root-most k _ _ absent (2 * most h) own pair, pow-suc 3 h, one-le-pow h)
 
-pub most-zero-le : (h : ℕ) → absent ≤ most h
-most-zero-le h = omega (arith, one-le-pow h)
-
-pub most-small : (h : ℕ) → h ≤ 1 → most h < 2 ^ 60
+most-small : (h : ℕ) → h ≤ 1 → most h < 2 ^ 60
 most-small zero e = omega arith
 most-small (suc zero) e = omega arith
 most-small (suc (suc h)) e = absurd (omega arith)
 
-pub bound-zero : (h : ℕ) → h ≡ 0 → bound h ≡ 65535
-bound-zero zero f = refl
-bound-zero (suc h) f = absurd (omega arith)
+pub best-small : (k : Kind) (ks : List ℕ) → AllSmall ks → (h r : ℕ) → h ≤ 1 → last h r < nodes → bestKey k ks h r < 2 ^ 60
+best-small k ks f h r e b = omega (arith, best-most k ks f h r b, most-small h e)
 
-pub bound-step : (h : ℕ) → (h ≡ 0 → ⊥) → bound h ≡ 65535 + 6 * bound (h - 1)
-bound-step zero f = absurd (f refl)
-bound-step (suc h) f = ap (λ (j : ℕ). 65535 + 6 * bound j) (sym (less-one h))
-
-pub bound-small : (h : ℕ) → h ≤ 1 → bound h ≤ 458745
-bound-small zero e = omega arith
-bound-small (suc zero) e = omega arith
-bound-small (suc (suc h)) e = absurd (omega arith)
+pub pair-small : (k : Kind) (ks : List ℕ) → AllSmall ks → (h r : ℕ) → h ≤ 1 → last h (3 * r + 3) < nodes → bestPairKey k ks h r < 2 ^ 61
+unfolding bestPairKey
+pair-small k ks f h r e b =
+    let below : (i : ℕ) → i ≤ 3 → bestKey k ks h (3 * r + i) ≤ most h = λ i g. best-most k ks f h (3 * r + i) (child-last h r i g b) in
+    omega (arith, pair-most _ _ _ (most h) (below 1 (omega arith)) (below 2 (omega arith)) (below 3 (omega arith)), most-small h e)
 
 -- ---- turns
 -- 1 shifted by a height: a power of two, from 1 to 4

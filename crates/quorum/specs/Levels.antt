@@ -53,8 +53,3 @@ bestOf k asker live d zero i = aloneOf asker live d 0 i
 bestOf k asker live d (suc h) i =
     withRoot k (aloneOf asker live d (suc h) i)
     (choosePair (bestOf k asker live d h (child i 1)) (bestOf k asker live d h (child i 2)) (bestOf k asker live d h (child i 3)))
-
--- the best pair of node i's child subtrees, which have height h
-unfoldable pub pairOf : Kind → ℕ → ℕ → List ℕ → ℕ → ℕ → Choice
-pairOf k asker live d h i =
-    choosePair (bestOf k asker live d h (child i 1)) (bestOf k asker live d h (child i 2)) (bestOf k asker live d h (child i 3))

@@ -10,8 +10,8 @@ ghost use Rattle.quorum.specs.Quorum.{twoOf, rootedBy, inSubtree, isQuor
 ghost use Rattle.quorum.specs.Counts.{leafCounts};
 ghost use Rattle.quorum.specs.Smallest.{smallest};
 ghost use Rattle.quorum.specs.Nearest.{nearestOf, distance, numberOf, maskOf, sumOf};
-ghost use Rattle.quorum.specs.Levels.{turnsOf, aloneOf, bestOf, pairOf};
-ghost use Rattle.quorum.specs.Key.{Means, bound, lesserOf, pairKey, rootKey};
+ghost use Rattle.quorum.specs.Levels.{turnsOf, aloneOf};
+ghost use Rattle.quorum.specs.Key.{Means, heightOf, AllMean, AllSmall, lesserOf, pairKey, rootKey, bestKey, bestPairKey};
 use numbers::NODES;
 
 // Which quorums are meant.
@@ -121,6 +121,30 @@ fn alone(asker: u8, live: u16, distances: &[u16; NODES], node: u8, height: u8) -
     }
 }
 
+// The height of a node: 2 of the root, 1 of a hall, 0 of a leaf.
+fn height_of(node: u8) -> u8
+    ensures { λ r. ⌜ (r ≡ heightOf node) × (r ≤ 2) ⌝ }
+{
+    if node == 0 {
+        return 2;
+    }
+    if node < 4 { 1 } else { 0 }
+}
+
+// The keys of the thirteen nodes, each by itself.
+fn keys_of(asker: u8, live: u16, distances: &[u16; NODES]) -> [u64; NODES]
+    ensures { λ r. ⌜ AllMean asker live (now (distances .entry)) r ⌝ }
+{
+    let mut keys = [ABSENT; NODES];
+    let mut i = 0;
+    while i < NODES {
+        let node = i as u8;
+        keys[i] = alone(asker, live, distances, node, height_of(node));
+        i += 1;
+    }
+    keys
+}
+
 // The nearest join of two of three keys.
 fn choose_pair(a: u64, b: u64, c: u64) -> u64
     requires { ⌜ (a < 2 ^ 62) × (b < 2 ^ 62) × (c < 2 ^ 62) ⌝ }
@@ -140,37 +164,29 @@ fn with_root(kind: Kind, own: u64, pair: u64) -> u64
     }
 }
 
-// The key of the nearest quorum of the subtree of this height at this root.
-fn best(kind: Kind, asker: u8, live: u16, distances: &[u16; NODES], root: u8, height: u8) -> u64
-    requires { ⌜ (last height root < nodes) × (height ≤ 2) ⌝ }
-    ensures { λ r. ⌜ Means (bound height) r (bestOf kind asker live (now (distances .entry)) height root) ⌝ }
-    ensures { λ r. ⌜ r ≤ 72057594037927936 * 3 ^ height ⌝ }
+// The key of the nearest quorum of the subtree of this height at this root, from the keys of the nodes.
+fn best(kind: Kind, keys: &[u64; NODES], root: u8, height: u8) -> u64
+    requires { ⌜ (last height root < nodes) × (height ≤ 2) × AllSmall (now keys) ⌝ }
+    ensures { λ r. ⌜ r ≡ bestKey kind (now (keys .entry)) height root ⌝ }
 {
-    let own = alone(asker, live, distances, root, height);
+    let i = root as usize;
+    let own = keys[i];
     if height == 0 {
         return own;
     }
-    let pair = best_pair(kind, asker, live, distances, root, height - 1);
+    let pair = best_pair(kind, keys, root, height - 1);
     with_root(kind, own, pair)
 }
 
 // The key of the nearest pair of quorums of two of a root's child subtrees, which have this height.
-fn best_pair(
-    kind: Kind,
-    asker: u8,
-    live: u16,
-    distances: &[u16; NODES],
-    root: u8,
-    height: u8,
-) -> u64
-    requires { ⌜ (last height (3 * root + 3) < nodes) × (height ≤ 1) ⌝ }
-    ensures { λ r. ⌜ Means (6 * bound height) r (pairOf kind asker live (now (distances .entry)) height root) ⌝ }
-    ensures { λ r. ⌜ r ≤ 2 * (72057594037927936 * 3 ^ height) ⌝ }
+fn best_pair(kind: Kind, keys: &[u64; NODES], root: u8, height: u8) -> u64
+    requires { ⌜ (last height (3 * root + 3) < nodes) × (height ≤ 1) × AllSmall (now keys) ⌝ }
+    ensures { λ r. ⌜ r ≡ bestPairKey kind (now (keys .entry)) height root ⌝ }
 {
     let at = 3 * root;
-    let a = best(kind, asker, live, distances, at + 1, height);
-    let b = best(kind, asker, live, distances, at + 2, height);
-    let c = best(kind, asker, live, distances, at + 3, height);
+    let a = best(kind, keys, at + 1, height);
+    let b = best(kind, keys, at + 2, height);
+    let c = best(kind, keys, at + 3, height);
     choose_pair(a, b, c)
 }
 
@@ -182,7 +198,8 @@ pub fn nearest(kind: Kind, asker: u8, live: u16, distances: &[u16; NODES]) -> Ch
     ensures { λ r. ⌜ numberOf r ≡ cond (isQuorum kind live) 0 noQuorum ⌝ }
     ensures { λ r. ⌜ sumOf r ≡ distance (now (distances .entry)) (maskOf r) ⌝ }
 {
-    let key = best(kind, asker, live, distances, 0, 2);
+    let keys = keys_of(asker, live, distances);
+    let key = best(kind, &keys, 0, 2);
     if key < ABSENT {
         Choice::Quorum((key % 65536) as u16, (key / ABOVE) as u32)
     } else {

@@ -11,10 +11,12 @@ use Rattle.quorum.specs.declared.Kind.{Kind}
 use Rattle.quorum.specs.Quorum.{isQuorum}
 use Rattle.quorum.specs.Smallest.{smallest}
 use Rattle.quorum.specs.Nearest.{distance, nearestOf, numberOf, maskOf, sumOf}
-use Rattle.quorum.specs.Key.{Means, bound}
+use Rattle.quorum.specs.Levels.{bestOf}
+use Rattle.quorum.specs.Key.{Means, AllMean, bestKey}
+use Rattle.quorum.proofs.Near.{weighed}
 use Rattle.quorum.proofs.Optimal.{optimal, mask-small, turns, few-turns}
 use Rattle.quorum.proofs.Theorems.{number-exactly, sum-exactly}
-use Rattle.quorum.proofs.Keys.{meant, meant-nothing}
+use Rattle.quorum.proofs.Keys.{means-best, meant, meant-nothing}
 use borrow.Author.Needs.{needs}
 use Rattle.quorum.proofs.nearest.Statement.{statement}
 use Rattle.quorum.proofs.nearest.Tie as tie
@@ -26,32 +28,44 @@ all-said k asker live d r e =
     let s = sum-exactly asker live d (smallest k) in
     (e, (ap numberOf e ∙ number-exactly k asker live d, subst (λ (x : Choice). sumOf x ≡ distance d (maskOf x)) (sym e) s))
 
+-- the key at the root means the nearest quorum, weighed
+meaning : (k : Kind) (asker live : ℕ) (d ks : List ℕ) (key : ℕ) → AllMean asker live d ks → key ≡ bestKey k ks 2 0
+    → Means 2818005 key (weighed asker (turns k) (nearestOf asker live d (smallest k)))
+meaning k asker live d ks key f e =
+    subst (Means 2818005 key) (optimal asker live d k)
+    (subst (λ (n : ℕ). Means 2818005 n (bestOf k asker live d 2 0)) (sym e) (means-best k asker live d ks f))
+
+keys-of-requires : tie.Need-keys-of-requires
+keys-of-requires c κs = search needs
+
 best-requires : tie.Need-best-requires
-best-requires c κs = search needs
+best-requires c κs = (omega arith, omega arith, λ i h. c .before .keys-of .ensures i h .1)
 
-cast-t9 : tie.Need-cast-t9
-cast-t9 c = search needs
+cast-t12 : tie.Need-cast-t12
+cast-t12 c = search needs
 
-cast-t11 : tie.Need-cast-t11
-cast-t11 c = search needs
+cast-t14 : tie.Need-cast-t14
+cast-t14 c = search needs
 
 returns : tie.Need-returns
 returns c =
-    let a = c .before .before .args in
+    let s = c .before .before .before in
+    let a = s .before .args in
     let d = now (a .distances) in
     let k = c .before .best in
-    let m = subst (Means (bound 2) (k .result)) (optimal (a .asker) (a .live) d (a .kind)) (k .ensures .0) in
+    let m = meaning (a .kind) (a .asker) (a .live) d (s .keys-of .result) (k .result) (s .keys-of .ensures) (k .ensures) in
     let small = mask-small (a .asker) (a .live) d (a .kind) in
     all-said (a .kind) (a .asker) (a .live) d _
-    (meant (a .asker) (turns (a .kind)) (bound 2) (k .result) _ (omega arith) (few-turns (a .kind)) m small (c .if1 .taken) .2)
+    (meant (a .asker) (turns (a .kind)) 2818005 (k .result) _ (omega arith) (few-turns (a .kind)) m small (c .if1 .taken) .2)
 
 returns-2 : tie.Need-returns-2
 returns-2 c =
-    let a = c .before .before .args in
+    let s = c .before .before .before in
+    let a = s .before .args in
     let d = now (a .distances) in
     let k = c .before .best in
-    let m = subst (Means (bound 2) (k .result)) (optimal (a .asker) (a .live) d (a .kind)) (k .ensures .0) in
-    all-said (a .kind) (a .asker) (a .live) d _ (meant-nothing (a .asker) (turns (a .kind)) (bound 2) (k .result) _ (omega arith) m (c .if1 .left))
+    let m = meaning (a .kind) (a .asker) (a .live) d (s .keys-of .result) (k .result) (s .keys-of .ensures) (k .ensures) in
+    all-said (a .kind) (a .asker) (a .live) d _ (meant-nothing (a .asker) (turns (a .kind)) 2818005 (k .result) _ (omega arith) m (c .if1 .left))
 
 pub nearest-spec : {M : Type 1} → statement M
-nearest-spec = tie.close (tie.spec best-requires cast-t9 cast-t11 returns returns-2)
+nearest-spec = tie.close (tie.spec keys-of-requires best-requires cast-t12 cast-t14 returns returns-2)
