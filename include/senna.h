@@ -130,25 +130,27 @@ uint8_t senna_is_read_quorum(uint16_t mask);
 uint8_t senna_is_write_quorum(uint16_t mask);
 
 /*
- * The nearest read quorum among the live nodes: of the smallest read quorums inside live the one with the least sum of distances,
- * and of equal sums the lowest mask.
+ * The nearest read quorum among the live nodes, for the node that asks: of the smallest read quorums inside live the one with the least sum of
+ * distances; of equal sums one that has the asker comes first, and then the lowest mask. So a node takes its own copy before one by cable, where that
+ * is no farther. A coordinator asks for itself: the calls that begin, look again or ask for votes pass their own node on.
  *
  * live       the nodes that may be chosen, at most SENNA_ALL
  * distances  SENNA_DISTANCES bytes: thirteen 16-bit numbers, low byte first, node 0 first; at any alignment; never null
  * length     the bytes at distances
+ * asker      the node that asks, 0 to 12; it need not be live. With asker 0 the lowest mask of the least sum is chosen.
  *
- * Numbers, the lowest that fits: SENNA_LENGTH (length is not SENNA_DISTANCES), SENNA_STRANGER (live above SENNA_ALL),
+ * Numbers, the lowest that fits: SENNA_LENGTH (length is not SENNA_DISTANCES), SENNA_STRANGER (live above SENNA_ALL, or asker above 12),
  * SENNA_NO_QUORUM (live contains no read quorum, and only then).
  * Only reads the bytes at distances; no heap; re-entrant.
  */
-senna_choice senna_nearest_read(uint16_t live, const uint8_t *distances, size_t length);
+senna_choice senna_nearest_read(uint16_t live, const uint8_t *distances, size_t length, uint8_t asker);
 
 /*
  * The nearest write quorum among the live nodes: as senna_nearest_read, with the smallest write quorums.
  * The same arguments and numbers; SENNA_NO_QUORUM exactly where live contains no write quorum.
  * Only reads the bytes at distances; no heap; re-entrant.
  */
-senna_choice senna_nearest_write(uint16_t live, const uint8_t *distances, size_t length);
+senna_choice senna_nearest_write(uint16_t live, const uint8_t *distances, size_t length, uint8_t asker);
 
 /*
  * Messages. Numbers are little-endian. Twelve bytes come first: kind, from, to, owner (one byte each), serial, stamp (four each). Then
@@ -584,8 +586,8 @@ senna_called senna_settings_kind(const uint8_t *settings, size_t length);
 senna_called senna_coordinator_waiting(const uint8_t *record, size_t length, const uint8_t *settings, size_t settings_length, uint8_t class_number);
 
 /*
- * Begins a transaction of the host's own with the next serial, in packing hours; answers the chosen read quorum. The settings then have the kind
- * SENNA_KIND_OWN and the tenths that wait; their tables stay.
+ * Begins a transaction of the host's own with the next serial, in packing hours; answers the chosen read quorum, the nearest for node me. The settings then
+ * have the kind SENNA_KIND_OWN and the tenths that wait; their tables stay.
  *
  * settings         the node's settings, changed in place
  * settings_length  the bytes at settings; another number than SENNA_SETTINGS is SENNA_LENGTH
@@ -604,10 +606,11 @@ senna_called senna_coordinator_begin(uint8_t *record, size_t length, uint8_t *se
                                      const uint8_t *distances, size_t size, uint32_t timestamp, uint32_t day, uint16_t minute);
 
 /*
- * Begins a batch with the next serial, in packing hours; answers the chosen read quorum. Every class's object is open to write, in the table's order, with
- * its grams as its new value for now, and the present read quorum is contacted. The settings then have the kind SENNA_KIND_BATCH, the tenths that wait and
- * those that this batch leaves over. A batch without weights is one too; it adds 0 grams to each object. Next the host sends what is due, until every
- * object is ready, and then calls senna_coordinator_request_commit; it opens nothing and gives no value. After an abort it begins the same batch again.
+ * Begins a batch with the next serial, in packing hours; answers the chosen read quorum, the nearest for node me. Every class's object is open to write, in
+ * the table's order, with its grams as its new value for now, and the present read quorum is contacted. The settings then have the kind SENNA_KIND_BATCH, the
+ * tenths that wait and those that this batch leaves over. A batch without weights is one too; it adds 0 grams to each object. Next the host sends what is
+ * due, until every object is ready, and then calls senna_coordinator_request_commit; it opens nothing and gives no value. After an abort it begins the same
+ * batch again.
  *
  * settings            the node's settings, changed in place
  * settings_length     the bytes at settings; another number than SENNA_SETTINGS is SENNA_LENGTH
@@ -625,7 +628,7 @@ senna_called senna_coordinator_batch(uint8_t *record, size_t length, uint8_t *se
                                      const uint8_t *list, size_t size);
 
 /*
- * Takes a fresh live mask and distances while open; answers the newly chosen read quorum, which is contacted if an object is open.
+ * Takes a fresh live mask and distances while open; answers the newly chosen read quorum, the nearest for node me, which is contacted if an object is open.
  * live, distances and size are as for senna_coordinator_begin.
  * Numbers: SENNA_STRANGER (also live above SENNA_ALL), SENNA_OUT_OF_TURN (not SENNA_OPEN), SENNA_NO_QUORUM.
  */
@@ -654,8 +657,8 @@ senna_called senna_coordinator_set_value(uint8_t *record, size_t length, const u
 senna_value senna_coordinator_found(uint8_t *record, size_t length, uint8_t me, uint8_t object);
 
 /*
- * Asks for votes; answers the participants, who are the nearest write quorum and every contacted node. On a batch each object's new value is then the one
- * found plus its grams. The settings are only read.
+ * Asks for votes; answers the participants, who are the nearest write quorum for node me and every contacted node. On a batch each object's new value is then
+ * the one found plus its grams. The settings are only read.
  * Numbers, in this order: SENNA_OUT_OF_TURN (not SENNA_OPEN), SENNA_NOT_READY (no object, one not ready, or one to write without its
  * new value), SENNA_NO_QUORUM, SENNA_USED_UP (a written version is 4294967295).
  *

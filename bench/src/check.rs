@@ -272,7 +272,7 @@ fn writers(random: &mut Random, counts: &mut Counts) -> Verdict {
     Ok(())
 }
 
-/// The quorum functions, on every mask and on random distances.
+/// The quorum functions, on every mask, and on random distances and askers.
 fn quorums(random: &mut Random, counts: &mut Counts) -> Verdict {
     for mask in 0..=u16::MAX {
         same(mask, Product::is_read_quorum(mask), Fast::is_read_quorum(mask))?;
@@ -286,8 +286,9 @@ fn quorums(random: &mut Random, counts: &mut Counts) -> Verdict {
                 random.bytes(size)
             }
         };
-        same(mask, Product::nearest_read(mask, &distances), Fast::nearest_read(mask, &distances))?;
-        same(mask, Product::nearest_write(mask, &distances), Fast::nearest_write(mask, &distances))?;
+        let asker = random.below_mostly(13, 256) as u8;
+        same((mask, asker), Product::nearest_read(mask, &distances, asker), Fast::nearest_read(mask, &distances, asker))?;
+        same((mask, asker), Product::nearest_write(mask, &distances, asker), Fast::nearest_write(mask, &distances, asker))?;
         counts.calls += 4;
     }
     Ok(())

@@ -94,8 +94,8 @@ macro_rules! passed_on {
 passed_on! {
     fn is_read_quorum(mask: u16) -> u8 = u8::from(quorum::is_read(mask));
     fn is_write_quorum(mask: u16) -> u8 = u8::from(quorum::is_write(mask));
-    fn nearest_read(live: u16, distances: &[u8]) -> Chosen = quorum::nearest_call(live, distances, quorum::nearest_read);
-    fn nearest_write(live: u16, distances: &[u8]) -> Chosen = quorum::nearest_call(live, distances, quorum::nearest_write);
+    fn nearest_read(live: u16, distances: &[u8], asker: u8) -> Chosen = quorum::nearest_call(live, distances, asker, quorum::nearest_read);
+    fn nearest_write(live: u16, distances: &[u8], asker: u8) -> Chosen = quorum::nearest_call(live, distances, asker, quorum::nearest_write);
 
     fn check_message(message: &[u8]) -> u8 = message::check(message);
     fn write_fetch(out: &mut [u8], to: u8, of: Transaction, object: u8, mode: u8) -> Written = written(writers::fetch(out, to, of, object, mode));

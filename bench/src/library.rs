@@ -97,8 +97,8 @@ pub struct Lent<'a> {
 pub trait Library {
     fn is_read_quorum(mask: u16) -> u8;
     fn is_write_quorum(mask: u16) -> u8;
-    fn nearest_read(live: u16, distances: &[u8]) -> Chosen;
-    fn nearest_write(live: u16, distances: &[u8]) -> Chosen;
+    fn nearest_read(live: u16, distances: &[u8], asker: u8) -> Chosen;
+    fn nearest_write(live: u16, distances: &[u8], asker: u8) -> Chosen;
 
     fn check_message(message: &[u8]) -> u8;
     fn write_fetch(out: &mut [u8], to: u8, of: Transaction, object: u8, mode: u8) -> Written;

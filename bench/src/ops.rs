@@ -85,10 +85,12 @@ macro_rules! step {
 
 fn quorums(list: &mut Vec<Op>) {
     let stage = || scenes::stage(Scene::Idle);
-    op!(list, "quorum", "nearest read, all live", stage(), |s| L::nearest_read(black_box(ALL), &s.distances));
-    op!(list, "quorum", "nearest write, all live", stage(), |s| L::nearest_write(black_box(ALL), &s.distances));
-    op!(list, "quorum", "nearest read, root and a hall off", stage(), |s| L::nearest_read(black_box(ALL & !3), &s.distances));
-    op!(list, "quorum", "nearest write, a hall off", stage(), |s| L::nearest_write(black_box(ALL & !2), &s.distances));
+    op!(list, "quorum", "nearest read, all live", stage(), |s| L::nearest_read(black_box(ALL), &s.distances, black_box(OWNER)));
+    op!(list, "quorum", "nearest write, all live", stage(), |s| L::nearest_write(black_box(ALL), &s.distances, black_box(OWNER)));
+    op!(list, "quorum", "nearest read, root and a hall off", stage(), |s| {
+        L::nearest_read(black_box(ALL & !3), &s.distances, black_box(OWNER))
+    });
+    op!(list, "quorum", "nearest write, a hall off", stage(), |s| L::nearest_write(black_box(ALL & !2), &s.distances, black_box(OWNER)));
     op!(list, "quorum", "is read quorum", stage(), |s| L::is_read_quorum(black_box(439 + u16::from(s.objects))));
     op!(list, "quorum", "is write quorum", stage(), |s| L::is_write_quorum(black_box(439 + u16::from(s.objects))));
 }

@@ -5,8 +5,8 @@ use crate::library::{BeginWith, Chosen, Entries, Entry, Lent, Library, Serials, 
 extern "C" {
     fn senna_is_read_quorum(mask: u16) -> u8;
     fn senna_is_write_quorum(mask: u16) -> u8;
-    fn senna_nearest_read(live: u16, distances: *const u8, distances_length: usize) -> Chosen;
-    fn senna_nearest_write(live: u16, distances: *const u8, distances_length: usize) -> Chosen;
+    fn senna_nearest_read(live: u16, distances: *const u8, distances_length: usize, asker: u8) -> Chosen;
+    fn senna_nearest_write(live: u16, distances: *const u8, distances_length: usize, asker: u8) -> Chosen;
     fn senna_check_message(message: *const u8, message_length: usize) -> u8;
     fn senna_write_fetch(out: *mut u8, out_length: usize, to: u8, owner: u8, serial: u32, stamp: u32, object: u8, mode: u8) -> Written;
     fn senna_write_copy(out: *mut u8, out_length: usize, from: u8, owner: u8, serial: u32, stamp: u32, entry: Entry) -> Written;
@@ -300,12 +300,12 @@ impl Library for Product {
         unsafe { senna_is_write_quorum(mask) }
     }
     #[inline(always)]
-    fn nearest_read(live: u16, distances: &[u8]) -> Chosen {
-        unsafe { senna_nearest_read(live, distances.as_ptr(), distances.len()) }
+    fn nearest_read(live: u16, distances: &[u8], asker: u8) -> Chosen {
+        unsafe { senna_nearest_read(live, distances.as_ptr(), distances.len(), asker) }
     }
     #[inline(always)]
-    fn nearest_write(live: u16, distances: &[u8]) -> Chosen {
-        unsafe { senna_nearest_write(live, distances.as_ptr(), distances.len()) }
+    fn nearest_write(live: u16, distances: &[u8], asker: u8) -> Chosen {
+        unsafe { senna_nearest_write(live, distances.as_ptr(), distances.len(), asker) }
     }
 
     #[inline(always)]

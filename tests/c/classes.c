@@ -10,7 +10,7 @@ static_assert(SENNA_BATCH_MAX == 2 + 2 * SENNA_WEIGHTS_MAX, "the sizes agree");
 static_assert(1 + SENNA_HOURS_MAX + SENNA_CLASS_TABLE_MAX + 1 + 2 * SENNA_CLASSES_MAX == SENNA_SETTINGS, "the sizes agree");
 static_assert(SENNA_BOUNDS == 14 && SENNA_TALLY_TWICE == 15, "document 02's numbers");
 
-enum { ME = 3, PARTY = 439, CLASSES_AT = 187, KIND_AT = 211, WAITED_AT = 212, LEFT_AT = 220 };
+enum { ME = 4, PARTY = 439, CLASSES_AT = 187, KIND_AT = 211, WAITED_AT = 212, LEFT_AT = 220 };
 
 /* Below 53.0 g to object 10, from 53.0 g to object 11: the header's own example. One class for all, in object 7. */
 static const uint8_t two[] = {1, 0x12, 0x02, 2, 10, 11};

@@ -8,7 +8,8 @@ static_assert(sizeof(senna_called) == 16 && offsetof(senna_called, answer) == 8,
 static_assert(sizeof(senna_value) == 16 && offsetof(senna_value, value) == 8, "the layout that the library returns");
 static_assert(SENNA_RECORD == 12 + 2 * SENNA_NODES + 5 + 25 * SENNA_ENTRIES + 6 + 4 * SENNA_NODES, "the sizes agree");
 
-enum { ME = 3, OBJECT = 40, OTHER = 7 };
+/* The participants are chosen by node 3: 0, 1, 4, 5, itself, 10 and 11. */
+enum { ME = 3, OBJECT = 40, OTHER = 7, PARTY = 3131, LAST = 11 };
 
 static uint8_t record[SENNA_RECORD];
 static uint8_t before[SENNA_RECORD];
@@ -78,22 +79,22 @@ static void one_transaction(void)
     found = senna_coordinator_found(record, sizeof record, ME, OBJECT);
     check(found.number == SENNA_OK && found.value == -90, "the value found");
     check(memcmp(record, before, sizeof record) == 0, "found leaves every byte");
-    taken(senna_coordinator_request_commit(record, sizeof record, settings, sizeof settings, ME), 439, "the participants");
-    check(senna_coordinator_participants(record, sizeof record) == 439, "and they are kept");
+    taken(senna_coordinator_request_commit(record, sizeof record, settings, sizeof settings, ME), PARTY, "the participants");
+    check(senna_coordinator_participants(record, sizeof record) == PARTY, "and they are kept");
     check(due(0, 0).length == 43 && message[0] == 3 && message[12] == 2 && message[13] == OTHER && message[27] == OBJECT, "an ask, ascending");
     check(message[29] == 8 && message[33] == 0xfa && message[40] == 0xff, "with the version found and the new value");
     rivals.serial[6] = 77;
     for (node = 0; node < SENNA_NODES; node++) {
-        if ((439 >> node) % 2 == 1) {
+        if ((PARTY >> node) % 2 == 1) {
             taken(deliver(senna_write_vote(message, sizeof message, (uint8_t)node, ME, 1, 5, rivals, 1)),
-                  node == 8 ? SENNA_COMMITTED : SENNA_NOTHING, "a yes");
+                  node == LAST ? SENNA_COMMITTED : SENNA_NOTHING, "a yes");
         }
     }
     check(due(0, 0).length == 44 && message[0] == 5 && message[43] == 1, "a commit with the entries");
     check(due(6, 0).length == 20 && message[0] == 7 && message[14] == 6 && message[15] == 77, "a yield to the rival's owner");
     for (node = 0; node < SENNA_NODES; node++) {
-        if ((439 >> node) % 2 == 1) {
-            taken(deliver(senna_write_done(message, sizeof message, (uint8_t)node, ME, 1, 5)), node == 8 ? SENNA_FINISHED : SENNA_NOTHING, "a done");
+        if ((PARTY >> node) % 2 == 1) {
+            taken(deliver(senna_write_done(message, sizeof message, (uint8_t)node, ME, 1, 5)), node == LAST ? SENNA_FINISHED : SENNA_NOTHING, "a done");
         }
     }
     check(senna_coordinator_phase(record, sizeof record) == SENNA_IDLE, "idle again");

@@ -535,8 +535,8 @@ static void call_quorum(void)
     switch (current) {
     case AT_is_read_quorum: gave(senna_is_read_quorum(mask()), 1); break;
     case AT_is_write_quorum: gave(senna_is_write_quorum(mask()), 1); break;
-    case AT_nearest_read: d = lend_distances(); chose(senna_nearest_read(mask(), d->at, d->length)); break;
-    default: d = lend_distances(); chose(senna_nearest_write(mask(), d->at, d->length)); break;
+    case AT_nearest_read: d = lend_distances(); chose(senna_nearest_read(mask(), d->at, d->length, node())); break;
+    default: d = lend_distances(); chose(senna_nearest_write(mask(), d->at, d->length, node())); break;
     }
 }
 
@@ -910,13 +910,16 @@ static void prepare_brim(const uint8_t *distances)
     check(c.number == SENNA_OK && c.answer == SENNA_READY, "its copy");
 }
 
-/* A record with eight objects open, and one whose last serial is the last there is. */
+/* A record with eight objects open, and one whose last serial is the last there is. Every distance is 1, so that the root is nearest, whoever asks. */
 static void prepare_records(void)
 {
     uint8_t distances[SENNA_DISTANCES] = {0}, blank[SENNA_SETTINGS] = {0}, i;
-    senna_called c =
-        senna_coordinator_begin(eight_open, SENNA_RECORD, blank, SENNA_SETTINGS, 3, SENNA_ALL, distances, sizeof distances, 1, 0, 0);
-    check(c.number == SENNA_OK, "begin");
+    senna_called c;
+    for (i = 0; i < SENNA_NODES; i++) {
+        distances[2 * i] = 1;
+    }
+    c = senna_coordinator_begin(eight_open, SENNA_RECORD, blank, SENNA_SETTINGS, 3, SENNA_ALL, distances, sizeof distances, 1, 0, 0);
+    check(c.number == SENNA_OK && c.answer == 1, "begin");
     for (i = 0; i < SENNA_ENTRIES; i++) {
         check(senna_coordinator_open_read(eight_open, SENNA_RECORD, blank, SENNA_SETTINGS, 3, (uint8_t)(20 + i)).number == SENNA_OK, "open");
     }
@@ -956,6 +959,7 @@ static const struct {
     {AT_coordinator_batch, 0x273f, 0x253f}, {AT_station_batch, 0x273f, 0x253f}, {AT_load_classes, 0xc457, 0xc457},
     {AT_station_load_classes, 0xc477, 0xc477}, {AT_coordinator_waiting, 0x47, 0x47}, {AT_settings_kind, 0x7, 0x7},
     {AT_coordinator_request_commit, 0xb37, 0xa37}, {AT_station_request_commit, 0xb37, 0x837},
+    {AT_nearest_read, 0x113, 0x113},        {AT_nearest_write, 0x113, 0x113},
 };
 
 static void report_reached(void)

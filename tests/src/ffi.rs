@@ -61,8 +61,8 @@ struct SennaReceived {
 extern "C" {
     fn senna_is_read_quorum(mask: u16) -> u8;
     fn senna_is_write_quorum(mask: u16) -> u8;
-    fn senna_nearest_read(live: u16, distances: *const u8, length: usize) -> SennaChoice;
-    fn senna_nearest_write(live: u16, distances: *const u8, length: usize) -> SennaChoice;
+    fn senna_nearest_read(live: u16, distances: *const u8, length: usize, asker: u8) -> SennaChoice;
+    fn senna_nearest_write(live: u16, distances: *const u8, length: usize, asker: u8) -> SennaChoice;
     fn senna_check_message(message: *const u8, length: usize) -> u8;
     fn senna_check_image(image: *const u8, length: usize) -> u8;
     fn senna_blank_image(image: *mut u8, length: usize) -> u8;
@@ -120,12 +120,12 @@ pub fn is_quorum(kind: Kind, mask: u16) -> bool {
 }
 
 /// The library's nearest quorum.
-pub fn nearest(kind: Kind, live: u16, distances: &[u8]) -> Choice {
+pub fn nearest(kind: Kind, live: u16, distances: &[u8], asker: u8) -> Choice {
     // SAFETY: the functions read at most `length` bytes at `distances`, which are lent for the call.
     let answer = unsafe {
         match kind {
-            Kind::Read => senna_nearest_read(live, distances.as_ptr(), distances.len()),
-            Kind::Write => senna_nearest_write(live, distances.as_ptr(), distances.len()),
+            Kind::Read => senna_nearest_read(live, distances.as_ptr(), distances.len(), asker),
+            Kind::Write => senna_nearest_write(live, distances.as_ptr(), distances.len(), asker),
         }
     };
     Choice { number: answer.number, mask: answer.mask, sum: answer.sum }

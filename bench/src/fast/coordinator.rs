@@ -115,7 +115,7 @@ pub fn begin(
     if !on || timestamp <= get_u32(record, record::TIMESTAMP) || (weights.is_some() && no_table()) {
         return Err(number::OUT_OF_TURN);
     }
-    let (quorum, _) = quorum::nearest_read(live, distances).ok_or(number::NO_QUORUM)?;
+    let (quorum, _) = quorum::nearest_read(live, distances, me).ok_or(number::NO_QUORUM)?;
     let serial = get_u32(record, record::SERIAL);
     if serial == LAST {
         return Err(number::USED_UP);
@@ -150,7 +150,7 @@ pub fn reselect(record: &mut Record, me: u8, on: bool, live: u16, distances: &[u
         return Err(number::STRANGER);
     }
     turn(me, on, record[record::PHASE] == OPEN)?;
-    let (quorum, _) = quorum::nearest_read(live, distances).ok_or(number::NO_QUORUM)?;
+    let (quorum, _) = quorum::nearest_read(live, distances, me).ok_or(number::NO_QUORUM)?;
     select(record, live, distances, quorum);
     if record[record::COUNT] != 0 {
         contact(record, quorum);
@@ -211,7 +211,7 @@ pub fn request_commit(record: &mut Record, me: u8, on: bool, own: bool) -> Resul
         return Err(number::NOT_READY);
     }
     let distances = record[record::DISTANCES..record::QUORUM].try_into().expect("26 bytes");
-    let (quorum, _) = quorum::nearest_write(get_u16(record, record::LIVE), distances).ok_or(number::NO_QUORUM)?;
+    let (quorum, _) = quorum::nearest_write(get_u16(record, record::LIVE), distances, me).ok_or(number::NO_QUORUM)?;
     if objects.iter().any(record::is_used_up) {
         return Err(number::USED_UP);
     }

@@ -199,7 +199,8 @@ pub fn nearest(kind: Kind, asker: u8, live: u16, distances: &[u16; NODES]) -> Ch
     ensures { λ r. ⌜ sumOf r ≡ distance (now (distances .entry)) (maskOf r) ⌝ }
 {
     let keys = keys_of(asker, live, distances);
-    let key = best(kind, &keys, 0, 2);
+    let pair = best_pair(kind, &keys, 0, 1);
+    let key = with_root(kind, keys[0], pair);
     if key < ABSENT {
         Choice::Quorum((key % 65536) as u16, (key / ABOVE) as u32)
     } else {

@@ -49,6 +49,9 @@ pub fn run(runner: &mut Runner) {
     runner.check("classes in four threads", threads);
 }
 
+/// The participants of node 3's transactions when all are live and every distance is the same: 0, 1, 4, 5, the asker 3, 10 and 11.
+const PARTY: u16 = 3131;
+
 /// A batch at which nothing is wrong but, it may be, its weights.
 fn batch(timestamp: u32, list: Vec<u8>) -> Call {
     Call::Batch { live: ALL, distances: [1, 0].repeat(NODES), timestamp, day: 0, minute: 0, list }

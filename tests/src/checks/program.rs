@@ -49,7 +49,7 @@ fn same(child: &Child, text: &[u8], feed: Feed) -> Result<(), String> {
     Ok(())
 }
 
-/// Texts whose output is written out here: document 01's own, and the smallest ones.
+/// Texts whose output is written out here: document 01's own, the smallest ones, and lines of thirteen to sixteen numbers.
 fn known_texts(child: &Child) -> Verdict {
     let heading = "live read sum write sum\n";
     let ones = " 1 1 1 1 1 1 1 1 1 1 1 1 1";
@@ -69,6 +69,11 @@ fn known_texts(child: &Child) -> Verdict {
         (format!("8191{} \n", " 65535".repeat(NODES)), "bad\n"),
         (format!("8191{}\n", " 0".repeat(NODES)), "8191 1 0 439 0\n"),
         (String::from("live read sum write sum\n"), "bad\n"),
+        (format!("8190{ones} 3\n8190{ones} 0\n8190{ones}\n"), "8190 10 2 - -\n8190 6 2 - -\n8190 6 2 - -\n"),
+        (format!("8191{ones} 12\n8191{ones} 12"), "8191 1 1 5179 7\n8191 1 1 5179 7\n"),
+        (format!("8191{ones} 13\n8191{ones} 03\n8191{ones} 3 \n8191{ones}  3\n"), "bad\nbad\nbad\nbad\n"),
+        (format!("8191{ones} 3 3\n8191{ones} 00\n8191{ones} 256\n8191{ones} 65536\n"), "bad\nbad\nbad\nbad\n"),
+        (String::from("8191 1 1 1 1 1 1 1 1 1 1 1 1\n8190 1 1 1 5 1 1 1 1 1 1 1 1 1 3\n"), "bad\n8190 6 2 - -\n"),
     ];
     for (text, rows) in &known {
         let expected = format!("{heading}{rows}");
@@ -81,11 +86,13 @@ fn known_texts(child: &Child) -> Verdict {
     Ok(format!("{} texts", known.len()))
 }
 
-/// Good lines, a short one and the longest, with each of the 256 bytes put in at each place, and put in place of each of their bytes.
+/// Good lines, short ones and the longest, without and with an asker, with each of the 256 bytes put in at each place, and put in place of each of their
+/// bytes.
 fn every_byte(child: &Child) -> Verdict {
-    let longest = format!("8191{}", " 65535".repeat(NODES));
+    let longest = format!("8191{} 12", " 65535".repeat(NODES));
+    let (short, without) = ("8190 0 9 10 65535 1 1 1 1 1 1 1 1 12 3", longest.trim_end_matches(" 12"));
     let mut text = Vec::new();
-    for line in [&b"8191 0 9 10 65535 1 1 1 1 1 1 1 1 12"[..], longest.as_bytes()] {
+    for line in [short, short.trim_end_matches(" 3"), &longest, without].map(str::as_bytes) {
         for byte in 0..=255 {
             for at in 0..=line.len() {
                 let (front, back) = line.split_at(at);
@@ -106,7 +113,7 @@ fn every_byte(child: &Child) -> Verdict {
 /// Several texts of random good lines and of every kind of damage, the last line with and without its newline.
 fn good_and_damaged(child: &Child, random: &mut Random, rounds: usize) -> Verdict {
     let mut kinds: BTreeMap<&str, usize> = texts::DAMAGES.iter().map(|damage| (damage.name, 0)).collect();
-    let (mut lines, mut good) = (0, 0);
+    let (mut lines, mut good, mut asking) = (0, 0, 0);
     for size in [1, 2, 3, 10, 100, 1000, 5000, 20_000 * rounds] {
         for feed in [Feed::Pipe, Feed::File] {
             let mut text = Vec::new();
@@ -115,7 +122,10 @@ fn good_and_damaged(child: &Child, random: &mut Random, rounds: usize) -> Verdic
                 let fine = model::read_line(&line).is_some();
                 ensure!(fine == name.is_none(), "the model reads {:?} otherwise than made: {name:?}", String::from_utf8_lossy(&line));
                 match name {
-                    None => good += 1,
+                    None => {
+                        good += 1;
+                        asking += usize::from(line.iter().filter(|&&byte| byte == b' ').count() > NODES);
+                    }
                     Some(name) => *kinds.entry(name).or_insert(0) += 1,
                 }
                 text.extend(line);
@@ -128,8 +138,12 @@ fn good_and_damaged(child: &Child, random: &mut Random, rounds: usize) -> Verdic
         }
     }
     let (rarest, least) = kinds.iter().map(|(&name, &count)| (name, count)).min_by_key(|&(_, count)| count).unwrap_or(("none", 0));
-    let counted = format!("{lines} lines, {good} good, {} kinds of damage, the rarest ({rarest}) {least} times", kinds.len());
-    ensure!(good * 3 > lines && good * 3 < 2 * lines && least >= 200, "the lines are too poor: {counted}");
+    let counted = format!(
+        "{lines} lines, {good} good, {asking} of them with an asker, {} kinds of damage, the rarest ({rarest}) {least} times",
+        kinds.len()
+    );
+    let rich = good * 3 > lines && good * 3 < 2 * lines && asking * 3 > good && asking * 3 < 2 * good && least >= 200;
+    ensure!(rich, "the lines are too poor: {counted}");
     Ok(counted)
 }
 

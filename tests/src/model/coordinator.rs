@@ -96,15 +96,15 @@ pub fn first(refusals: &[(u8, bool)]) -> Result<(), u8> {
     refusals.iter().find(|(_, holds)| *holds).map_or(Ok(()), |(number, _)| Err(*number))
 }
 
-/// The mask of the nearest quorum, if there is one.
-fn choose(kind: Kind, live: u16, distances: &[u8]) -> Option<u16> {
+/// The mask of the nearest read quorum, if there is one. "Everything that begins, looks again or asks for votes passes the asker on": the node itself.
+fn read_quorum(me: u8, live: u16, distances: &[u8]) -> Option<u16> {
     let distances = distances_of(distances)?;
-    nearest(kind, live, &distances).map(|(_, mask)| mask)
+    nearest(Kind::Read, live, &distances, me).map(|(_, mask)| mask)
 }
 
-/// The nearest write quorum by "the mask and distances last given".
-fn write_quorum(record: &Record) -> Option<u16> {
-    nearest(Kind::Write, record.live, &record.distances).map(|(_, mask)| mask)
+/// The nearest write quorum by "the mask and distances last given", if there is one.
+fn write_quorum(me: u8, record: &Record) -> Option<u16> {
+    nearest(Kind::Write, record.live, &record.distances, me).map(|(_, mask)| mask)
 }
 
 /// The numbers of a call with their conditions, in the order in which they are tried; 13 is "given last at begin". On a batch "the host's own open or value
@@ -122,7 +122,7 @@ fn refusals(record: &Record, settings: &Settings, at: At, call: &Call) -> Vec<(u
             (number::STRANGER, stranger || *live > ALL),
             (number::BUSY, record.phase != phase::IDLE),
             unless(*timestamp > record.timestamp && (matches!(call, Call::Begin { .. }) || settings.classes.is_some())),
-            (number::NO_QUORUM, choose(Kind::Read, *live, distances).is_none()),
+            (number::NO_QUORUM, read_quorum(at.me, *live, distances).is_none()),
             (number::USED_UP, record.serial == LAST),
             (number::CLOSED, settings.hours.as_ref().is_some_and(|table| table.closed(*day, *minute))),
         ],
@@ -146,13 +146,13 @@ fn refusals(record: &Record, settings: &Settings, at: At, call: &Call) -> Vec<(u
         Call::Reselect { live, distances } => vec![
             (number::STRANGER, stranger || *live > ALL),
             unless(open),
-            (number::NO_QUORUM, choose(Kind::Read, *live, distances).is_none()),
+            (number::NO_QUORUM, read_quorum(at.me, *live, distances).is_none()),
         ],
         Call::RequestCommit => vec![
             (number::STRANGER, stranger),
             unless(open),
             (number::NOT_READY, unsettled),
-            (number::NO_QUORUM, write_quorum(record).is_none()),
+            (number::NO_QUORUM, write_quorum(at.me, record).is_none()),
             (number::USED_UP, writes_last),
         ],
         Call::Abort => vec![(number::STRANGER, stranger), unless(open || record.phase == phase::VOTING)],
@@ -160,10 +160,10 @@ fn refusals(record: &Record, settings: &Settings, at: At, call: &Call) -> Vec<(u
 }
 
 /// Takes what the host says of the nodes, and chooses the present read quorum; its mask.
-fn select(record: &mut Record, live: u16, distances: &[u8]) -> u16 {
+fn select(record: &mut Record, me: u8, live: u16, distances: &[u8]) -> u16 {
     record.live = live;
     record.distances = distances_of(distances).expect("26 bytes");
-    record.quorum = choose(Kind::Read, live, distances).expect("a quorum");
+    record.quorum = read_quorum(me, live, distances).expect("a quorum");
     record.quorum
 }
 
@@ -182,9 +182,9 @@ fn become_idle(record: &mut Record) {
 }
 
 /// "It chooses a read quorum and takes the next serial."
-fn begin(record: &mut Record, live: u16, distances: &[u8], timestamp: u32) -> u16 {
+fn begin(record: &mut Record, me: u8, live: u16, distances: &[u8], timestamp: u32) -> u16 {
     (record.serial, record.timestamp, record.phase) = (record.serial + 1, timestamp, phase::OPEN);
-    select(record, live, distances)
+    select(record, me, live, distances)
 }
 
 /// "Open a tally once, to read or to write. .. The present read quorum joins the asked set."
@@ -210,15 +210,15 @@ fn sums(record: &Record) -> Option<Vec<i64>> {
 }
 
 /// What a call that nothing refuses does; its answer, 0 where there is nothing to tell.
-fn perform(record: &mut Record, settings: &mut Settings, call: &Call) -> i64 {
+fn perform(record: &mut Record, settings: &mut Settings, me: u8, call: &Call) -> i64 {
     match *call {
         Call::Begin { live, ref distances, timestamp, .. } => {
             settings.begin(settings::kind::OWN, settings.waiting(record), [0; CLASSES]);
-            i64::from(begin(record, live, distances, timestamp))
+            i64::from(begin(record, me, live, distances, timestamp))
         }
         Call::Batch { live, ref distances, timestamp, ref list, .. } => {
             let waiting = settings.waiting(record);
-            let quorum = begin(record, live, distances, timestamp);
+            let quorum = begin(record, me, live, distances, timestamp);
             let left = open_classes(record, settings.classes.as_ref().expect("a table"), waiting, list);
             settings.begin(settings::kind::BATCH, waiting, left);
             i64::from(quorum)
@@ -236,7 +236,7 @@ fn perform(record: &mut Record, settings: &mut Settings, call: &Call) -> i64 {
         Call::Found { object } => record.find(object).expect("opened").value,
         // "The new quorum then joins if some tally is open already."
         Call::Reselect { live, ref distances } => {
-            let quorum = select(record, live, distances);
+            let quorum = select(record, me, live, distances);
             if record.count > 0 {
                 record.contacted |= quorum;
             }
@@ -245,7 +245,7 @@ fn perform(record: &mut Record, settings: &mut Settings, call: &Call) -> i64 {
         // "The party is the chosen write quorum and the asked set."
         Call::RequestCommit => {
             record.phase = phase::VOTING;
-            record.participants = write_quorum(record).expect("a quorum") | record.contacted;
+            record.participants = write_quorum(me, record).expect("a quorum") | record.contacted;
             i64::from(record.participants)
         }
         // "Giving up .. aborts while open or voting."
@@ -269,7 +269,7 @@ pub fn call(record: &mut Record, settings: &mut Settings, at: At, call: &Call) -
             opened.new = sum;
         }
     }
-    Ok(Done::with(perform(record, settings, call)))
+    Ok(Done::with(perform(record, settings, at.me, call)))
 }
 
 /// Why a message "changes nothing and has no number".

@@ -24,10 +24,18 @@ fn number(word: &[u8], most: u16) -> Option<u16> {
     u16::try_from(value).ok()
 }
 
-/// A live mask and thirteen distances, one space apart, and nothing else; none where the line is bad.
-pub fn read_line(line: &[u8]) -> Option<(u16, [u16; NODES])> {
+/// What a good line says.
+pub struct Line {
+    live: u16,
+    distances: [u16; NODES],
+    asker: u8,
+}
+
+/// A live mask, thirteen distances and perhaps an asker, one space apart, and nothing else; none where the line is bad. "The quorum program reads it as a
+/// fifteenth column. The marked cases stand with asker 0, and a line of fourteen columns is read so."
+pub fn read_line(line: &[u8]) -> Option<Line> {
     let words: Vec<&[u8]> = line.split(|&byte| byte == b' ').collect();
-    if words.len() != 1 + NODES {
+    if words.len() != 1 + NODES && words.len() != 2 + NODES {
         return None;
     }
     let live = number(words[0], ALL)?;
@@ -35,12 +43,16 @@ pub fn read_line(line: &[u8]) -> Option<(u16, [u16; NODES])> {
     for node in 0..NODES {
         distances[node] = number(words[1 + node], 65535)?;
     }
-    Some((live, distances))
+    let asker = match words.get(1 + NODES) {
+        None => 0,
+        Some(word) => number(word, NODES as u16 - 1)?,
+    };
+    Some(Line { live, distances, asker: asker as u8 })
 }
 
 /// The chosen mask and its sum, or a dash for each where there is no quorum.
-fn columns(kind: Kind, live: u16, distances: &[u16; NODES]) -> String {
-    match nearest(kind, live, distances) {
+fn columns(kind: Kind, line: &Line) -> String {
+    match nearest(kind, line.live, &line.distances, line.asker) {
         None => String::from("- -"),
         Some((sum, mask)) => format!("{mask} {sum}"),
     }
@@ -50,11 +62,7 @@ fn columns(kind: Kind, live: u16, distances: &[u16; NODES]) -> String {
 pub fn print_line(line: &[u8]) -> String {
     match read_line(line) {
         None => String::from("bad"),
-        Some((live, distances)) => {
-            let read = columns(Kind::Read, live, &distances);
-            let write = columns(Kind::Write, live, &distances);
-            format!("{live} {read} {write}")
-        }
+        Some(line) => format!("{} {} {}", line.live, columns(Kind::Read, &line), columns(Kind::Write, &line)),
     }
 }
 

@@ -94,15 +94,23 @@ pub fn sum(mask: u16, distances: &[u16; NODES]) -> u32 {
     nodes(mask).map(|node| u32::from(distances[node])).sum()
 }
 
-/// The smallest quorums inside `live`, each as its sum and its mask.
-pub fn candidates(kind: Kind, live: u16, distances: &[u16; NODES]) -> Vec<(u32, u16)> {
-    smallest(kind).iter().filter(|&&quorum| inside(quorum, live)).map(|&quorum| (sum(quorum, distances), quorum)).collect()
+/// A set as the chooser compares it: its sum, whether it is without the asker, its mask. "Of equal sums, a set with the asker comes first, and the lowest
+/// mask decides after that": triples are ordered in just this way. An asker that is no node is in no set.
+pub type Rank = (u32, bool, u16);
+
+pub fn rank(mask: u16, distances: &[u16; NODES], asker: u8) -> Rank {
+    let without = !nodes(mask).any(|node| node == usize::from(asker));
+    (sum(mask, distances), without, mask)
 }
 
-/// "Of the smallest quorums inside the live mask the one with the least sum of distances is chosen; of equal sums, the lowest
-/// mask." Pairs of sum and mask are ordered in just this way.
-pub fn nearest(kind: Kind, live: u16, distances: &[u16; NODES]) -> Option<(u32, u16)> {
-    candidates(kind, live, distances).into_iter().min()
+/// The smallest quorums inside `live`, each with its rank.
+pub fn candidates(kind: Kind, live: u16, distances: &[u16; NODES], asker: u8) -> Vec<Rank> {
+    smallest(kind).iter().filter(|&&quorum| inside(quorum, live)).map(|&quorum| rank(quorum, distances, asker)).collect()
+}
+
+/// "Of the smallest quorums inside the live mask the one with the least sum of distances is chosen", and of equal sums by its rank: its sum and mask.
+pub fn nearest(kind: Kind, live: u16, distances: &[u16; NODES], asker: u8) -> Option<(u32, u16)> {
+    candidates(kind, live, distances, asker).into_iter().min().map(|(sum, _, mask)| (sum, mask))
 }
 
 /// The thirteen distances of 26 bytes, or none for another length.
@@ -113,16 +121,16 @@ pub fn distances_of(bytes: &[u8]) -> Option<[u16; NODES]> {
     Some(std::array::from_fn(|node| u16::from(bytes[2 * node]) + 256 * u16::from(bytes[2 * node + 1])))
 }
 
-/// The nearest call on bytes: 1 for another length than 26, then 4 for a mask that names a stranger, then 8 for no quorum.
-pub fn nearest_call(kind: Kind, live: u16, bytes: &[u8]) -> Choice {
+/// The nearest call on bytes: 1 for another length than 26, then 4 for a mask that names a stranger or an asker that is one, then 8 for no quorum.
+pub fn nearest_call(kind: Kind, live: u16, bytes: &[u8], asker: u8) -> Choice {
     let refused = |number| Choice { number, mask: 0, sum: 0 };
     let Some(distances) = distances_of(bytes) else {
         return refused(number::LENGTH);
     };
-    if live > ALL {
+    if live > ALL || usize::from(asker) >= NODES {
         return refused(number::STRANGER);
     }
-    match nearest(kind, live, &distances) {
+    match nearest(kind, live, &distances, asker) {
         None => refused(number::NO_QUORUM),
         Some((sum, mask)) => Choice { number: number::OK, mask, sum },
     }

@@ -2,7 +2,7 @@
 //! many batches and tables.
 
 use super::tables::{classes_among, some_list, some_weights};
-use super::{batch, same_call, same_load, same_waiting, with_table};
+use super::{batch, same_call, same_load, same_waiting, with_table, PARTY};
 use crate::ffi::coordinator as ffi;
 use crate::model::classes::{self, encode_weights, Classes, Ledger, CLASSES};
 use crate::model::coordinator::{receive_call, Brought, Call};
@@ -16,9 +16,6 @@ use crate::runner::{ensure, Verdict};
 use std::collections::BTreeMap;
 
 const ME: u8 = 3;
-
-/// The participants when all are live and every distance is 1.
-const PARTY: u16 = 439;
 
 /// What becomes of a batch.
 #[derive(Clone, Copy, Debug, PartialEq, Eq, PartialOrd, Ord)]
@@ -232,7 +229,7 @@ pub fn own_calls() -> Verdict {
     node.fetch()?;
     ensure!(node.call(&Call::Found { object: 9 })? == (number::OK, -70), "what is found is another");
     let again = Call::Reselect { live: ALL - 1, distances: [1, 0].repeat(NODES) };
-    ensure!(node.call(&again)? == (number::OK, 6), "a fresh look is barred");
+    ensure!(node.call(&again)? == (number::OK, 10), "a fresh look is barred");
     ensure!(node.call(&Call::Reselect { live: ALL, distances: [1, 0].repeat(NODES) })? == (number::OK, 1), "a fresh look is barred");
     barred(&mut node)?;
     ensure!(node.call(&Call::RequestCommit)? == (number::OK, i64::from(PARTY)), "votes cannot be asked for");

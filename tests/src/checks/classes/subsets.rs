@@ -8,7 +8,7 @@ use crate::model::classes::{encode, encode_weights, Classes};
 use crate::model::coordinator::{Brought, Call};
 use crate::model::hours::{Table, Window, LAST_END};
 use crate::model::message::{LAST, WRITE};
-use crate::model::quorum::{ALL, DISTANCES, NODES};
+use crate::model::quorum::{inside, is_quorum, only, Kind, ALL, DISTANCES, NODES};
 use crate::model::record::{self, decided, phase, Opened, Record, RECORD};
 use crate::model::settings::{self, kind, Settings};
 use crate::model::station::{blank, Step};
@@ -343,10 +343,11 @@ fn batch_settings(random: &mut Random, wrong: &impl Fn(&str) -> bool) -> Vec<u8>
     bytes
 }
 
-/// The answer beside a number: participants, 'aborted' where the batch is given up, which is so where nothing but the range is wrong, else 0.
-fn answer_fits(number: u8, answer: i64, given_up: bool) -> bool {
+/// The answer beside a number: participants, who are a write quorum with the node in it, for every distance is the same; 'aborted' where the batch is given
+/// up, which is so where nothing but the range is wrong; else 0.
+fn answer_fits(me: u8, number: u8, answer: i64, given_up: bool) -> bool {
     match number {
-        number::OK => answer == 439,
+        number::OK => answer.count_ones() == 7 && is_quorum(Kind::Write, answer as u16) && inside(only(usize::from(me)), answer as u16),
         number::USED_UP if given_up => answer == Brought::Aborted as i64,
         _ => answer == 0,
     }
@@ -371,7 +372,7 @@ pub fn requests(random: &mut Random, rounds: usize) -> Verdict {
             let expected = first(&REQUEST, subset, |_| true);
             let past = expected == number::USED_UP && !wrong("version");
             let changed = record != before.0;
-            ensure!(number == expected && answer_fits(number, answer, past), "{number}, {answer}, with {:?}", named(&REQUEST, subset));
+            ensure!(number == expected && answer_fits(me, number, answer, past), "{number}, {answer}, with {:?}", named(&REQUEST, subset));
             ensure!(
                 changed == (number == number::OK || past) && settings == before.1,
                 "{number}, and bytes, with {:?}",

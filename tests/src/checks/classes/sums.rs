@@ -1,6 +1,6 @@
 //! Votes asked for on a batch: each new value is the one found and its grams, in 64 bits with a sign; past the range the batch is given up.
 
-use super::{batch, same_call, with_table};
+use super::{batch, same_call, with_table, PARTY};
 use crate::checks::message::records::some_value;
 use crate::ffi::coordinator as ffi;
 use crate::model::classes::{encode_weights, Classes};
@@ -35,7 +35,7 @@ fn asked(amounts: &[(i64, Option<i64>)]) -> Result<bool, String> {
     let fits = sums.iter().all(|&sum| i64::try_from(sum).is_ok());
     let (mut bytes, mut settings) = (record::encode(&opened(amounts)), of_kind(kind::BATCH));
     let got = same_call(&mut bytes, &mut settings, 3, &Call::RequestCommit)?;
-    ensure!(got == if fits { (number::OK, 439) } else { (number::USED_UP, Brought::Aborted as i64) }, "{amounts:?}: {got:?}");
+    ensure!(got == if fits { (number::OK, i64::from(PARTY)) } else { (number::USED_UP, Brought::Aborted as i64) }, "{amounts:?}: {got:?}");
     let after = record::load(&bytes).map_err(|number| format!("{amounts:?}: the record is {number}"))?;
     let values: Vec<i128> = after.objects().iter().map(|opened| i128::from(opened.new)).collect();
     let kept: Vec<i128> = amounts.iter().map(|&(_, new)| i128::from(new.unwrap_or(0))).collect();
@@ -48,7 +48,7 @@ fn asked(amounts: &[(i64, Option<i64>)]) -> Result<bool, String> {
     let (mut bytes, mut settings) = (record::encode(&opened(amounts)), of_kind(kind::OWN));
     let own = same_call(&mut bytes, &mut settings, 3, &Call::RequestCommit)?;
     let after = record::load(&bytes).map_err(|number| format!("{amounts:?}: the record is {number}"))?;
-    ensure!(own == (number::OK, 439), "{amounts:?}: the host's own is {own:?}");
+    ensure!(own == (number::OK, i64::from(PARTY)), "{amounts:?}: the host's own is {own:?}");
     ensure!(after.objects().iter().map(|opened| i128::from(opened.new)).eq(kept), "{amounts:?}: the host's own is {after:?}");
     Ok(fits)
 }
@@ -99,12 +99,12 @@ pub fn given_up() -> Verdict {
     for (value, version, weights, expected) in [
         (i64::MAX, 4, vec![37, 64], (number::USED_UP, Brought::Aborted as i64)),
         (i64::MAX - 9, 4, vec![37, 64], (number::USED_UP, Brought::Aborted as i64)),
-        (i64::MAX - 10, 4, vec![37, 64], (number::OK, 439)),
-        (i64::MAX, 4, vec![9], (number::OK, 439)),
+        (i64::MAX - 10, 4, vec![37, 64], (number::OK, i64::from(PARTY))),
+        (i64::MAX, 4, vec![9], (number::OK, i64::from(PARTY))),
         (i64::MAX, LAST - 1, vec![10], (number::USED_UP, Brought::Aborted as i64)),
         (i64::MAX, LAST, vec![10], (number::USED_UP, 0)),
         (0, LAST, vec![10], (number::USED_UP, 0)),
-        (i64::MIN, 4, vec![1999; 4096], (number::OK, 439)),
+        (i64::MIN, 4, vec![1999; 4096], (number::OK, i64::from(PARTY))),
     ] {
         let (mut bytes, mut settings) = (vec![0; RECORD], with_table(&table));
         same_call(&mut bytes, &mut settings, 3, &batch(1, encode_weights(&weights)))?;

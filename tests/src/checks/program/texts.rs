@@ -1,14 +1,18 @@
 //! Lines for the quorum program: good ones, and every kind of damage that makes a line bad.
 
-use crate::checks::quorum::{some_distances, some_live};
+use crate::checks::quorum::{some_asker, some_distances, some_live};
 use crate::model::quorum::NODES;
 use crate::random::Random;
 
-/// The words of a good line: a live mask and thirteen distances.
+/// How many words a good line has at least: a live mask and thirteen distances. It may have one more, the asker.
+const FEWEST: usize = 1 + NODES;
+
+/// The words of a good line, with an asker as often as without.
 fn good_words(random: &mut Random) -> Vec<String> {
     let live = some_live(random);
     let distances = some_distances(random);
-    std::iter::once(live).chain(distances).map(|number| number.to_string()).collect()
+    let asker = random.once_in(2).then(|| u16::from(some_asker(random)));
+    std::iter::once(live).chain(distances).chain(asker).map(|number| number.to_string()).collect()
 }
 
 fn joined(words: &[String]) -> Vec<u8> {
@@ -34,7 +38,7 @@ fn with_byte(random: &mut Random, words: &[String], byte: u8) -> Vec<u8> {
 
 /// A good line with another text in place of one of its spaces.
 fn with_gap(random: &mut Random, words: &[String], gap: &[u8]) -> Vec<u8> {
-    let after = 1 + random.below(NODES);
+    let after = 1 + random.below(words.len() - 1);
     [&joined(&words[..after])[..], gap, &joined(&words[after..])].concat()
 }
 
@@ -43,6 +47,14 @@ fn with_word(random: &mut Random, mut words: Vec<String>, change: impl Fn(&str) 
     let at = random.below(words.len());
     words[at] = change(&words[at]);
     joined(&words)
+}
+
+/// A good line with this word for its asker, and more words behind it.
+fn with_asker(words: &[String], asker: impl ToString, more: &[&str]) -> Vec<u8> {
+    let mut line = words[..FEWEST].to_vec();
+    line.push(asker.to_string());
+    line.extend(more.iter().map(|word| String::from(*word)));
+    joined(&line)
 }
 
 /// A good line in which one number has a power of two added to it, so that it is the same number where that is lost.
@@ -61,7 +73,8 @@ fn with_added_128(random: &mut Random, words: Vec<String>) -> Vec<u8> {
 pub const DAMAGES: &[Damage] = &[
     Damage { name: "two spaces", make: |random, words| with_gap(random, &words, b"  ") },
     Damage { name: "many spaces", make: |random, words| with_gap(random, &words, b"          ") },
-    Damage { name: "no space", make: |random, words| with_gap(random, &words, b"") },
+    // Without its asker: two numbers of fifteen that become one may be a good line.
+    Damage { name: "no space", make: |random, words| with_gap(random, &words[..FEWEST], b"") },
     Damage { name: "leading space", make: |_, words| [b" ", &joined(&words)[..]].concat() },
     Damage { name: "trailing space", make: |_, words| [&joined(&words)[..], b" "].concat() },
     Damage { name: "tab for a space", make: |random, words| with_gap(random, &words, b"\t") },
@@ -159,17 +172,18 @@ pub const DAMAGES: &[Damage] = &[
         },
     },
     Damage { name: "thirteen numbers", make: |_, words| joined(&words[..NODES]) },
-    Damage {
-        name: "fifteen numbers",
-        make: |_, mut words| {
-            words.push(String::from("1"));
-            joined(&words)
-        },
-    },
+    Damage { name: "asker 13", make: |_, words| with_asker(&words, 13, &[]) },
+    Damage { name: "asker above 13", make: |random, words| with_asker(&words, 14 + random.below(70_000), &[]) },
+    Damage { name: "asker 2^8 more", make: |random, words| with_asker(&words, 256 + random.below(NODES), &[]) },
+    Damage { name: "asker with a leading zero", make: |random, words| with_asker(&words, format!("0{}", random.below(NODES)), &[]) },
+    Damage { name: "empty asker", make: |_, words| with_asker(&words, "", &[]) },
+    Damage { name: "empty asker and one", make: |_, words| with_asker(&words, "", &["3"]) },
+    Damage { name: "space behind the asker", make: |random, words| with_asker(&words, some_asker(random), &[""]) },
+    Damage { name: "sixteen numbers", make: |random, words| with_asker(&words, some_asker(random), &["1"]) },
     Damage { name: "few numbers", make: |random, words| joined(&words[..1 + random.below(NODES - 1)]) },
     Damage { name: "two lines in one", make: |_, words| [&joined(&words)[..], b" ", &joined(&words)].concat() },
     Damage {
-        name: "270 numbers",
+        name: "256 numbers more",
         make: |_, words| {
             let more = vec![String::from("1"); 256];
             [&joined(&words)[..], b" ", &joined(&more)].concat()
@@ -239,8 +253,11 @@ pub fn long_lines() -> Vec<Vec<u8>> {
         lines.push([good, b"\r"].concat().repeat(size / good.len()));
         lines.push([b"8191 ", &b"1".repeat(size)[..], b" 1 1 1 1 1 1 1 1 1 1 1 1"].concat());
         lines.push([b"8191 ", &b"0".repeat(size)[..], b"1 1 1 1 1 1 1 1 1 1 1 1 1"].concat());
+        lines.push([good, b" ", &b"1".repeat(size)[..]].concat());
+        lines.push([good, b" ", &b"0".repeat(size)[..], b"3"].concat());
+        lines.push([good, b" 3", &b" ".repeat(size)[..]].concat());
     }
-    for count in [256 + 14, 65_536 + 14] {
+    for count in [256 + 14, 256 + 15, 65_536 + 14, 65_536 + 15] {
         lines.push([b"8191", &b" 1".repeat(count - 1)[..]].concat());
     }
     lines

@@ -17,7 +17,7 @@ const OBJECT: u8 = 7;
 /// The minute of every begin, which is open at first.
 const MINUTE: u16 = 600;
 
-/// The nodes of the write quorum when all are live and every distance is 1.
+/// The nodes of the write quorum that this node chooses when all are live and every distance is 1.
 const PARTY: u16 = 439;
 
 fn begin(timestamp: u32) -> Step {

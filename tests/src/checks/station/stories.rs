@@ -7,7 +7,7 @@ use crate::model::station::{blank, Station, Step, Told, POOL};
 use crate::model::{number, Fault};
 use crate::runner::{ensure, Verdict};
 
-/// The nodes of the write quorum when all are live and every distance is 1.
+/// The nodes of the write quorum that nodes 4 and 5 choose when all are live and every distance is 1; both are in it.
 const PARTY: [u8; 7] = [0, 1, 2, 4, 5, 7, 8];
 
 fn take(station: &mut Station, step: Step) -> Result<Told, u8> {
@@ -173,10 +173,10 @@ pub fn last_numbers() -> Verdict {
     it.images.iter_mut().for_each(|image| image.copies[0].version = LAST);
     ensure!(up_to_votes(it, 1, LAST, 0, Some(1)) == Err(number::USED_UP), "a write after the last version");
     ensure!(it.records[1].phase == phase::OPEN && it.records[1].serial == LAST, "a refused request changed the phase");
-    ensure!(up_to_votes(it, 6, 1, 0, None) == Ok(439), "a read of the last version");
+    ensure!(up_to_votes(it, 6, 1, 0, None) == Ok(471), "a read of the last version, by nodes 0, 1, 2, 4, 7, 8 and the asker 6");
     ensure!(begin(it, 1, LAST) == Err(number::BUSY), "10 comes before 5 at begin");
     let live = Call::Begin { live: 8190, distances: [1, 0].repeat(13), timestamp: 3, day: 0, minute: 0 };
-    ensure!(host(it, 12, live) == Ok(6), "live 8190 has the read quorum 6");
+    ensure!(host(it, 12, live) == Ok(6), "live 8190 has the read quorum 6, for a set with node 12 is farther");
     taken(host(it, 12, Call::Open { object: 1, mode: READ }))?;
     for to in [1, 2] {
         taken(send(it, 12, to, 1))?;
@@ -212,9 +212,12 @@ pub fn off_and_on() -> Verdict {
     ensure!(take(it, Step::Switch { node: 13, on: true }) == Err(number::STRANGER), "no node is switched");
     taken(take(it, Step::Switch { node: 3, on: true }))?;
     let again = Call::Reselect { live: 8190, distances: [1, 0].repeat(13) };
-    ensure!(host(it, 3, again) == Ok(6) && it.records[3].contacted == 7, "a fresh look does not join the contacted nodes");
+    ensure!(
+        host(it, 3, again) == Ok(10) && it.records[3].contacted == 11,
+        "a fresh look does not join the contacted nodes, node 3 itself and hall 1"
+    );
     ensure!(host(it, 3, Call::Found { object: 9 }) == Err(number::NOT_READY), "nothing came");
-    for (to, brought) in [(2, Brought::Nothing), (1, Brought::Ready)] {
+    for (to, brought) in [(3, Brought::Nothing), (1, Brought::Ready)] {
         taken(send(it, 3, to, 9))?;
         taken(deliver(it))?;
         ensure!(back(it) == Ok(brought as i64), "the copy of node {to} brings about another thing");
