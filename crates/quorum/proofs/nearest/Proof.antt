@@ -66,7 +66,9 @@ returns c =
     let a = s .before .args in
     let d = now (a .distances) in
     let k = c .before .with-root in
-    let m = meaning (a .kind) (a .asker) (a .live) d (s .keys-of .result) (k .result) (s .keys-of .ensures) (k .ensures ∙ ap (rootKey (a .kind) (getD (s .keys-of .result) 0 0)) (c .before .before .best-pair .ensures)) in
+    let ks = s .keys-of .result in
+    let e = k .ensures ∙ ap (rootKey (a .kind) (getD ks 0 0)) (c .before .before .best-pair .ensures) in
+    let m = meaning (a .kind) (a .asker) (a .live) d ks (k .result) (s .keys-of .ensures) e in
     let small = mask-small (a .asker) (a .live) d (a .kind) in
     all-said (a .kind) (a .asker) (a .live) d _
     (meant (a .asker) (turns (a .kind)) 2818005 (k .result) _ (omega arith) (few-turns (a .kind)) m small (c .if1 .taken) .2)
@@ -77,7 +79,9 @@ returns-2 c =
     let a = s .before .args in
     let d = now (a .distances) in
     let k = c .before .with-root in
-    let m = meaning (a .kind) (a .asker) (a .live) d (s .keys-of .result) (k .result) (s .keys-of .ensures) (k .ensures ∙ ap (rootKey (a .kind) (getD (s .keys-of .result) 0 0)) (c .before .before .best-pair .ensures)) in
+    let ks = s .keys-of .result in
+    let e = k .ensures ∙ ap (rootKey (a .kind) (getD ks 0 0)) (c .before .before .best-pair .ensures) in
+    let m = meaning (a .kind) (a .asker) (a .live) d ks (k .result) (s .keys-of .ensures) e in
     all-said (a .kind) (a .asker) (a .live) d _ (meant-nothing (a .asker) (turns (a .kind)) 2818005 (k .result) _ (omega arith) m (c .if1 .left))
 
 pub nearest-spec : {M : Type 1} → statement M
