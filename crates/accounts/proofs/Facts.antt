@@ -20,7 +20,7 @@ use Rattle.coordinator.specs.declared.Coordinator.{Coordinator}
 use Rattle.coordinator.specs.declared.BeginWith.{BeginWith}
 use Rattle.coordinator.specs.System.{System}
 use Rattle.coordinator.specs.State.{idlePhase, openPhase, votingPhase}
-use Rattle.record_calls.proofs.Number.{step-number}
+use Rattle.deeds.proofs.Number.{step-number}
 use Rattle.coordinator.specs.Calls.{noNode, begun, beginOf, openRefusals, openOf, setRefusals, setOf}
 use Rattle.coordinator.specs.Calls.{requestCommitRefusals, requested, requestCommitOf}
 use Rattle.coordinator.proofs.Refusals.{Clear, clear}

@@ -25,7 +25,7 @@ use Rattle.coordinator.specs.State.{openPhase, objectAt}
 use Rattle.coordinator.specs.Calls.{noNode, tooWide, beginRefusals, begun, beginOf}
 use Rattle.coordinator.proofs.Refusals.{clear}
 use Rattle.coordinator.proofs.Theorems.{taken-after}
-use Rattle.record_calls.proofs.Number.{step-number}
+use Rattle.deeds.proofs.Number.{step-number}
 use Rattle.increments.specs.Deeds.{Deed, begins, deedOf, ran, Amount, amounts, adding}
 use Rattle.increments.proofs.Deeds.{ran-adding}
 use Rattle.increments.proofs.Added.{amountAt, added-count, added-object, added-meets, amounts-length, amounts-at}

@@ -27,7 +27,7 @@ use Rattle.record.specs.declared.Called.{Called}
 use Rattle.record.specs.Record.{recordOf, bytesOf, check}
 use Rattle.record.specs.Call.{called, calledOf, kept}
 use Rattle.record.specs.Call.{toldBy as toldByStep}
-use Rattle.record_calls.proofs.Held.{Holds, holds-read}
+use Rattle.deeds.proofs.Held.{Holds, holds-read}
 use Rattle.settings.specs.Settings.{hoursIn, classesIn, tenths, settledAs, noTenths}
 use Rattle.frontend.specs.Plan.{Plan, Call, begin, batch, refusedPlan, planned, outOfTurnAfter, barred, beginNumber, batchNumber, booked, batchBy}
 use Rattle.frontend.specs.Plan.{plan, planOn, toldBy, leftBy, batchHere, firstNumber, listNumber}

@@ -16,7 +16,7 @@ use Rattle.record.specs.Record.{recordOf, bytesOf}
 use Rattle.record.specs.Call.{called, kept}
 use Rattle.record.specs.Call.{toldBy as toldByStep}
 use Rattle.record.proofs.Kept.{same-bytes}
-use Rattle.record_calls.proofs.Number.{step-number}
+use Rattle.deeds.proofs.Number.{step-number}
 use Rattle.settings.specs.Settings.{adds}
 use Rattle.frontend.specs.Plan.{Plan, edit, planned, refusedPlan, outOfTurnAfter, barred, editPlan, plan, toldBy, leftBy}
 use Rattle.frontend.specs.Plan.{lentNumber, frontTold, frontRecord}

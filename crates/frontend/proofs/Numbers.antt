@@ -18,7 +18,7 @@ use Rattle.coordinator.specs.declared.BeginWith.{BeginWith}
 use Rattle.coordinator.specs.System.{System}
 use Rattle.coordinator.specs.Calls.{beginRefusals, beginOf, openRefusals, openOf, setRefusals, setOf, requestCommitRefusals, requestCommitOf}
 use Rattle.increments.specs.Deeds.{Edit, reads, writes, values, editOf}
-use Rattle.record_calls.proofs.Number.{step-number}
+use Rattle.deeds.proofs.Number.{step-number}
 use Rattle.settings.specs.Settings.{classesIn, adds}
 use Rattle.frontend.specs.Plan.{Call, begin, batch, edit, request, loadClasses, planned, outOfTurnAfter, barred, beginNumber, batchNumber}
 use Rattle.frontend.specs.Plan.{requestBy, classesNumber, plan, offNumber, nowhere, listNumber}

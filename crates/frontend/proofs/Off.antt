@@ -17,7 +17,7 @@ use Rattle.coordinator.specs.System.{System}
 use Rattle.coordinator.specs.State.{idlePhase}
 use Rattle.coordinator.specs.Calls.{noNode, tooWide, isNone, beginRefusals, beginOf, requestCommitOf}
 use Rattle.increments.specs.Deeds.{Edit, editOf, anyPast}
-use Rattle.record_calls.proofs.Number.{step-number}
+use Rattle.deeds.proofs.Number.{step-number}
 use Rattle.settings.specs.Settings.{hoursIn, classesIn, adds}
 use Rattle.frontend.specs.Plan.{begin, batch, edit, request, loadClasses, outOfTurnAfter, barred, beginNumber, requestBy, classesNumber}
 use Rattle.frontend.specs.Plan.{plan, offNumber}

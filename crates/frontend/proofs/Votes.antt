@@ -17,7 +17,7 @@ use Rattle.record.specs.Record.{recordOf, bytesOf, check}
 use Rattle.record.specs.Call.{called, kept}
 use Rattle.record.specs.Call.{toldBy as toldByStep}
 use Rattle.record.proofs.Kept.{checked-meets, checked-fits, same-bytes}
-use Rattle.record_calls.proofs.Held.{Holds, checked-holds, holds-read, request-holds, abort-holds}
+use Rattle.deeds.proofs.Held.{Holds, checked-holds, holds-read, request-holds, abort-holds}
 use Rattle.settings.specs.Settings.{adds}
 use Rattle.frontend.specs.Plan.{request, requestBy, plan, toldBy, leftBy}
 use Rattle.frontend.specs.Plan.{lentNumber, frontTold, frontRecord}

@@ -23,7 +23,6 @@ use record::Called;
 use record::look::phase;
 use record::refused;
 use record::taken;
-use record_calls::deeds;
 use settings::BATCH;
 use settings::CLASSES;
 use settings::KIND;

@@ -24,7 +24,7 @@ use Rattle.clauses.proofs.Places.{at, place-open}
 use Rattle.clauses.proofs.Facts.{Meets}
 use Rattle.clauses.proofs.Quorums.{Quorums}
 use Rattle.clauses.proofs.Keep.{open-keeps, set-keeps}
-use Rattle.record_calls.proofs.Number.{step-number}
+use Rattle.deeds.proofs.Number.{step-number}
 use Rattle.increments.specs.Deeds.{ran, deedOf, editOf, Amount, amounts, adding}
 use Rattle.increments.proofs.Deeds.{adding-last}
 use Rattle.increments.proofs.Summed.{below, set-alike, set-elsewhere, set-number, set-taken}

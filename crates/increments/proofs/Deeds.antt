@@ -10,7 +10,7 @@ use Rattle.coordinator.specs.declared.Coordinator.{Coordinator}
 use Rattle.coordinator.specs.System.{System, tree}
 use Rattle.clauses.proofs.Facts.{Meets}
 use Rattle.clauses.proofs.Fits.{AllBelow, Fits}
-use Rattle.record_calls.proofs.Kept.{begin-kept, open-kept, set-kept, request-kept, abort-kept}
+use Rattle.deeds.proofs.Kept.{begin-kept, open-kept, set-kept, request-kept, abort-kept}
 use Rattle.increments.specs.Sums.{sum64}
 use Rattle.increments.specs.Deeds.{Edit, reads, writes, values, Deed, begins, edits, asks, aborts, editOf, deedOf, ran}
 use Rattle.increments.specs.Deeds.{Amount, amounts, amountsOf, adding, summing}

@@ -23,7 +23,7 @@ use Rattle.clauses.proofs.Places.{at, across-all, across-none, none-across}
 use Rattle.clauses.proofs.Facts.{Meets}
 use Rattle.clauses.proofs.Quorums.{Quorums}
 use Rattle.clauses.proofs.Laws.{settled-each}
-use Rattle.record_calls.proofs.Number.{step-number}
+use Rattle.deeds.proofs.Number.{step-number}
 use Rattle.increments.specs.Sums.{sum64}
 use Rattle.increments.specs.Deeds.{ran, inUse, summing}
 use Rattle.increments.proofs.Summed.{below, Alike, Renewed, sumsTo, sumOf, sums-next, sums-partly, set-elsewhere, set-taken}

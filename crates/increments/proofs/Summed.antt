@@ -24,7 +24,7 @@ use Rattle.clauses.proofs.Facts.{Meets}
 use Rattle.clauses.proofs.Quorums.{Quorums}
 use Rattle.clauses.proofs.Cases.{step-keeps}
 use Rattle.clauses.proofs.Keep.{set-keeps}
-use Rattle.record_calls.proofs.Number.{step-number}
+use Rattle.deeds.proofs.Number.{step-number}
 use Rattle.increments.specs.Sums.{sum64}
 use Rattle.increments.specs.Deeds.{ran, deedOf, editOf, summing}
 use Rattle.increments.proofs.Deeds.{summing-last}

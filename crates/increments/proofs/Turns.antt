@@ -17,7 +17,7 @@ use Rattle.clauses.proofs.Facts.{Meets}
 use Rattle.clauses.proofs.Quorums.{tree-quorums}
 use Rattle.record.specs.Record.{objectsOf, recordOf}
 use Rattle.record.specs.Call.{kept}
-use Rattle.record_calls.proofs.Held.{Holds, holds-read, open-holds, set-holds}
+use Rattle.deeds.proofs.Held.{Holds, holds-read, open-holds, set-holds}
 use Rattle.increments.specs.Sums.{sum64, past}
 use Rattle.increments.specs.Deeds.{ran, deedOf, editOf, Amount, amountsOf, adding, fitsIn}
 use Rattle.increments.proofs.Sums.{sum-small}

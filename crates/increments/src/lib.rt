@@ -12,7 +12,6 @@ use numbers::MOST_OPEN;
 use numbers::both;
 use record::look::count;
 use record::look::object_at;
-use record_calls::deeds;
 
 // The first number of 64 bits whose top bit, the sign, is set.
 const SIGN: u64 = 9223372036854775808;

@@ -1,5 +1,2 @@
--- What the host's calls leave of the bytes (Stored), that each leaves a record (Kept, Held), and its number found ahead (Number).
-pub mod Stored
-pub mod Kept
+-- A call's number found ahead.
 pub mod Number
-pub mod Held

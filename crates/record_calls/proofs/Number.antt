@@ -1,10 +1,8 @@
--- A call's number: one refusal after the other; found ahead, it is 1 or 2 of the bytes, else the number of the step by value.
-use mathlib.Core.Path.{_≡_, refl, sym, ap, ap₂, _∙_}
-use mathlib.Core.Bool.{Bool, true, false, cond}
+-- A call's number found ahead: it is 1 or 2 of the bytes, else the number of the step by value.
+use mathlib.Core.Path.{_≡_, sym, ap, _∙_}
 use mathlib.Core.List.{List}
 use Prim.Native.Nat.{ℕ}
-use lib.Dec.{eqb}
-use borrow.Author.Tests.{eq-eqb, eqb-true}
+use borrow.Author.Tests.{eq-eqb}
 use Rattle.coordinator.specs.declared.Coordinator.{Coordinator}
 use Rattle.coordinator.specs.declared.Step.{Step}
 use Rattle.coordinator.specs.State.{stepOf}
@@ -12,19 +10,7 @@ use Rattle.record.specs.declared.Called.{Called}
 use Rattle.record.specs.Record.{recordOf, check}
 use Rattle.record.specs.Call.{calledOf}
 use Rattle.record.proofs.OnBytes.{refused-called}
-
--- a refusal in front of those behind it
-pub refusal : (number r rest n : ℕ) (b fits : Bool) → r ≡ cond b number rest → b ≡ fits → rest ≡ n → r ≡ cond fits number n
-refusal number r rest n b fits e f g = e ∙ ap₂ (λ (x : Bool) (k : ℕ). cond x number k) f g
-
--- the number of a step
-pub step-number : (n a : ℕ) (c d : Coordinator) → n ≡ stepOf n a c d .number
-unfolding stepOf
-step-number n a c d = by (eqb n 0) refl
-  where
-    by : (b : Bool) → eqb n 0 ≡ b → n ≡ stepOf n a c d .number
-    by true e = simp e (eqb-true n 0 e)
-    by false e = simp e
+use Rattle.deeds.proofs.Number.{step-number}
 
 module _ (f : Coordinator → Step) (l : List ℕ) where
   pub ahead-refused : (n : ℕ) → n ≡ check l → (n ≡ 0 → ⊥) → n ≡ calledOf f l .number

@@ -1,8 +1,7 @@
-// The host's calls on a record as bytes: begin to abort. `deeds` works on bytes whose check passed; `calls` checks them first; `ahead` finds a call's
-// number and alters nothing.
+// The host's calls on a record as bytes: begin to abort. `calls` checks the bytes and then calls the crate `deeds`, which works on bytes whose check
+// passed; `ahead` finds a call's number and alters nothing.
 mod ahead;
 mod calls;
-pub mod deeds;
 
 pub use ahead::abort_number;
 pub use ahead::begin_number;

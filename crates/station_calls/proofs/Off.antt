@@ -19,7 +19,7 @@ use Rattle.parts.specs.Parts.{part}
 use Rattle.record.specs.declared.Called.{Called}
 use Rattle.record.specs.Record.{check}
 use Rattle.record.specs.Call.{calledOf}
-use Rattle.record_calls.proofs.Number.{step-number}
+use Rattle.deeds.proofs.Number.{step-number}
 use Rattle.steps.specs.Step.{Outcome, whenOff, hosted}
 use Rattle.buffers.specs.Buffers.{recordDamaged, stationOf, answerWith, told, recordsAfter, ends, hostFirst, recordAt, recordIn}
 use Rattle.buffers.specs.declared.Answer.{Answer}

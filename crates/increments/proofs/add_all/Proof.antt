@@ -12,7 +12,7 @@ use Rattle.octets.proofs.Laws.{Bytes}
 use Rattle.coordinator.specs.System.{tree}
 use Rattle.record.specs.Record.{recordOf, bytesOf}
 use Rattle.record.proofs.OnBytes.{checked-length}
-use Rattle.record_calls.proofs.Held.{Holds, checked-holds, holds-checked}
+use Rattle.deeds.proofs.Held.{Holds, checked-holds, holds-checked}
 use Rattle.increments.specs.Deeds.{ran, amounts, amountsOf, adding}
 use Rattle.increments.proofs.Turns.{add-opened, add-turn}
 use borrow.Author.Needs.{needs}

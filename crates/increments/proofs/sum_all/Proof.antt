@@ -8,7 +8,7 @@ use Rattle.coordinator.specs.System.{tree}
 use Rattle.record.specs.Record.{recordOf, bytesOf}
 use Rattle.record.proofs.OnBytes.{checked-length}
 use Rattle.record.proofs.Kept.{checked-meets}
-use Rattle.record_calls.proofs.Held.{Holds, checked-holds, holds-checked}
+use Rattle.deeds.proofs.Held.{Holds, checked-holds, holds-checked}
 use Rattle.increments.specs.Deeds.{ran, summing}
 use Rattle.increments.proofs.Summed.{sumsTo}
 use Rattle.increments.proofs.Turns.{sum-found, sum-turn}

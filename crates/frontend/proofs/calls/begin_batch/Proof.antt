@@ -18,7 +18,7 @@ use Rattle.record.specs.declared.Called.{Called}
 use Rattle.record.specs.Record.{recordOf, check}
 use Rattle.record.specs.Call.{kept}
 use Rattle.record.proofs.Kept.{same-bytes}
-use Rattle.record_calls.proofs.Held.{Holds, checked-holds, holds-checked, begin-holds}
+use Rattle.deeds.proofs.Held.{Holds, checked-holds, holds-checked, begin-holds}
 use Rattle.settings.specs.Settings.{classesIn, tenths, settledAs}
 use Rattle.settings.proofs.Sound.{sound-parts}
 use Rattle.frontend.proofs.Begun.{few-tallies, added-left, batch-stays, batch-goes}

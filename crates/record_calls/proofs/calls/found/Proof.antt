@@ -7,7 +7,7 @@ use Rattle.coordinator.specs.declared.Coordinator.{Coordinator}
 use Rattle.coordinator.specs.System.{tree}
 use Rattle.coordinator.specs.Calls.{foundOf}
 use Rattle.record.proofs.OnBytes.{refused-called, refused-record, part-long, part-count, part-checked, part-called}
-use Rattle.record_calls.proofs.Kept.{found-bytes}
+use Rattle.deeds.proofs.Kept.{found-bytes}
 use borrow.Author.Needs.{needs}
 use Rattle.record_calls.proofs.calls.found.Statement.{statement}
 use Rattle.record_calls.proofs.calls.found.Tie as tie
