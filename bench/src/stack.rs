@@ -23,8 +23,9 @@ fn altered(run: Run, stages: &mut [Stage]) -> usize {
     DEEPEST - kept
 }
 
-/// The stack that an operation of the library needs, its caller's loop taken off. The deeper of two runs counts, since a call may happen to write the filling.
+/// The stack that an operation of the library needs, in whole words of eight bytes, its caller's loop taken off. The deeper of two runs counts, since a call
+/// may happen to write the filling.
 pub fn needed(op: &Op) -> usize {
     let depth = |run: Run| altered(run, std::slice::from_mut(&mut op.stage.clone()));
-    depth(op.product).max(depth(op.product)).saturating_sub(depth(timing::nothing))
+    depth(op.product).max(depth(op.product)).saturating_sub(depth(timing::nothing)).next_multiple_of(8)
 }
