@@ -107,8 +107,8 @@ fn begin_batch(bytes: &mut [u8], settings: &mut [u8], me: u8, w: BeginWith, list
     r
 }
 
-// Books a batch of weights as one transaction that adds whole grams to every class's tally; answers the chosen read quorum. Ruled out: a class left out
-// that gets no gram; a batch before any table that begins.
+// Books a batch of weights as one transaction that adds whole grams to every class's tally; answers the chosen read quorum. Ruled out: a batch kept as
+// the host's own; a batch before any table that begins.
 pub fn batch(
     bytes: &mut [u8],
     settings: &mut [u8],

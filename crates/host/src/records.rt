@@ -89,8 +89,8 @@ pub extern "C" fn senna_coordinator_begin(
     frontend::begin(bytes, settings, me, w, day, minute)
 }
 
-// Begins a batch of weights on a day, at a minute; answers the chosen read quorum. Ruled out: 2 for distances of 25 bytes beside damaged settings; a class
-// left out that gets no gram.
+// Begins a batch of weights on a day, at a minute; answers the chosen read quorum. Ruled out: 2 for distances of 25 bytes beside damaged settings; a batch
+// kept as the host's own.
 #[no_mangle]
 pub extern "C" fn senna_coordinator_batch(
     bytes: &mut [u8],
@@ -140,7 +140,7 @@ pub extern "C" fn senna_coordinator_reselect(
     record_calls::reselect(bytes, me, live, d)
 }
 
-// Opens an object to read it. Ruled out: an object opened on a batch; the record written back at a refusal.
+// Opens an object to read it. Ruled out: an object opened on a batch; a damaged record taken.
 #[no_mangle]
 pub extern "C" fn senna_coordinator_open_read(
     bytes: &mut [u8],

@@ -151,7 +151,7 @@ fn store(kept: &mut [u8], list: &[u8])
     parts::lay(&mut kept[1..], list);
 }
 
-// Loads a table in place of the one before: 1 another length of either, 2 a faulty table. Ruled out: a refused table that takes the old one's place; a table
+// Loads a table in place of the one before: 1 another length of either, 2 a faulty table. Ruled out: a faulty table that takes the old one's place; a table
 // whose last date is lost.
 pub fn load(kept: &mut [u8], list: &[u8]) -> u8
     ensures { λ r. ⌜ r ≡ loadNumber (now (kept .entry)) (now (list .entry)) ⌝ }

@@ -15,7 +15,7 @@ use frontend::Ask;
 use orders::Kind;
 use orders::Order;
 
-// Starts anew: a blank service whose nodes of a mask are on. Ruled out: a service on which a step was taken; another mask.
+// Starts anew: a blank service whose nodes of a mask are on. Ruled out: a record that is kept; another mask.
 pub fn start(
     images: &mut [u8],
     records: &mut [u8],

@@ -100,6 +100,7 @@ pub fn front(
         list,
     ))
 }
+
 // Loads a table of packing hours for a node, in any phase. Ruled out: another node's hours replaced; a faulty table that takes the old one's place.
 pub fn load_hours(own: &[u8], settings: &mut [u8], node: u8, list: &[u8]) -> Answer
     ensures { λ r. ⌜ r ≡ loadTold (lent [] [] [] (now (own .entry)) (now (settings .entry))) node (now (list .entry)) ⌝ }

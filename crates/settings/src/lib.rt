@@ -116,7 +116,7 @@ pub fn blank(settings: &mut [u8]) -> u8
     0
 }
 
-// Loads a table of packing hours in place of the one before. Ruled out: a refused table that takes the old one's place; 2 for a table that is too short.
+// Loads a table of packing hours in place of the one before. Ruled out: a faulty table that takes the old one's place; 2 for a table that is too short.
 pub fn load_hours(settings: &mut [u8], list: &[u8]) -> u8
     ensures { λ r. ⌜ r ≡ loadNumber (now (settings .entry)) (now (list .entry)) ⌝ }
     ensures { λ r. ⌜ now (settings .exit) ≡ loadAfter (now (settings .entry)) (now (list .entry)) ⌝ }
@@ -129,6 +129,7 @@ pub fn load_hours(settings: &mut [u8], list: &[u8]) -> u8
 }
 
 // Whether the hours are closed. Ruled out: closed before any table; the end minute open.
+// The condition is a plain fact of settings that were checked; only the crates that work on them use it, and each proves it.
 pub fn is_closed(settings: &[u8], day: u32, minute: u16) -> bool
     requires { ⌜ length (now settings) ≡ settingsSize ⌝ }
     ensures { λ r. ⌜ r ≡ closed (hoursIn (now (settings .entry))) day minute ⌝ }
@@ -144,6 +145,7 @@ pub fn is_adding(settings: &[u8]) -> bool
 }
 
 // The tenths that wait. Ruled out: those that a batch leaves over before it is committed; those that waited before a batch that is.
+// The condition is a plain fact of settings that were checked; only the crates that work on them use it, and each proves it.
 pub fn tenths(bytes: &[u8], settings: &[u8]) -> [u8; MOST_CLASSES]
     requires { ⌜ length (now settings) ≡ settingsSize ⌝ }
     ensures { λ r. ⌜ r ≡ tenths (recordOf (now (bytes .entry))) (now (settings .entry)) ⌝ }
@@ -158,6 +160,7 @@ pub fn tenths(bytes: &[u8], settings: &[u8]) -> [u8; MOST_CLASSES]
 }
 
 // A transaction begins: its kind, the tenths that wait, and those that it will leave over. Ruled out: a table altered; the two in each other's place.
+// The condition is a plain fact of settings that were checked; only the crates that work on them use it, and each proves it.
 pub fn settle(settings: &mut [u8], kind: u8, waits: [u8; MOST_CLASSES], left: [u8; MOST_CLASSES])
     requires { ⌜ length (now settings) ≡ settingsSize ⌝ }
     ensures { λ r. ⌜ now (settings .exit) ≡ splice 17 211 (kind ∷ (waits ++ left)) (now (settings .entry)) ⌝ }
