@@ -12,10 +12,10 @@ use Rattle.mask.specs.Mask.{contains}
 use Rattle.octets.proofs.Laws.{get-ext, get-out, Bytes}
 use Rattle.image.specs.declared.Field.{Field}
 use Rattle.image.specs.Field.{place, fieldOf, withField}
-use Rattle.image.specs.Layout.{shape, imageSize, objectCount, ownerCount, holderField, readersField, writersField}
-use Rattle.image.specs.Layout.{serialField, stateField, stampField, holder}
+use Rattle.image.specs.Layout.{shape, shape1207, imageSize, objectCount, ownerCount, holderField, readersField, writersField}
+use Rattle.image.specs.Layout.{authorField, authorSerialField, serialField, stateField, stampField, holder, author}
 use Rattle.image.specs.Valid.{check}
-use Rattle.image.specs.Blank.{counted, unheld, blankAs, blank}
+use Rattle.image.specs.Blank.{counted, unheld, unwritten, blankAs, blank}
 use Rattle.image.proofs.Lens.{apart, length-with, bytes-with, of-with, of-with-apart, length-all, bytes-all, all-apart, all-here}
 use Rattle.image.proofs.Marks.{contains-none}
 use Rattle.image.proofs.Sound.{Sound, sound-check}
@@ -52,43 +52,59 @@ both = withField (ownerCount shape) first 0 nodes
 length-both : length both ≡ imageSize shape
 length-both = length-with (ownerCount shape) first 0 nodes ∙ length-with objectCount zeros 0 (shape .objects) ∙ length-zeros
 
--- document 01's 1,207 bytes
-pub image-size : imageSize shape ≡ 1207
+-- nobody holds a copy; then also nobody has written one
+abbrev free : List ℕ
+free = unheld shape both
+
+length-free : length free ≡ imageSize shape
+unfolding unheld
+length-free = length-all (holderField shape) (λ h. nobody) (shape .objects) both ∙ length-both
+
+-- document 02's 1,527 bytes, and document 01's 1,207
+pub image-size : imageSize shape ≡ 1527
 image-size = refl
 
+pub image-size-before : imageSize shape1207 ≡ 1207
+image-size-before = refl
+
 pub length-blank : length (blankAs shape) ≡ imageSize shape
-unfolding blankAs unheld counted zeros
-length-blank = length-all (holderField shape) (λ h. nobody) (shape .objects) both ∙ length-both
+unfolding blankAs unwritten counted zeros
+length-blank = length-all (authorField shape) (λ a. nobody) (shape .objects) free ∙ length-free
 
 pub bytes-blank : Bytes (blankAs shape)
-unfolding blankAs unheld counted zeros
+unfolding blankAs unwritten unheld counted zeros
 bytes-blank =
-    bytes-all (holderField shape) (λ h. nobody) (shape .objects) both
+    bytes-all (authorField shape) (λ a. nobody) (shape .objects) free
+    (bytes-all (holderField shape) (λ h. nobody) (shape .objects) both
     (bytes-with (ownerCount shape) first 0 nodes (bytes-with objectCount zeros 0 (shape .objects)
-    (λ j. subst (λ (n : ℕ). n < 256) (sym (getD-zeros (imageSize shape) j)) (lit< tt))))
+    (λ j. subst (λ (n : ℕ). n < 256) (sym (getD-zeros (imageSize shape) j)) (lit< tt)))))
 
--- every field but the counts and the holders is 0
-pub blank-zero : (g : Field) (i : ℕ) → T (apart (holderField shape) g) → T (apart (ownerCount shape) g) → T (apart objectCount g)
-    → fieldOf g (blankAs shape) i ≡ 0
-unfolding blankAs unheld counted zeros
-blank-zero g i a b c =
-    all-apart (holderField shape) (λ h. nobody) g (shape .objects) both i a ∙ of-with-apart (ownerCount shape) g first 0 i nodes b
+-- every field but the counts, the holders and the authors is 0
+pub blank-zero : (g : Field) (i : ℕ) → T (apart (authorField shape) g) → T (apart (holderField shape) g) → T (apart (ownerCount shape) g)
+    → T (apart objectCount g) → fieldOf g (blankAs shape) i ≡ 0
+unfolding blankAs unwritten unheld counted zeros
+blank-zero g i d a b c =
+    all-apart (authorField shape) (λ h. nobody) g (shape .objects) free i d ∙ all-apart (holderField shape) (λ h. nobody) g (shape .objects) both i a ∙ of-with-apart (ownerCount shape) g first 0 i nodes b
     ∙ of-with-apart objectCount g zeros 0 i (shape .objects) c ∙ of-zeros g i
 
 pub blank-holder : (t : ℕ) → t < shape .objects → holder (blankAs shape) t ≡ nobody
-unfolding blankAs unheld counted zeros
-blank-holder t k = all-here (holderField shape) (λ h. nobody) (shape .objects) both t tt (omega (arith, length-both)) k k (lit< tt)
+unfolding blankAs unwritten unheld counted zeros
+blank-holder t k = all-apart (authorField shape) (λ a. nobody) (holderField shape) (shape .objects) free t tt ∙ all-here (holderField shape) (λ h. nobody) (shape .objects) both t tt (omega (arith, length-both)) k k (lit< tt)
+
+pub blank-author : (t : ℕ) → t < shape .objects → author (blankAs shape) t ≡ nobody
+unfolding blankAs unwritten counted zeros
+blank-author t k = all-here (authorField shape) (λ a. nobody) (shape .objects) free t tt (omega (arith, length-free)) k k (lit< tt)
 
 blank-first : fieldOf objectCount (blankAs shape) 0 ≡ shape .objects
-unfolding blankAs unheld counted zeros
+unfolding blankAs unwritten unheld counted zeros
 blank-first =
-    all-apart (holderField shape) (λ h. nobody) objectCount (shape .objects) both 0 tt ∙ of-with-apart (ownerCount shape) objectCount first 0 0 nodes tt
+    all-apart (authorField shape) (λ a. nobody) objectCount (shape .objects) free 0 tt ∙ all-apart (holderField shape) (λ h. nobody) objectCount (shape .objects) both 0 tt ∙ of-with-apart (ownerCount shape) objectCount first 0 0 nodes tt
     ∙ of-with objectCount zeros 0 (shape .objects) tt (omega (arith, length-zeros)) (lit< tt) (lit< tt)
 
 blank-second : fieldOf (ownerCount shape) (blankAs shape) 0 ≡ nodes
-unfolding blankAs unheld counted zeros
+unfolding blankAs unwritten unheld counted zeros
 blank-second =
-    all-apart (holderField shape) (λ h. nobody) (ownerCount shape) (shape .objects) both 0 tt
+    all-apart (authorField shape) (λ a. nobody) (ownerCount shape) (shape .objects) free 0 tt ∙ all-apart (holderField shape) (λ h. nobody) (ownerCount shape) (shape .objects) both 0 tt
     ∙ of-with (ownerCount shape) first 0 nodes tt (omega (arith, length-with objectCount zeros 0 (shape .objects), length-zeros)) (lit< tt) (lit< tt)
 
 pub blank-sound : Sound (blankAs shape)
@@ -99,15 +115,16 @@ blank-sound =
         objects-counted = blank-first;
         owners-counted = blank-second;
         owners-sound = λ o k. record {
-          small = omega (arith, blank-zero (stateField shape) o tt tt tt);
-          named = inl (blank-zero (serialField shape) o tt tt tt, blank-zero (stampField shape) o tt tt tt, blank-zero (stateField shape) o tt tt tt);
+          small = omega (arith, blank-zero (stateField shape) o tt tt tt tt);
+          named = inl (blank-zero (serialField shape) o tt tt tt tt, blank-zero (stampField shape) o tt tt tt tt, blank-zero (stateField shape) o tt tt tt tt);
         };
         copies-sound = λ t k. record {
           holding = inl (blank-holder t k);
-          reading = λ o c. absurd (subst T (contains-none o) (subst (λ (m : ℕ). T (contains m o)) (blank-zero (readersField shape) t tt tt tt) c));
-          writing = λ o c. absurd (subst T (contains-none o) (subst (λ (m : ℕ). T (contains m o)) (blank-zero (writersField shape) t tt tt tt) c));
+          reading = λ o c. absurd (subst T (contains-none o) (subst (λ (m : ℕ). T (contains m o)) (blank-zero (readersField shape) t tt tt tt tt) c));
+          writing = λ o c. absurd (subst T (contains-none o) (subst (λ (m : ℕ). T (contains m o)) (blank-zero (writersField shape) t tt tt tt tt) c));
         };
       };
+      authors = λ t k. rw (blank-author t k, blank-zero (authorSerialField shape) t tt tt tt tt) tt;
     }
 
 pub blank-check : check (blankAs shape) ≡ 0

@@ -1,6 +1,6 @@
 -- `each n p` says p of every number below n, and nothing else. By induction on n.
 use mathlib.Core.Path.{_≡_, refl, sym, ap, _∙_, subst}
-use mathlib.Core.Bool.{Bool, true, false, _&&_}
+use mathlib.Core.Bool.{Bool, true, false, not, _&&_}
 use mathlib.Core.Logic.{_⊎_, inl, inr, ⊎-elim}
 use Prim.Native.Nat.{ℕ, zero, suc, _+_, _<_, _≤_}
 use native.Mathlib.Numerals.{add-one}
@@ -63,3 +63,12 @@ each-both p q (suc n) = ap (λ (b : Bool). b && (p n && q n)) (each-both p q n) 
     by true false true d = refl
     by true false false d = refl
     by false b c d = refl
+
+-- what `!` says of a test
+pub unless : (b : Bool) → not b ≡ true → b ≡ false
+unless true e = sym e
+unless false e = refl
+
+pub indeed : (b : Bool) → not b ≡ false → b ≡ true
+indeed true e = refl
+indeed false e = sym e

@@ -11,13 +11,15 @@ use Rattle.mask.specs.Mask.{contains}
 use Rattle.image.specs.declared.Field.{Field}
 use Rattle.image.specs.Field.{fieldOf, withField}
 use Rattle.image.specs.Layout.{shape, imageSize, objectCount, ownerCount, holderField, readersField, writersField}
-use Rattle.image.specs.Layout.{serialField, stateField, stampField, holder, readers, writers, serial, state, stamp}
+use Rattle.image.specs.Layout.{authorField, authorSerialField, serialField, stateField, stampField}
+use Rattle.image.specs.Layout.{holder, readers, writers, author, authorSerial, serial, state, stamp}
 use Rattle.image.specs.Valid.{listed, held}
 use Rattle.image.specs.Change.{withSerial, withState, withOwner, free, unlist}
 use Rattle.image.proofs.Each.{same-or-not}
 use Rattle.image.proofs.Lens.{apart, together, length-with, of-with, of-with-item, of-with-apart, bytes-with}
 use Rattle.image.proofs.Sound.{Sound, OwnerSound}
 use Rattle.octets.proofs.Laws.{Bytes}
+use Rattle.image.proofs.Keep.{same-authors}
 use Rattle.image.proofs.Whole.{free-same, unlist-same, free-none, unlist-apart, unlist-no-reader, unlist-no-writer, keeps-free}
 
 -- o holds no copy and is in no list
@@ -76,6 +78,8 @@ pub record OtherThan (o : ℕ) (l m : List ℕ) : Type 0 where
   pub holders : (t : ℕ) → holder m t ≡ holder l t
   pub readings : (t : ℕ) → readers m t ≡ readers l t
   pub writings : (t : ℕ) → writers m t ≡ writers l t
+  pub authors : (t : ℕ) → author m t ≡ author l t
+  pub author-serials : (t : ℕ) → authorSerial m t ≡ authorSerial l t
   pub serials : (p : ℕ) → (p ≡ o → ⊥) → serial m p ≡ serial l p
   pub states : (p : ℕ) → (p ≡ o → ⊥) → state m p ≡ state l p
   pub stamps : (p : ℕ) → (p ≡ o → ⊥) → stamp m p ≡ stamp l p
@@ -104,13 +108,14 @@ sound-owner l m o e s idle ok =
           );
         });
       };
+      authors = same-authors l m (e .authors) (e .author-serials) s;
     }
 
 -- a change of one field of owner o is such a change, and so are several, one after the other
 pub with-other : (f : Field) (l : List ℕ) (o v : ℕ) → T (apart f objectCount) → T (apart f (ownerCount shape)) → T (apart f (holderField shape))
-    → T (apart f (readersField shape)) → T (apart f (writersField shape)) → T (together f (serialField shape)) → T (together f (stateField shape))
-    → T (together f (stampField shape)) → OtherThan o l (withField f l o v)
-with-other f l o v a b c d e x y z =
+    → T (apart f (readersField shape)) → T (apart f (writersField shape)) → T (apart f (authorField shape)) → T (apart f (authorSerialField shape))
+    → T (together f (serialField shape)) → T (together f (stateField shape)) → T (together f (stampField shape)) → OtherThan o l (withField f l o v)
+with-other f l o v a b c d e g h x y z =
     record {
       size = length-with f l o v;
       first = of-with-apart f objectCount l o 0 v a;
@@ -118,6 +123,8 @@ with-other f l o v a b c d e x y z =
       holders = λ t. of-with-apart f (holderField shape) l o t v c;
       readings = λ t. of-with-apart f (readersField shape) l o t v d;
       writings = λ t. of-with-apart f (writersField shape) l o t v e;
+      authors = λ t. of-with-apart f (authorField shape) l o t v g;
+      author-serials = λ t. of-with-apart f (authorSerialField shape) l o t v h;
       serials = λ p ne. of-with-item f (serialField shape) l o p v x ne;
       states = λ p ne. of-with-item f (stateField shape) l o p v y ne;
       stamps = λ p ne. of-with-item f (stampField shape) l o p v z ne;
@@ -132,6 +139,8 @@ other-then o l m n a b =
       holders = λ t. b .holders t ∙ a .holders t;
       readings = λ t. b .readings t ∙ a .readings t;
       writings = λ t. b .writings t ∙ a .writings t;
+      authors = λ t. b .authors t ∙ a .authors t;
+      author-serials = λ t. b .author-serials t ∙ a .author-serials t;
       serials = λ p ne. b .serials p ne ∙ a .serials p ne;
       states = λ p ne. b .states p ne ∙ a .states p ne;
       stamps = λ p ne. b .stamps p ne ∙ a .stamps p ne;
@@ -142,8 +151,8 @@ owner-other l o n st sp =
     let a = withSerial l o n in
     let b = withState a o st in
     other-then o l b (withOwner l o n st sp)
-    (other-then o l a b (with-other (serialField shape) l o n tt tt tt tt tt tt tt tt) (with-other (stateField shape) a o st tt tt tt tt tt tt tt tt))
-    (with-other (stampField shape) b o sp tt tt tt tt tt tt tt tt)
+    (other-then o l a b (with-other (serialField shape) l o n tt tt tt tt tt tt tt tt tt tt) (with-other (stateField shape) a o st tt tt tt tt tt tt tt tt tt tt))
+    (with-other (stampField shape) b o sp tt tt tt tt tt tt tt tt tt tt)
 
 -- an owner that was in no list is in none once its serial, state and stamp are new
 pub unlist-new : (l : List ℕ) (o n st sp : ℕ) → Bytes l → o < nodes → Idle l o → unlist (withOwner l o n st sp) o ≡ withOwner l o n st sp
@@ -182,7 +191,7 @@ module _ (l : List ℕ) (o : ℕ) (s : Sound l) (small : o < nodes) (idle : Idle
   -- the state alone: over, listed, held or refused, where serial and stamp go with it
   pub keeps-state : (st : ℕ) → OwnerSound (serial l o) st (stamp l o) → Sound (withState l o st)
   keeps-state st ok =
-      sound-owner l (withState l o st) o (with-other (stateField shape) l o st tt tt tt tt tt tt tt tt) s idle
+      sound-owner l (withState l o st) o (with-other (stateField shape) l o st tt tt tt tt tt tt tt tt tt tt) s idle
       (rw (
         of-with-apart (stateField shape) (serialField shape) l o o st tt,
         of-with-apart (stateField shape) (stampField shape) l o o st tt,

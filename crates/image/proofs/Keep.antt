@@ -7,8 +7,9 @@ use Prim.Native.Nat.{ℕ, _^_, _<_}
 use native.Mathlib.Omega.{arith}
 use lib.Bits.{or-lt}
 use lib.Pow.{pow-lt}
-use lib.Dec.{T, eqb→eq}
+use lib.Dec.{T, eqb, eqb→eq, not-T}
 use lib.ListN.{length}
+use borrow.Author.Tests.{lt-ltb}
 use Rattle.numbers.specs.Sizes.{nodes, nobody}
 use Rattle.mask.specs.Mask.{contains, only, minus}
 use Rattle.mask.proofs.Laws.{contains-joined, contains-minus, only-small}
@@ -16,13 +17,14 @@ use Rattle.mask.proofs.Tests.{and-left, and-right, or-cases}
 use Rattle.image.specs.declared.Field.{Field}
 use Rattle.image.specs.Field.{fieldOf, withField, changedAll}
 use Rattle.image.specs.Layout.{shape, objectCount, ownerCount, valueField, versionField, holderField, readersField, writersField}
-use Rattle.image.specs.Layout.{serialField, stateField, stampField, holder, readers, writers, serial, state, stamp}
-use Rattle.image.specs.Valid.{listed}
-use Rattle.image.specs.Change.{withValue, withVersion, withHolder, withReaders, withWriters, listing, addReader, addWriter}
+use Rattle.image.specs.Layout.{authorField, authorSerialField, serialField, stateField, stampField}
+use Rattle.image.specs.Layout.{holder, readers, writers, author, authorSerial, serial, state, stamp}
+use Rattle.image.specs.Valid.{listed, authorOk}
+use Rattle.image.specs.Change.{withValue, withVersion, withHolder, withReaders, withWriters, withAuthor, listing, addReader, addWriter}
 use Rattle.image.proofs.Each.{lt-or-le, same-or-not}
 use Rattle.image.proofs.Lens.{apart, inside, Holds, length-with, of-with, of-with-other, of-with-apart, with-out, length-all, all-apart}
 use Rattle.image.proofs.Marks.{contains-only}
-use Rattle.image.proofs.Sound.{Sound, CopySound, HolderSound, ListSound, low-bits}
+use Rattle.image.proofs.Sound.{Sound, Authored, CopySound, HolderSound, ListSound, low-bits}
 
 -- ---- two images with the same owners, and with the same copies
 -- f shares no byte with the counts and the owners
@@ -41,8 +43,9 @@ pub record SameOwners (l m : List ℕ) : Type 0 where
 
 -- then it is sound where its copies are
 pub sound-copies : (l m : List ℕ) → SameOwners l m → Sound l
-    → ((t : ℕ) → t < shape .objects → CopySound (state l) (holder m t) (readers m t) (writers m t)) → Sound m
-sound-copies l m e s f =
+    → ((t : ℕ) → t < shape .objects → CopySound (state l) (holder m t) (readers m t) (writers m t))
+    → ((t : ℕ) → t < shape .objects → Authored m t) → Sound m
+sound-copies l m e s f g =
     record {
       size = e .size ∙ s .size;
       clauses = record {
@@ -51,6 +54,7 @@ sound-copies l m e s f =
         owners-sound = λ o k. rw (e .serials, e .states, e .stamps) (s .clauses .owners-sound o k);
         copies-sound = λ t k. rw (e .states) (f t k);
       };
+      authors = g;
     }
 
 -- every field that a change leaves alone, one by one
@@ -101,24 +105,36 @@ set-one P f l i v j t fit small k new old =
     (λ e. subst P (sym (of-with-other f l i j v t e)) old)
     (same-or-not j i)
 
+-- authors as they were
+pub same-authors : (l m : List ℕ) → ((t : ℕ) → author m t ≡ author l t) → ((t : ℕ) → authorSerial m t ≡ authorSerial l t) → Sound l
+    → (t : ℕ) → t < shape .objects → Authored m t
+same-authors l m e f s t k = rw (e t, f t) (s .authors t k)
+
 -- ---- one field of one copy
 module _ (l : List ℕ) (t : ℕ) (s : Sound l) where
+  -- a field that is none of the author's leaves the authors
+  kept-authors : (f : Field) (v : ℕ) → T (apart f (authorField shape)) → T (apart f (authorSerialField shape))
+      → (u : ℕ) → u < shape .objects → Authored (withField f l t v) u
+  kept-authors f v a b =
+      same-authors l (withField f l t v) (λ u. of-with-apart f (authorField shape) l t u v a)
+      (λ u. of-with-apart f (authorSerialField shape) l t u v b) s
+
   abbrev copy : (u : ℕ) → u < shape .objects → CopySound (state l) (holder l u) (readers l u) (writers l u)
   copy u k = s .clauses .copies-sound u k
 
   -- a field that no clause reads: value, version
   pub keeps-unread : (f : Field) (v : ℕ) → T (ofCopies f) → T (apart f (holderField shape)) → T (apart f (readersField shape))
-      → T (apart f (writersField shape)) → Sound (withField f l t v)
-  keeps-unread f v a b c d =
+      → T (apart f (writersField shape)) → T (apart f (authorField shape)) → T (apart f (authorSerialField shape)) → Sound (withField f l t v)
+  keeps-unread f v a b c d x y =
       sound-copies l (withField f l t v) (with-owners f l t v a) s (λ u k.
       rw (of-with-apart f (holderField shape) l t u v b, of-with-apart f (readersField shape) l t u v c, of-with-apart f (writersField shape) l t u v d)
-      (copy u k))
+      (copy u k)) (kept-authors f v x y)
 
   pub keeps-value : (v : ℕ) → Sound (withValue l t v)
-  keeps-value v = keeps-unread (valueField shape) v tt tt tt tt
+  keeps-value v = keeps-unread (valueField shape) v tt tt tt tt tt tt
 
   pub keeps-version : (v : ℕ) → Sound (withVersion l t v)
-  keeps-version v = keeps-unread (versionField shape) v tt tt tt tt
+  keeps-version v = keeps-unread (versionField shape) v tt tt tt tt tt tt
 
   -- a holder: nobody, or an owner in state 2
   pub keeps-holder : (h : ℕ) → HolderSound (state l) h → Sound (withHolder l t h)
@@ -128,7 +144,7 @@ module _ (l : List ℕ) (t : ℕ) (s : Sound l) where
             (⊎-elim (λ (e : h ≡ nobody). omega arith) (λ e. omega (arith, e .0)) ok) k ok (copy u k .holding);
         reading = subst (ListSound (state l)) (sym (of-with-apart (holderField shape) (readersField shape) l t u h tt)) (copy u k .reading);
         writing = subst (ListSound (state l)) (sym (of-with-apart (holderField shape) (writersField shape) l t u h tt)) (copy u k .writing);
-      })
+      }) (kept-authors (holderField shape) h tt tt)
 
   -- a list: owners in state 1
   pub keeps-readers : (m : ℕ) → ListSound (state l) m → Sound (withReaders l t m)
@@ -138,7 +154,7 @@ module _ (l : List ℕ) (t : ℕ) (s : Sound l) where
         reading = set-one (ListSound (state l)) (readersField shape) l t m u tt (omega (arith, s .size))
             (omega (arith, low-bits m (λ o c. ok o c .0))) k ok (copy u k .reading);
         writing = subst (ListSound (state l)) (sym (of-with-apart (readersField shape) (writersField shape) l t u m tt)) (copy u k .writing);
-      })
+      }) (kept-authors (readersField shape) m tt tt)
 
   pub keeps-writers : (m : ℕ) → ListSound (state l) m → Sound (withWriters l t m)
   keeps-writers m ok =
@@ -147,7 +163,59 @@ module _ (l : List ℕ) (t : ℕ) (s : Sound l) where
         reading = subst (ListSound (state l)) (sym (of-with-apart (writersField shape) (readersField shape) l t u m tt)) (copy u k .reading);
         writing = set-one (ListSound (state l)) (writersField shape) l t m u tt (omega (arith, s .size))
             (omega (arith, low-bits m (λ o c. ok o c .0))) k ok (copy u k .writing);
-      })
+      }) (kept-authors (writersField shape) m tt tt)
+
+-- ---- the author of one copy: an owner with a serial
+author-ok : (o n : ℕ) → o < nodes → (n ≡ 0 → ⊥) → T (authorOk o n)
+author-ok o n h some = simp (lt-ltb o nodes h) (not-T (eqb n 0) (λ t. some (eqb→eq n 0 t)))
+
+module _ (l : List ℕ) (t o n : ℕ) (s : Sound l) where
+  abbrev named : List ℕ
+  named = withField (authorField shape) l t o
+
+  -- every other field is as it was
+  pub author-apart : (g : Field) (j : ℕ) → T (apart (authorField shape) g) → T (apart (authorSerialField shape) g)
+      → fieldOf g (withAuthor l t o n) j ≡ fieldOf g l j
+  author-apart g j a b = of-with-apart (authorSerialField shape) g named t j n b ∙ of-with-apart (authorField shape) g l t j o a
+
+  author-owners : SameOwners l (withAuthor l t o n)
+  author-owners =
+      record {
+        size = length-with (authorSerialField shape) named t n ∙ length-with (authorField shape) l t o;
+        first = author-apart objectCount 0 tt tt;
+        second = author-apart (ownerCount shape) 0 tt tt;
+        serials = λ i p. author-apart (serialField shape) p tt tt i;
+        states = λ i p. author-apart (stateField shape) p tt tt i;
+        stamps = λ i p. author-apart (stampField shape) p tt tt i;
+      }
+
+  pub author-here : t < shape .objects → o < 256 → n < 2 ^ 32 → (author (withAuthor l t o n) t ≡ o) × (authorSerial (withAuthor l t o n) t ≡ n)
+  author-here k h small = (
+    of-with-apart (authorSerialField shape) (authorField shape) named t t n tt ∙ of-with (authorField shape) l t o tt (omega (arith, s .size)) k h,
+    of-with (authorSerialField shape) named t n tt (omega (arith, length-with (authorField shape) l t o, s .size)) k small,
+  )
+
+  pub author-other : (u : ℕ) → (u ≡ t → ⊥)
+      → (author (withAuthor l t o n) u ≡ author l u) × (authorSerial (withAuthor l t o n) u ≡ authorSerial l u)
+  author-other u e = (
+    of-with-apart (authorSerialField shape) (authorField shape) named t u n tt ∙ of-with-other (authorField shape) l t u o tt e,
+    of-with-other (authorSerialField shape) named t u n tt e ∙ of-with-apart (authorField shape) (authorSerialField shape) l t u o tt,
+  )
+
+  pub keeps-author : o < nodes → n < 2 ^ 32 → (n ≡ 0 → ⊥) → Sound (withAuthor l t o n)
+  keeps-author h small some =
+      sound-copies l (withAuthor l t o n) author-owners s
+      (λ u k. rw (
+        author-apart (holderField shape) u tt tt,
+        author-apart (readersField shape) u tt tt,
+        author-apart (writersField shape) u tt tt,
+      ) (s .clauses .copies-sound u k))
+      (λ u k. ⊎-elim
+      (λ (e : u ≡ t).
+      let here = author-here (subst (λ (i : ℕ). i < shape .objects) e k) (omega arith) small in
+      rw (e, here .0, here .1) (author-ok o n h some))
+      (λ e. let there = author-other u e in rw (there .0, there .1) (s .authors u k))
+      (same-or-not u t))
 
 -- ---- lists: owner o joins one, or leaves it
 list-joined : (states : ℕ → ℕ) (m o : ℕ) → o < nodes → states o ≡ listed → ListSound states m → ListSound states (listing o m)

@@ -9,3 +9,4 @@ pub mod Keep
 pub mod Whole
 pub mod Idle
 pub mod Blanks
+pub mod Authors

@@ -15,9 +15,9 @@ use Rattle.mask.specs.Mask.{contains, joined, within}
 use Rattle.mask.proofs.Laws.{bit-high, contains-within, within-contains, within-joined}
 use Rattle.mask.proofs.Tests.{same-test, and-both, and-left, and-right, or-left, or-right, or-cases, T-true}
 use Rattle.image.specs.Field.{fieldOf}
-use Rattle.image.specs.Layout.{shape, imageSize, objectCount, ownerCount, holder, readers, writers, serial, state, stamp}
+use Rattle.image.specs.Layout.{shape, imageSize, objectCount, ownerCount, holder, readers, writers, author, authorSerial, serial, state, stamp}
 use Rattle.image.specs.Valid.{over, listed, held, refused}
-use Rattle.image.specs.Valid.{each, holderOk, stateOk, maskOk, serialOk, heldOk, listedOk, countsOk, valid, checkAs, check}
+use Rattle.image.specs.Valid.{each, holderOk, stateOk, maskOk, serialOk, heldOk, listedOk, countsOk, formed, authorOk, authorsOk, valid, checkAs, check}
 use Rattle.image.specs.Pass.{holderFits, copyFits, ownerFits}
 use Rattle.image.proofs.Each.{each-at, each-all, lt-or-le}
 use Rattle.image.proofs.Marks.{Marks}
@@ -49,10 +49,15 @@ pub record Clauses (l : List ℕ) : Type 0 where
   pub owners-sound : (o : ℕ) → o < nodes → OwnerSound (serial l o) (state l o) (stamp l o)
   pub copies-sound : (t : ℕ) → t < shape .objects → CopySound (state l) (holder l t) (readers l t) (writers l t)
 
--- an image: its length, and the clauses
+-- object t's author is in order
+abbrev pub Authored : List ℕ → ℕ → Type 0
+Authored l t = T (authorOk (author l t) (authorSerial l t))
+
+-- an image: its length, the clauses, and the authors
 pub record Sound (l : List ℕ) : Type 0 where
   pub size : length l ≡ imageSize shape
   pub clauses : Clauses l
+  pub authors : (t : ℕ) → t < shape .objects → Authored l t
 
 -- ---- one owner
 eq-T : (m n : ℕ) → m ≡ n → T (eqb m n)
@@ -163,8 +168,8 @@ module _ (l : List ℕ) where
   abbrev lists : Bool
   lists = each (shape .objects) (λ t. listedOk (state l) (readers l t) && listedOk (state l) (writers l t))
 
-  pub valid-clauses : T (valid shape l) → Clauses l
-  unfolding valid
+  pub valid-clauses : T (formed shape l) → Clauses l
+  unfolding formed
   valid-clauses v =
       let a = and-left (counts && holders && states && masks && names && holds) lists v in
       let b = and-left (counts && holders && states && masks && names) holds a in
@@ -198,8 +203,8 @@ module _ (l : List ℕ) where
             };
       }
 
-  pub clauses-valid : Clauses l → T (valid shape l)
-  unfolding valid
+  pub clauses-valid : Clauses l → T (formed shape l)
+  unfolding formed
   clauses-valid s =
       let cs = s .copies-sound in
       let a = and-both (eqb (fieldOf objectCount l 0) (shape .objects)) (eqb (fieldOf (ownerCount shape) l 0) nodes)
@@ -224,20 +229,28 @@ module _ (l : List ℕ) where
 
   -- the check's 0 says exactly that the image is sound
   pub check-sound : check l ≡ 0 → Sound l
-  unfolding checkAs
+  unfolding checkAs valid
   check-sound e = by (eqb (length l) (imageSize shape)) refl (valid shape l) refl e
     where
       by : (b : Bool) → eqb (length l) (imageSize shape) ≡ b → (v : Bool) → valid shape l ≡ v
           → _≡_ {A = ℕ} (cond (not b) 1 (cond (not v) 2 0)) 0 → Sound l
       by true p true q h =
-          record { size = eqb→eq (length l) (imageSize shape) (subst T (sym p) tt); clauses = valid-clauses (subst T (sym q) tt) }
+          let w : T (formed shape l && authorsOk shape l) = subst T (sym q) tt in
+          record {
+            size = eqb→eq (length l) (imageSize shape) (subst T (sym p) tt);
+            clauses = valid-clauses (and-left (formed shape l) (authorsOk shape l) w);
+            authors = each-at (λ t. authorOk (author l t) (authorSerial l t)) (shape .objects) (and-right (formed shape l) (authorsOk shape l) w);
+          }
       by true p false q h = absurd (omega arith)
       by false p true q h = absurd (omega arith)
       by false p false q h = absurd (omega arith)
 
   pub sound-check : Sound l → check l ≡ 0
-  unfolding checkAs
-  sound-check s = simp (eq-eqb (length l) (imageSize shape) (s .size), T-true (valid shape l) (clauses-valid (s .clauses)))
+  unfolding checkAs valid
+  sound-check s =
+      let w = and-both (formed shape l) (authorsOk shape l) (clauses-valid (s .clauses))
+      (each-all (λ t. authorOk (author l t) (authorSerial l t)) (shape .objects) (s .authors)) in
+      simp (eq-eqb (length l) (imageSize shape) (s .size), T-true (formed shape l && authorsOk shape l) w)
 
 -- ---- the check's passes
 -- an owner with serial 0 is sound exactly when stamp and state are 0 too
@@ -290,9 +303,9 @@ module _ (states : ℕ → ℕ) (inListed inHeld : ℕ) (in1 : Marks inListed no
 -- all passes together are the clauses
 pub passes : (l : List ℕ) (inListed inHeld : ℕ) → Marks inListed nodes (λ o. eqb (state l o) listed)
     → Marks inHeld nodes (λ o. eqb (state l o) held)
-    → (countsOk shape l && each nodes (ownerFits l) && each (shape .objects) (copyFits inListed inHeld l)) ≡ valid shape l
+    → (countsOk shape l && each nodes (ownerFits l) && each (shape .objects) (copyFits inListed inHeld l)) ≡ formed shape l
 passes l inListed inHeld p q =
-    same-test (C && each nodes (ownerFits l) && each (shape .objects) (copyFits inListed inHeld l)) (valid shape l)
+    same-test (C && each nodes (ownerFits l) && each (shape .objects) (copyFits inListed inHeld l)) (formed shape l)
     (λ t.
     let a = and-left (C && each nodes (ownerFits l)) (each (shape .objects) (copyFits inListed inHeld l)) t in
     let b = and-right (C && each nodes (ownerFits l)) (each (shape .objects) (copyFits inListed inHeld l)) t in

@@ -17,13 +17,13 @@ use Rattle.octets.proofs.Laws.{Bytes}
 use Rattle.image.specs.declared.Field.{Field}
 use Rattle.image.specs.Field.{fieldOf, changed, changedAll}
 use Rattle.image.specs.Layout.{shape, imageSize, objectCount, ownerCount, holderField, readersField, writersField}
-use Rattle.image.specs.Layout.{serialField, stateField, stampField, holder, readers, writers, state}
+use Rattle.image.specs.Layout.{authorField, authorSerialField, serialField, stateField, stampField, holder, readers, writers, state}
 use Rattle.image.specs.Change.{freeing, leaving, free, leave, unlist}
 use Rattle.image.specs.Pass.{struck}
 use Rattle.image.proofs.Lens.{apart, inside, Holds, length-all, bytes-all, all-same, all-more, all-comm, all-apart, all-here}
 use Rattle.image.proofs.Marks.{contains-only}
 use Rattle.image.proofs.Sound.{Sound, CopySound, HolderSound, ListSound, low-bits}
-use Rattle.image.proofs.Keep.{SameOwners, sound-copies, all-owners, list-less}
+use Rattle.image.proofs.Keep.{SameOwners, sound-copies, same-authors, all-owners, list-less}
 
 -- ---- every copy: what is freed
 -- what each field is afterwards
@@ -194,7 +194,7 @@ module _ (l : List ℕ) (o : ℕ) (s : Sound l) where
         holding = subst (HolderSound (state l)) (sym (freed-holder t k)) (freed-sound (state l) o (holder l t) (copy t k .holding));
         reading = subst (ListSound (state l)) (sym (free-apart l o (readersField shape) t tt)) (copy t k .reading);
         writing = subst (ListSound (state l)) (sym (free-apart l o (writersField shape) t tt)) (copy t k .writing);
-      })
+      }) (same-authors l (free l o) (λ t. free-apart l o (authorField shape) t tt) (λ t. free-apart l o (authorSerialField shape) t tt) s)
 
   pub keeps-unlist : Sound (unlist l o)
   keeps-unlist =
@@ -203,6 +203,7 @@ module _ (l : List ℕ) (o : ℕ) (s : Sound l) where
         reading = subst (ListSound (state l)) (sym (left-readers t k)) (list-less (state l) (readers l t) (only o) (copy t k .reading));
         writing = subst (ListSound (state l)) (sym (left-writers t k)) (list-less (state l) (writers l t) (only o) (copy t k .writing));
       })
+      (same-authors l (unlist l o) (λ t. unlist-apart l o (authorField shape) t tt tt) (λ t. unlist-apart l o (authorSerialField shape) t tt tt) s)
 
   -- after free no copy has o as its holder
   pub free-none : o < nodes → (t : ℕ) → t < shape .objects → holder (free l o) t ≡ o → ⊥

@@ -1,4 +1,4 @@
--- The blank image: all zeros but the counts and the holders.
+-- The blank image: all zeros but the counts, the holders and the authors.
 use mathlib.Core.Bool.{cond}
 use mathlib.Core.List.{List}
 use Prim.Native.Nat.{ℕ}
@@ -7,7 +7,7 @@ use lib.ListN.{length, replicate}
 use Rattle.numbers.specs.Sizes.{nodes, nobody}
 use Rattle.numbers.specs.Numbers.{wrongLength}
 use Rattle.image.specs.Field.{withField, changedAll}
-use Rattle.image.specs.Layout.{Shape, shape, imageSize, objectCount, ownerCount, holderField}
+use Rattle.image.specs.Layout.{Shape, shape, imageSize, objectCount, ownerCount, holderField, authorField}
 
 -- l with the counts of a shape
 unfoldable pub counted : Shape → List ℕ → List ℕ
@@ -17,9 +17,13 @@ counted s l = withField (ownerCount s) (withField objectCount l 0 (s .objects)) 
 unfoldable pub unheld : Shape → List ℕ → List ℕ
 unheld s l = changedAll (holderField s) (λ h. nobody) (s .objects) l
 
+-- l with every author nobody
+unfoldable pub unwritten : Shape → List ℕ → List ℕ
+unwritten s l = changedAll (authorField s) (λ a. nobody) (s .objects) l
+
 -- the blank image of a shape
 unfoldable pub blankAs : Shape → List ℕ
-blankAs s = unheld s (counted s (replicate (imageSize s) 0))
+blankAs s = unwritten s (unheld s (counted s (replicate (imageSize s) 0)))
 
 -- bytes made blank; those of another length are left alone, and the number is 1
 unfoldable pub blank : List ℕ → List ℕ

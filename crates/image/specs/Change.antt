@@ -7,7 +7,7 @@ use Rattle.numbers.specs.Sizes.{nobody}
 use Rattle.mask.specs.Mask.{only, joined, minus}
 use Rattle.image.specs.declared.Field.{Field}
 use Rattle.image.specs.Field.{withField, changed, changedAll}
-use Rattle.image.specs.Layout.{shape, valueField, versionField, holderField, readersField, writersField, serialField, stateField, stampField}
+use Rattle.image.specs.Layout.{shape, valueField, versionField, holderField, readersField, writersField, authorField, authorSerialField, serialField, stateField, stampField}
 
 -- ---- one field of object t, or of owner o
 abbrev pub withValue : List ℕ → ℕ → ℕ → List ℕ
@@ -24,6 +24,10 @@ withReaders l t m = withField (readersField shape) l t m
 
 abbrev pub withWriters : List ℕ → ℕ → ℕ → List ℕ
 withWriters l t m = withField (writersField shape) l t m
+
+-- the author: owner o's transaction n
+abbrev pub withAuthor : List ℕ → ℕ → ℕ → ℕ → List ℕ
+withAuthor l t o n = withField (authorSerialField shape) (withField (authorField shape) l t o) t n
 
 abbrev pub withSerial : List ℕ → ℕ → ℕ → List ℕ
 withSerial l o n = withField (serialField shape) l o n

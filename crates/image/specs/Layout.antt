@@ -1,7 +1,10 @@
--- Document 01, 'Message and image': count 64 and the objects' copies (value 8, version 4, holder 1, readers 2, writers 2), then count 13 and the
--- owners (last serial 4, state 1, stamp 4). An image has a shape, the number of objects and the width of a copy; more fields may follow in a copy.
+-- Document 01, 'Message and image': count 64 and the objects' copies (value 8, version 4, holder 1, readers 2, writers 2; by document 02, 2.5, then the author,
+-- who wrote last: owner 1, serial 4), then count 13 and the owners (last serial 4, state 1, stamp 4). An image has a shape, the number of objects and the
+-- width of a copy; an older one has fewer fields in a copy, and more may follow.
+use mathlib.Core.Bool.{Bool}
 use mathlib.Core.List.{List}
 use Prim.Native.Nat.{ℕ, _+_, _*_}
+use lib.Dec.{ltb}
 use Rattle.numbers.specs.Sizes.{nodes, objects}
 use Rattle.image.specs.Field.{fieldOf}
 use Rattle.image.specs.declared.Copy.{Copy}
@@ -12,9 +15,16 @@ pub record Shape : Type 0 where
   pub objects : ℕ
   pub copySize : ℕ
 
--- the shape of the images here: 64 objects (document 01: tallies), 17 bytes each
+-- the shape of the images here: 64 objects (document 01: tallies), 22 bytes each; and the one before authors were kept
 abbrev pub shape : Shape
-shape = record { objects = objects; copySize = 17 }
+shape = record { objects = objects; copySize = 22 }
+
+abbrev pub shape1207 : Shape
+shape1207 = record { objects = 64; copySize = 17 }
+
+-- copies of a shape have their author
+abbrev pub hasAuthor : Shape → Bool
+hasAuthor s = ltb 17 (s .copySize)
 
 -- ---- sizes in bytes; an owner is a node (document 01: controller)
 abbrev pub countSize : ℕ
@@ -66,6 +76,12 @@ readersField s = copyField s 13 2
 abbrev pub writersField : Shape → Field
 writersField s = copyField s 15 2
 
+abbrev pub authorField : Shape → Field
+authorField s = copyField s 17 1
+
+abbrev pub authorSerialField : Shape → Field
+authorSerialField s = copyField s 18 4
+
 abbrev pub ownerCount : Shape → Field
 ownerCount s = countField (ownerCountPlace s)
 
@@ -94,6 +110,13 @@ readers l t = fieldOf (readersField shape) l t
 abbrev pub writers : List ℕ → ℕ → ℕ
 writers l t = fieldOf (writersField shape) l t
 
+-- the author: the owner of the transaction that wrote the copy last, and its serial
+abbrev pub author : List ℕ → ℕ → ℕ
+author l t = fieldOf (authorField shape) l t
+
+abbrev pub authorSerial : List ℕ → ℕ → ℕ
+authorSerial l t = fieldOf (authorSerialField shape) l t
+
 abbrev pub serial : List ℕ → ℕ → ℕ
 serial l o = fieldOf (serialField shape) l o
 
@@ -105,7 +128,16 @@ stamp l o = fieldOf (stampField shape) l o
 
 -- ---- all fields at once; zeros for an object or an owner that is not there
 unfoldable pub copyOf : List ℕ → ℕ → Copy
-copyOf l t = record { value = value l t; version = version l t; holder = holder l t; readers = readers l t; writers = writers l t }
+copyOf l t =
+    record {
+      value = value l t;
+      version = version l t;
+      holder = holder l t;
+      readers = readers l t;
+      writers = writers l t;
+      author = author l t;
+      serial = authorSerial l t;
+    }
 
 unfoldable pub ownerOf : List ℕ → ℕ → Owner
 ownerOf l o = record { serial = serial l o; state = state l o; stamp = stamp l o }

@@ -2,16 +2,16 @@
 -- the copies what proofs/Sound.antt shows to be the clauses. A strike: both lists of one object at once.
 -- A field that is there: what its place asks.
 use mathlib.Core.Path.{_≡_}
-use mathlib.Core.Bool.{Bool, cond, _&&_, _||_}
+use mathlib.Core.Bool.{Bool, cond, not, _&&_, _||_}
 use mathlib.Core.List.{List}
 use Prim.Native.Nat.{ℕ, _+_, _*_, _<_, _≤_}
 use lib.Dec.{eqb, ltb}
-use Rattle.numbers.specs.Sizes.{nodes, nobody}
+use Rattle.numbers.specs.Sizes.{nodes, nobody, unknown}
 use Rattle.mask.specs.Mask.{contains, only, joined, minus, within}
 use Rattle.image.specs.declared.Field.{Field}
 use Rattle.image.specs.declared.Walk.{Walk}
 use Rattle.image.specs.Field.{Near, changed}
-use Rattle.image.specs.Layout.{shape, readersField, writersField, holder, readers, writers, serial, state, stamp}
+use Rattle.image.specs.Layout.{shape, copyField, readersField, writersField, holder, readers, writers, serial, state, stamp}
 use Rattle.image.specs.Valid.{listed, held, each, stateOk, serialOk}
 
 -- the holder is nobody or in the mask
@@ -21,6 +21,17 @@ holderFits inHeld h = eqb h nobody || contains inHeld h
 -- object t's holder and lists are within the masks
 abbrev pub copyFits : ℕ → ℕ → List ℕ → ℕ → Bool
 copyFits inListed inHeld l t = holderFits inHeld (holder l t) && within (joined (readers l t) (writers l t)) inListed
+
+-- an author's owner, and whether its serial is 0
+abbrev pub authorFits : ℕ → Bool → Bool
+authorFits owner none = cond (ltb owner nodes) (not none) ((eqb owner unknown || eqb owner nobody) && none)
+
+-- the two halves of an author's serial
+abbrev pub lowField : Field
+lowField = copyField shape 18 2
+
+abbrev pub highField : Field
+highField = copyField shape 20 2
 
 -- what is asked of owner o alone
 abbrev pub ownerFits : List ℕ → ℕ → Bool

@@ -1,16 +1,16 @@
 -- Which bytes are an image: document 01's sentences, one clause each, in its order. Holders first, whose range is said under 'Bookings'.
-use mathlib.Core.Bool.{Bool, true, not, _&&_, _||_}
+use mathlib.Core.Bool.{Bool, true, cond, not, _&&_, _||_}
 use mathlib.Core.List.{List, [], _∷_}
 use Prim.Native.Nat.{ℕ, zero, suc}
 use lib.Dec.{eqb, ltb, leb}
 use lib.ListN.{length}
-use Rattle.numbers.specs.Sizes.{nodes, everyNode, nobody}
+use Rattle.numbers.specs.Sizes.{nodes, everyNode, nobody, unknown}
 use Rattle.mask.specs.Mask.{contains}
 use Rattle.numbers.specs.Numbers.{wrongLength, damaged}
 use Rattle.numbers.specs.Refusal.{refuse, firstOf}
 use Rattle.image.specs.Field.{fieldOf}
-use Rattle.image.specs.Layout.{Shape, shape, imageSize, objectCount, ownerCount, holderField, readersField, writersField}
-use Rattle.image.specs.Layout.{serialField, stateField, stampField}
+use Rattle.image.specs.Layout.{Shape, shape, hasAuthor, imageSize, objectCount, ownerCount, holderField, readersField, writersField}
+use Rattle.image.specs.Layout.{authorField, authorSerialField, serialField, stateField, stampField}
 
 -- the states of an owner
 abbrev pub over : ℕ
@@ -55,13 +55,18 @@ heldOk states h = eqb h nobody || eqb (states h) held
 abbrev pub listedOk : (ℕ → ℕ) → ℕ → Bool
 listedOk states m = each nodes (λ o. not (contains m o) || eqb (states o) listed)
 
+-- an author is an owner with a serial above 0 (2.5); unknown and nobody have serial 0
+abbrev pub authorOk : ℕ → ℕ → Bool
+authorOk owner serial = cond (ltb owner nodes) (not (eqb serial 0)) ((eqb owner unknown || eqb owner nobody) && eqb serial 0)
+
 -- ---- all of them, of an image of a shape
 -- the counts are the shape's objects and the owners
 abbrev pub countsOk : Shape → List ℕ → Bool
 countsOk s l = eqb (fieldOf objectCount l 0) (s .objects) && eqb (fieldOf (ownerCount s) l 0) nodes
 
-unfoldable pub valid : Shape → List ℕ → Bool
-valid s l =
+-- document 01's clauses
+unfoldable pub formed : Shape → List ℕ → Bool
+formed s l =
     countsOk s l
     && each (s .objects) (λ t. holderOk (fieldOf (holderField s) l t))
     && each nodes (λ o. stateOk (fieldOf (stateField s) l o))
@@ -70,6 +75,13 @@ valid s l =
     && each (s .objects) (λ t. heldOk (fieldOf (stateField s) l) (fieldOf (holderField s) l t))
     && each (s .objects)
     (λ t. listedOk (fieldOf (stateField s) l) (fieldOf (readersField s) l t) && listedOk (fieldOf (stateField s) l) (fieldOf (writersField s) l t))
+
+-- every author is in order, where copies have one
+abbrev pub authorsOk : Shape → List ℕ → Bool
+authorsOk s l = not (hasAuthor s) || each (s .objects) (λ t. authorOk (fieldOf (authorField s) l t) (fieldOf (authorSerialField s) l t))
+
+unfoldable pub valid : Shape → List ℕ → Bool
+valid s l = formed s l && authorsOk s l
 
 -- the number of an image: 1 another length, 2 a clause is broken, 0 neither
 unfoldable pub checkAs : Shape → List ℕ → ℕ

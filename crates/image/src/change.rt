@@ -4,9 +4,10 @@ ghost use Prim.Native.Nat.{_<_};
 ghost use lib.ListN.{length, replicate};
 ghost use Rattle.image.specs.Layout.{shape, imageSize, holderField};
 ghost use Rattle.image.specs.Field.{Near, changed};
-ghost use Rattle.image.specs.Blank.{counted, unheld, blank, blankNumber};
+ghost use Rattle.image.specs.Blank.{counted, unheld, unwritten, blank, blankNumber};
 ghost use Rattle.image.specs.Change.{listing, addReader, addWriter, freeing, free, unlist};
 ghost use Rattle.image.specs.Pass.{struck};
+use crate::AUTHOR;
 use crate::Field;
 use crate::HOLDER;
 use crate::OBJECT_COUNT;
@@ -61,7 +62,18 @@ fn unhold(image: &mut [u8])
     }
 }
 
-// Makes 1,207 bytes the blank image; 1 and nothing altered for another length.
+// Nobody has written a copy.
+fn unwrite(image: &mut [u8])
+    ensures { λ r. ⌜ now (image .exit) ≡ unwritten shape (now (image .entry)) ⌝ }
+{
+    let mut t: u8 = 0;
+    while t < OBJECTS_END {
+        put_u8(image, AUTHOR, t, NOBODY);
+        t = t + 1;
+    }
+}
+
+// Makes 1,527 bytes the blank image; 1 and nothing altered for another length.
 // Ruled out: holders left 0, which is node 0; a byte of the old image kept.
 pub fn blank(image: &mut [u8]) -> u8
     ensures number { λ r. ⌜ r ≡ blankNumber (now (image .entry)) ⌝ }
@@ -73,6 +85,7 @@ pub fn blank(image: &mut [u8]) -> u8
     zero(image);
     count(image);
     unhold(image);
+    unwrite(image);
     0
 }
 

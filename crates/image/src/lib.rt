@@ -15,6 +15,8 @@ use numbers::NODES;
 use numbers::NODES_END;
 use numbers::OBJECTS;
 use numbers::OBJECTS_END;
+pub use read::author;
+pub use read::author_serial;
 pub use read::holder;
 pub use read::owner_of;
 pub use read::readers;
@@ -25,6 +27,7 @@ pub use read::value;
 pub use read::version;
 pub use read::writers;
 pub use verify::check;
+pub use write::set_author;
 pub use write::set_holder;
 pub use write::set_readers;
 pub use write::set_serial;
@@ -41,6 +44,9 @@ pub struct Copy {
     pub holder: u8,
     pub readers: u16,
     pub writers: u16,
+    // Who wrote last: the owner, and the serial of its transaction.
+    pub author: u8,
+    pub serial: u32,
 }
 
 // What is kept of an owner: its last serial, the state of that transaction, and its stamp.
@@ -60,7 +66,7 @@ struct Walk {
 // Sizes in bytes: a count, a copy, an owner.
 const COUNT_SIZE: usize = 1;
 
-const COPY_SIZE: usize = 17;
+const COPY_SIZE: usize = 22;
 
 const OWNER_SIZE: usize = 9;
 
@@ -136,6 +142,39 @@ const WRITERS: Field = Field {
     base: COPIES_PLACE,
     stride: COPY_SIZE,
     offset: 15,
+    width: 2,
+};
+
+const AUTHOR: Field = Field {
+    items: OBJECTS_END,
+    base: COPIES_PLACE,
+    stride: COPY_SIZE,
+    offset: 17,
+    width: 1,
+};
+
+const AUTHOR_SERIAL: Field = Field {
+    items: OBJECTS_END,
+    base: COPIES_PLACE,
+    stride: COPY_SIZE,
+    offset: 18,
+    width: 4,
+};
+
+// The two halves of an author's serial.
+const AUTHOR_LOW: Field = Field {
+    items: OBJECTS_END,
+    base: COPIES_PLACE,
+    stride: COPY_SIZE,
+    offset: 18,
+    width: 2,
+};
+
+const AUTHOR_HIGH: Field = Field {
+    items: OBJECTS_END,
+    base: COPIES_PLACE,
+    stride: COPY_SIZE,
+    offset: 20,
     width: 2,
 };
 

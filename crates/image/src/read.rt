@@ -1,7 +1,9 @@
 // The fields of an image, read in place. An object above 63 or an owner above 12 reads as 0, as do bytes that are not there.
 ghost use mathlib.Core.Path.{_≡_};
 ghost use Rattle.image.specs.Layout.{ownerOf};
-ghost use Rattle.image.specs.Layout.{value, version, holder, readers, writers, serial, state, stamp};
+ghost use Rattle.image.specs.Layout.{value, version, holder, readers, writers, author, authorSerial, serial, state, stamp};
+use crate::AUTHOR;
+use crate::AUTHOR_SERIAL;
 use crate::HOLDER;
 use crate::Owner;
 use crate::READERS;
@@ -45,6 +47,19 @@ pub fn writers(image: &[u8], t: u8) -> u16
     ensures { λ r. ⌜ r ≡ writers (now (image .entry)) t ⌝ }
 {
     get_u16(image, WRITERS, t)
+}
+
+// The author of object t's copy: the owner of the transaction that wrote it last, 254 where that is not known, 255 for none; and its serial.
+pub fn author(image: &[u8], t: u8) -> u8
+    ensures { λ r. ⌜ r ≡ author (now (image .entry)) t ⌝ }
+{
+    get_u8(image, AUTHOR, t)
+}
+
+pub fn author_serial(image: &[u8], t: u8) -> u32
+    ensures { λ r. ⌜ r ≡ authorSerial (now (image .entry)) t ⌝ }
+{
+    get_u32(image, AUTHOR_SERIAL, t)
 }
 
 // Each field of owner o rules out, among others: the same field of the next owner; the field beside it.

@@ -3,8 +3,11 @@ ghost use mathlib.Core.Path.{_≡_};
 ghost use mathlib.Core.Bool.{_&&_};
 ghost use lib.ListN.{length};
 ghost use Rattle.image.specs.Layout.{shape, imageSize};
-ghost use Rattle.image.specs.Valid.{each, countsOk, stateOk, serialOk, valid, check};
-ghost use Rattle.image.specs.Pass.{holderFits, copyFits, marked, Walked};
+ghost use Rattle.image.specs.Valid.{each, countsOk, stateOk, serialOk, authorsOk, valid, check};
+ghost use Rattle.image.specs.Pass.{holderFits, copyFits, authorFits, marked, Walked};
+use crate::AUTHOR;
+use crate::AUTHOR_HIGH;
+use crate::AUTHOR_LOW;
 use crate::HELD;
 use crate::HOLDER;
 use crate::LISTED;
@@ -24,7 +27,9 @@ use crate::read::owner_of;
 use numbers::NOBODY;
 use numbers::NODES_END;
 use numbers::OBJECTS_END;
+use numbers::UNKNOWN;
 use numbers::both;
+use numbers::either;
 
 // The two counts are 64 and 13.
 fn counts_ok(image: &[u8]) -> bool
@@ -106,6 +111,34 @@ fn copies_ok(image: &[u8], listed: u16, held: u16) -> bool
     mask::subset(lists, listed)
 }
 
+// An author is an owner with a serial above 0; unknown and nobody have none.
+fn author_ok(owner: u8, none: bool) -> bool
+    ensures { λ r. ⌜ r ≡ authorFits owner none ⌝ }
+{
+    if owner < NODES_END {
+        return !none;
+    }
+    both(either(owner == UNKNOWN, owner == NOBODY), none)
+}
+
+// Every author is in order: of its serial only whether it is 0 matters, which its halves tell.
+fn authors_ok(image: &[u8]) -> bool
+    requires { ⌜ length (now image) ≡ imageSize shape ⌝ }
+    ensures { λ r. ⌜ r ≡ authorsOk shape (now (image .entry)) ⌝ }
+{
+    let mut t: u8 = 0;
+    while t < OBJECTS_END {
+        let low = here_u16(image, AUTHOR_LOW, t);
+        let high = here_u16(image, AUTHOR_HIGH, t);
+        let none = both(low == 0, high == 0);
+        if !author_ok(here_u8(image, AUTHOR, t), none) {
+            return false;
+        }
+        t = t + 1;
+    }
+    true
+}
+
 // Every clause holds.
 fn is_valid(image: &[u8]) -> bool
     requires { ⌜ length (now image) ≡ imageSize shape ⌝ }
@@ -113,7 +146,8 @@ fn is_valid(image: &[u8]) -> bool
 {
     let w = walk(image);
     let own = both(counts_ok(image), w.ok);
-    both(own, copies_ok(image, w.listed, w.held))
+    let formed = both(own, copies_ok(image, w.listed, w.held));
+    both(formed, authors_ok(image))
 }
 
 // The number of an image: 1 another length, 2 a clause is broken, 0 neither.

@@ -1,6 +1,8 @@
 // The fields of an image, set in place. An object above 63 or an owner above 12 is not there: setting it does nothing.
 ghost use mathlib.Core.Path.{_≡_};
-ghost use Rattle.image.specs.Change.{withValue, withVersion, withHolder, withReaders, withWriters, withSerial, withState, withStamp};
+ghost use Rattle.image.specs.Change.{withValue, withVersion, withHolder, withReaders, withWriters, withAuthor, withSerial, withState, withStamp};
+use crate::AUTHOR;
+use crate::AUTHOR_SERIAL;
 use crate::HOLDER;
 use crate::READERS;
 use crate::SERIAL;
@@ -43,6 +45,14 @@ pub fn set_writers(image: &mut [u8], t: u8, m: u16)
     ensures { λ r. ⌜ now (image .exit) ≡ withWriters (now (image .entry)) t m ⌝ }
 {
     put_u16(image, WRITERS, t, m);
+}
+
+// The author of object t's copy. Ruled out: the writers' last byte altered; the serial of the author before kept.
+pub fn set_author(image: &mut [u8], t: u8, o: u8, n: u32)
+    ensures { λ r. ⌜ now (image .exit) ≡ withAuthor (now (image .entry)) t o n ⌝ }
+{
+    put_u8(image, AUTHOR, t, o);
+    put_u32(image, AUTHOR_SERIAL, t, n);
 }
 
 // Each setter of owner o rules out, among others: the owner after it set too; stamp and serial taken for each other.

@@ -12,6 +12,10 @@ everyNode = 8191
 abbrev pub nobody : ℕ
 nobody = 255
 
+-- an author whom an older image did not keep
+abbrev pub unknown : ℕ
+unknown = 254
+
 -- "Tallies are 0 to 63"
 abbrev pub objects : ℕ
 objects = 64

@@ -16,6 +16,7 @@ pub use sizes::NODES_END;
 pub use sizes::OBJECTS;
 pub use sizes::OBJECTS_END;
 pub use sizes::SHORTEST_MESSAGE;
+pub use sizes::UNKNOWN;
 
 pub const LENGTH: u8 = 1;
 

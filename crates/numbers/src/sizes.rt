@@ -10,6 +10,9 @@ pub const EVERY_NODE: u16 = 8191;
 // Stands where a node could stand and there is none.
 pub const NOBODY: u8 = 255;
 
+// Stands where an author could stand whom an older image did not keep.
+pub const UNKNOWN: u8 = 254;
+
 // The objects (document 01: tallies 0 to 63), and the same as the first number that names none.
 pub const OBJECTS: usize = 64;
 

@@ -10,7 +10,7 @@ use Rattle.mask.proofs.Laws.{within-joined}
 use Rattle.image.specs.Layout.{shape, holder, readers, writers}
 use Rattle.image.specs.Valid.{each}
 use Rattle.image.specs.Pass.{holderFits, copyFits}
-use Rattle.image.proofs.Each.{each-more, each-fails, each-both}
+use Rattle.image.proofs.Each.{each-more, each-fails, each-both, unless, indeed}
 use borrow.Author.Needs.{needs}
 use Rattle.image.proofs.verify.copies_ok.Statement.{statement}
 use Rattle.image.proofs.verify.copies_ok.Tie as tie
@@ -21,15 +21,6 @@ fit held l t = holderFits held (holder l t)
 
 abbrev inside : ℕ → List ℕ → ℕ → Bool
 inside listed l t = within (joined (readers l t) (writers l t)) listed
-
--- what `!` says of a test
-unless : (b : Bool) → not b ≡ true → b ≡ false
-unless true e = sym e
-unless false e = refl
-
-indeed : (b : Bool) → not b ≡ false → b ≡ true
-indeed true e = refl
-indeed false e = sym e
 
 abbrev Inv-loop : tie.InvT-loop
 Inv-loop image listed held lists₀ t₀ lists t =
