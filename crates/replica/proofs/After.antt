@@ -24,7 +24,7 @@ use Rattle.replica.proofs.Delivered.{either-way}
 use Rattle.replica.proofs.Fields.{leftCopy, freedCopy, heldCopy, appliedCopy, listedCopy, restated, ownerWith}
 use Rattle.replica.proofs.Fields.{leaves-copy, owner-copy, released-copy, holding-copy, applied-copy, joins-copy}
 use Rattle.replica.proofs.Fields.{leaves-owner, owner-owner, released-owner, holding-owner, applied-owner, joins-owner}
-use Rattle.replica.proofs.Kept.{keeps-vote, keeps-applied, keeps-entered, or-split}
+use Rattle.replica.proofs.Kept.{keeps-vote, keeps-applied, keeps-decided, keeps-entered, or-split}
 
 -- ---- the step of each kind
 pub step-fetch : (l : List ℕ) (me : ℕ) (m : Message) → m .kind ≡ 1 → step l me m .image ≡ fetchImage l m
@@ -156,20 +156,23 @@ module _ (l : List ℕ) (m : Message) (s : Sound l) (small : m .owner < nodes) (
       let y : eqb (standing l m) 4 ≡ false = ne-eqb (standing l m) 4 (λ e. let w : ⊥ = omega arith in w) in
       simp (z, y)
 
-  decides : wordOf m ≡ 1 → decided l m ≡ applied l (m .entries)
+  abbrev written : List ℕ
+  written = applied l o (m .serial) (m .entries)
+
+  decides : wordOf m ≡ 1 → decided l m ≡ written
   unfolding decided
-  decides e = ap (λ (k : ℕ). cond (eqb k 1) (applied l (m .entries)) l) e
+  decides e = ap (λ (k : ℕ). cond (eqb k 1) written l) e
 
   leaves-all : wordOf m ≡ 0 → decided l m ≡ l
   unfolding decided
-  leaves-all e = ap (λ (k : ℕ). cond (eqb k 1) (applied l (m .entries)) l) e
+  leaves-all e = ap (λ (k : ℕ). cond (eqb k 1) written l) e
 
   pub commit-copy : standing l m ≡ 2 → wordOf m ≡ 1 → Raisable m → (t : ℕ) → t < shape .objects
-      → copyOf (outcomeImage l m) t ≡ freedCopy o (appliedCopy (m .entries) t (copyOf l t))
+      → copyOf (outcomeImage l m) t ≡ freedCopy o (appliedCopy o (m .serial) (m .entries) t (copyOf l t))
   commit-copy h w r t k =
       ap (λ (x : List ℕ). copyOf x t) (settled (omega arith) (omega arith) ∙ ap (λ (x : List ℕ). released x o) (decides w))
-      ∙ released-copy (applied l (m .entries)) (keeps-applied l (m .entries) s) t k o
-      ∙ ap (freedCopy o) (applied-copy t k l (m .entries) (omega (arith, s .size)) (f .entries) r)
+      ∙ released-copy written (keeps-applied o (m .serial) small (omega (arith, f .serial)) here l (m .entries) s) t k o
+      ∙ ap (freedCopy o) (applied-copy t k o (m .serial) (omega arith) (omega (arith, f .serial)) l (m .entries) (omega (arith, s .size)) (f .entries) r)
 
   pub abort-copy : 1 ≤ standing l m → standing l m ≤ 3 → wordOf m ≡ 0 → (t : ℕ) → t < shape .objects
       → copyOf (outcomeImage l m) t ≡ freedCopy o (copyOf l t)
@@ -177,12 +180,11 @@ module _ (l : List ℕ) (m : Message) (s : Sound l) (small : m .owner < nodes) (
       ap (λ (x : List ℕ). copyOf x t) (settled h j ∙ ap (λ (x : List ℕ). released x o) (leaves-all w)) ∙ released-copy l s t k o
 
   pub decided-sound : Sound (decided l m)
-  unfolding decided
-  decided-sound = either-way Sound (eqb (wordOf m) 1) _ _ (keeps-applied l (m .entries) s) s
+  decided-sound = keeps-decided l m small here f s
 
   decided-owner : (p : ℕ) → ownerOf (decided l m) p ≡ ownerOf l p
   unfolding decided
-  decided-owner p = either-way (λ (x : List ℕ). ownerOf x p ≡ ownerOf l p) (eqb (wordOf m) 1) _ _ (applied-owner l p (m .entries)) refl
+  decided-owner p = either-way (λ (x : List ℕ). ownerOf x p ≡ ownerOf l p) (eqb (wordOf m) 1) _ _ (applied-owner l p o (m .serial) (m .entries)) refl
 
   -- of a commit and of an abort
   pub outcome-owner : 1 ≤ standing l m → standing l m ≤ 3 → (p : ℕ) → p < nodes

@@ -21,7 +21,7 @@ use Rattle.replica.specs.Steps.{fetchImage, askImage, decided, outcomeIm
 use Rattle.replica.specs.Receive.{step}
 use Rattle.replica.proofs.Spoken.{false-true}
 use Rattle.replica.proofs.Delivered.{either-way, or-neither}
-use Rattle.replica.proofs.Fields.{writesTo, holderIn, owner-apart, applied-apart, released-copy}
+use Rattle.replica.proofs.Fields.{writesTo, markIn, owner-apart, applied-apart, released-copy}
 use Rattle.replica.proofs.Late.{late-outcome}
 use Rattle.replica.proofs.After.{here-last, fetch-copy, no-copy, yes-copy, early-copy, settled, decided-sound}
 use Rattle.replica.proofs.Taken.{Taken, by-kind, fetch-still, ask-still, outcome-cases}
@@ -70,12 +70,12 @@ module _ (n : List ℕ) (o t h : ℕ) (q : holder n t ≡ h) (ne : h ≡ nobody 
       let r : holder n (e .object) ≡ h = ap (holder n) (sym (eqb-true t (e .object) p)) ∙ q in
       ⊎-elim (λ (z : holder n (e .object) ≡ nobody). absurd (ne (sym r ∙ z))) (λ z. sym z ∙ r) (unbarred (holder n (e .object)) o v)
 
-  kept-in : (es : List Entry) → some (otherHolds n o) es ≡ false → holderIn o es t h ≡ h
-  unfolding some holderIn
+  kept-in : (es : List Entry) → some (otherHolds n o) es ≡ false → markIn o es t h ≡ h
+  unfolding some markIn
   kept-in [] w = refl
   kept-in (e ∷ es) w =
       let u = or-neither (otherHolds n o e) (some (otherHolds n o) es) w in
-      ap (holderIn o es t) (kept-one e (not (eqb (e .mode) 0)) (eqb t (e .object)) refl (u .0)) ∙ kept-in es (u .1)
+      ap (markIn o es t) (kept-one e (not (eqb (e .mode) 0)) (eqb t (e .object)) refl (u .0)) ∙ kept-in es (u .1)
 
 -- whether some entry writes object t
 abbrev pub writesIn : List Entry → ℕ → Bool
@@ -86,8 +86,8 @@ new-one : (b more : Bool) (o h p : ℕ) → ((g : ℕ) → (g ≡ p → ⊥) →
 new-one true more o h p ih ne = ⊎-elim (λ (z : o ≡ p). (sym z, refl)) (λ z. (ih o z refl .0, refl)) (same-or-not o p)
 new-one false more o h p ih ne = ih h ne refl
 
-new-in : (o t p : ℕ) (es : List Entry) (h : ℕ) → holderIn o es t h ≡ p → (h ≡ p → ⊥) → (p ≡ o) × (writesIn es t ≡ true)
-unfolding some holderIn
+new-in : (o t p : ℕ) (es : List Entry) (h : ℕ) → markIn o es t h ≡ p → (h ≡ p → ⊥) → (p ≡ o) × (writesIn es t ≡ true)
+unfolding some markIn
 new-in o t p [] h w ne = absurd (ne w)
 new-in o t p (e ∷ es) h w ne =
     new-one (writesTo e t) (writesIn es t) o h p (λ g z c. new-in o t p es (cond (writesTo e t) o h) w (λ y. z (sym c ∙ y))) ne
@@ -111,7 +111,7 @@ module _ (l : List ℕ) (m : Message) (k : Taken l m) (t : ℕ) (small : t < sha
       by true a = ap (λ (c : Copy). c .holder) (fetch-copy l m (k .sound) (k .owner) (k .serial) (k .stamp) (k .fits) a t small)
       by false a = ap (λ (x : List ℕ). holder x t) (fetch-still l m a)
 
-  yes-holder : active l m ≡ true → votesNo (entered l m) m ≡ false → holder (askImage l m) t ≡ holderIn o (m .entries) t (holder l t)
+  yes-holder : active l m ≡ true → votesNo (entered l m) m ≡ false → holder (askImage l m) t ≡ markIn o (m .entries) t (holder l t)
   unfolding copyOf
   yes-holder a v = ap (λ (c : Copy). c .holder) (yes-copy l m (k .sound) (k .owner) (k .serial) (k .stamp) (k .fits) a v t small)
 
@@ -122,7 +122,7 @@ module _ (l : List ℕ) (m : Message) (k : Taken l m) (t : ℕ) (small : t < sha
   decided-holder : holder (decided l m) t ≡ holder l t
   unfolding decided
   decided-holder =
-      either-way (λ (x : List ℕ). holder x t ≡ holder l t) (eqb (wordOf m) 1) _ _ (applied-apart (holderField shape) t tt tt l (m .entries)) refl
+      either-way (λ (x : List ℕ). holder x t ≡ holder l t) (eqb (wordOf m) 1) _ _ (applied-apart (holderField shape) t tt tt tt tt l o (m .serial) (m .entries)) refl
 
   here-holder : 1 ≤ standing l m → standing l m ≤ 3 → holder (outcomeImage l m) t ≡ freeing o (holder l t)
   unfolding copyOf
@@ -144,7 +144,7 @@ module _ (l : List ℕ) (m : Message) (k : Taken l m) (t : ℕ) (small : t < sha
         by false v x y = ap (λ (n : List ℕ). holder n t) (ask-still l m x) ∙ q
         by true true x y = no-holder x y ∙ q
         by true false x y =
-            yes-holder x y ∙ ap (holderIn o (m .entries) t) q
+            yes-holder x y ∙ ap (markIn o (m .entries) t) q
             ∙ kept-in (entered l m) o t h (entered-holder ∙ q) ne (m .entries) (yes-unheld (entered l m) m y)
 
     outcome-keeps : m .kind ≡ 5 → (o ≡ h → m .serial ≡ serial l h → ⊥) → holder (outcomeImage l m) t ≡ h

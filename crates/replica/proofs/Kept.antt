@@ -3,7 +3,7 @@ use mathlib.Core.Path.{_≡_, refl, sym, ap, subst, _∙_}
 use mathlib.Core.Bool.{Bool, true, false, cond, _||_}
 use mathlib.Core.Logic.{_⊎_, inl, inr, ⊎-elim}
 use mathlib.Core.List.{List, [], _∷_}
-use Prim.Native.Nat.{ℕ, _+_, _≤_, _<_}
+use Prim.Native.Nat.{ℕ, _+_, _^_, _≤_, _<_}
 use native.Mathlib.Omega.{arith}
 use borrow.Author.Tests.{eqb-true, leb-true, ltb-true}
 use lib.Dec.{T, eqb, ltb}
@@ -21,7 +21,7 @@ use Rattle.image.specs.Change.{withOwner, withState, withValue, free, unlist}
 use Rattle.image.proofs.Each.{same-or-not}
 use Rattle.image.proofs.Lens.{of-with, of-with-apart}
 use Rattle.image.proofs.Sound.{Sound, OwnerSound, check-sound, sound-check}
-use Rattle.image.proofs.Keep.{keeps-value, keeps-version, keeps-holder, keeps-reader, keeps-writer}
+use Rattle.image.proofs.Keep.{keeps-value, keeps-version, keeps-holder, keeps-author, keeps-reader, keeps-writer}
 use Rattle.image.proofs.Whole.{bytes-free, free-apart, length-unlist, unlist-apart, keeps-free, keeps-unlist}
 use Rattle.image.proofs.Idle.{Idle, free-unless-held, unlist-unless-listed, idle-by-state, idle-unlisted, idle-released}
 use Rattle.image.proofs.Idle.{unlist-new, keeps-state, keeps-owner, state-of}
@@ -122,14 +122,15 @@ keeps-holding l o (x ∷ es) h s e =
     (keeps-holder l (x .object) s o (inr (h, e)), of-with-apart (holderField shape) (stateField shape) l (x .object) o o tt ∙ e) in
     keeps-holding (holdingOne l o x) o es h (k .0) (k .1)
 
--- a commit: no clause reads values and versions
-pub keeps-applied : (l : List ℕ) (es : List Entry) → Sound l → Sound (applied l es)
-unfolding applied
-keeps-applied l [] s = s
-keeps-applied l (x ∷ es) s =
-    keeps-applied (appliedOne l x) es
-    (either-way Sound (eqb (x .mode) 0) _ _ s
-    (keeps-version (withValue l (x .object) (x .value)) (x .object) (keeps-value l (x .object) s (x .value)) (x .version + 1)))
+-- a commit: no clause reads values and versions, and the author is an owner's transaction
+module _ (o n : ℕ) (small : o < nodes) (fits : n < 2 ^ 32) (named : 1 ≤ n) where
+  pub keeps-applied : (l : List ℕ) (es : List Entry) → Sound l → Sound (applied l o n es)
+  unfolding applied
+  keeps-applied l [] s = s
+  keeps-applied l (x ∷ es) s =
+      keeps-applied (appliedOne l o n x) es (either-way Sound (eqb (x .mode) 0) _ _ s
+      (keeps-author _ (x .object) o n (keeps-version _ (x .object) (keeps-value l (x .object) s (x .value)) (x .version + 1)) small fits
+      (λ e. let z : ⊥ = omega arith in z)))
 
 -- ---- the steps
 pub or-split : (P : Type 0) (a b : Bool) → (a ≡ true → P) → (b ≡ true → P) → (a || b) ≡ true → P
@@ -156,9 +157,10 @@ module _ (l : List ℕ) (m : Message) (s : Sound l) (small : m .owner < nodes) w
       a
 
 -- a commit writes, an abort does not: sound either way
-pub keeps-decided : (l : List ℕ) (m : Message) → Sound l → Sound (decided l m)
+pub keeps-decided : (l : List ℕ) (m : Message) → m .owner < nodes → 1 ≤ m .serial → Fits m → Sound l → Sound (decided l m)
 unfolding decided
-keeps-decided l m s = on-true Sound (eqb (wordOf m) 1) _ _ (λ t. keeps-applied l (m .entries) s) (λ t. s)
+keeps-decided l m small here f s =
+    on-true Sound (eqb (wordOf m) 1) _ _ (λ t. keeps-applied (m .owner) (m .serial) small (omega (arith, f .serial)) here l (m .entries) s) (λ t. s)
 
 module _ (l : List ℕ) (m : Message) (s : Sound l) (small : m .owner < nodes) (here : 1 ≤ m .serial) (at : 1 ≤ m .stamp) (f : Fits m) where
   begun : (st : ℕ) → st ≤ 3 → OwnerSound (m .serial) st (m .stamp)
@@ -211,7 +213,7 @@ module _ (l : List ℕ) (m : Message) (s : Sound l) (small : m .owner < nodes) (
   keeps-outcome =
       either-way Sound (eqb (standing l m) 0) _ _ s
       (on-true Sound (eqb (standing l m) 4) _ _ (λ e. keeps-begun 0 (omega arith) (eqb-true (standing l m) 4 e))
-      (λ e. keeps-release (decided l m) (m .owner) (keeps-decided l m s) small))
+      (λ e. keeps-release (decided l m) (m .owner) (keeps-decided l m small here f s) small))
 
   pub keeps-step : (me : ℕ) → Sound (step l me m .image)
   unfolding step

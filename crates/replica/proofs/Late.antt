@@ -81,7 +81,7 @@ module _ (f : Field) (a : Apart f) (t : ℕ) where
     unfolding outcomeImage decided
     same-abort w =
         let P : List ℕ → Type 0 = λ n. fieldOf f n t ≡ fieldOf f l t in
-        let d : decided l m ≡ l = ap (λ (k : ℕ). cond (eqb k 1) (applied l (m .entries)) l) w in
+        let d : decided l m ≡ l = ap (λ (k : ℕ). cond (eqb k 1) (applied l (m .owner) (m .serial) (m .entries)) l) w in
         either-way P (eqb (standing l m) 0) _ _ refl
         (either-way P (eqb (standing l m) 4) _ _ (owner-apart f t (a .3) (a .4) (a .5) l (m .owner) (m .serial) 0 (m .stamp))
         (released-apart f t (a .0) (a .1) (a .2) (a .4) (decided l m) (m .owner) ∙ ap (λ (n : List ℕ). fieldOf f n t) d))

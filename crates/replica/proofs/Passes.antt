@@ -27,13 +27,14 @@ pub holding-end : (l b : List ℕ) (o i : ℕ) → entryCount b ≤ i → holdin
 unfolding holding
 holding-end l b o i h = ap (holding l o) (rest-end b i h)
 
-pub applied-again : (l b : List ℕ) (i : ℕ) → i < entryCount b → applied l (rest b i) ≡ applied (appliedOne l (entryOf b i)) (rest b (i + 1))
+pub applied-again : (l b : List ℕ) (o n i : ℕ) → i < entryCount b
+    → applied l o n (rest b i) ≡ applied (appliedOne l o n (entryOf b i)) o n (rest b (i + 1))
 unfolding applied
-applied-again l b i h = ap (applied l) (rest-step b i h)
+applied-again l b o n i h = ap (applied l o n) (rest-step b i h)
 
-pub applied-end : (l b : List ℕ) (i : ℕ) → entryCount b ≤ i → applied l (rest b i) ≡ l
+pub applied-end : (l b : List ℕ) (o n i : ℕ) → entryCount b ≤ i → applied l o n (rest b i) ≡ l
 unfolding applied
-applied-end l b i h = ap (applied l) (rest-end b i h)
+applied-end l b o n i h = ap (applied l o n) (rest-end b i h)
 
 -- ---- what holds of every entry holds of the next one, and of those behind it
 and-first : (a b : Bool) → (a && b) ≡ true → (a ≡ true) × (b ≡ true)

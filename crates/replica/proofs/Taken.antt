@@ -59,7 +59,8 @@ clear size l me b e =
 pub clear-is : (size : ℕ) (l : List ℕ) (me : ℕ) (b : List ℕ) → refusal size l me b ≡ 0 → Clear l (decode b)
 clear-is size l me b e =
     let k = cleared size l me b e in
-    (clear size l me b e .0, ltb-true (decode b .owner) nodes (named-of me (decode b) (k .node) (k .formed) .owner))
+    let n = named-of me (decode b) (k .node) (k .formed) in
+    (clear size l me b e .0, ltb-true (decode b .owner) nodes (n .owner), leb-true 1 (decode b .serial) (n .serial))
 
 -- the refusals of `receive` are passed
 pub taken : (size : ℕ) (l : List ℕ) (me : ℕ) (b : List ℕ) → Bytes b → refusal size l me b ≡ 0 → Taken l (decode b)

@@ -3,7 +3,7 @@
 use mathlib.Core.Path.{_≡_}
 use mathlib.Core.Bool.{Bool, true, _||_}
 use mathlib.Core.List.{List}
-use Prim.Native.Nat.{ℕ, _<_}
+use Prim.Native.Nat.{ℕ, _≤_, _<_}
 use lib.Dec.{eqb, ltb}
 use Rattle.numbers.specs.Sizes.{nodes, highest}
 use Rattle.wire.specs.declared.Entry.{Entry}
@@ -29,6 +29,6 @@ raisable e = eqb (e .mode) 0 || ltb (e .version) highest
 abbrev pub Raisable : Message → Type 0
 Raisable m = every raisable (m .entries) ≡ true
 
--- what the steps ask, and a delivery that nothing refuses has: a valid image, and an owner that is one
+-- what the steps ask, and a delivery that nothing refuses has: a valid image, an owner that is one, and a serial from 1 on
 abbrev pub Clear : List ℕ → Message → Type 0
-Clear l m = (check l ≡ 0) × (m .owner < nodes)
+Clear l m = (check l ≡ 0) × (m .owner < nodes) × (1 ≤ m .serial)

@@ -11,7 +11,7 @@ use Rattle.wire.specs.Items.{noEntry}
 use Rattle.letters.specs.Write.{copyOf, voteOf, doneOf}
 use Rattle.image.specs.Layout.{value, version}
 use Rattle.image.specs.Valid.{over, held, refused}
-use Rattle.image.specs.Change.{withValue, withVersion, withHolder, withState, withOwner, addReader, addWriter, free, unlist}
+use Rattle.image.specs.Change.{withValue, withVersion, withHolder, withAuthor, withState, withOwner, addReader, addWriter, free, unlist}
 use Rattle.judge.specs.Standing.{fresh, standing, active, entered}
 use Rattle.judge.specs.Judge.{rivalsOf, votesNo, noSerials, serialsOf}
 
@@ -79,17 +79,19 @@ askAnswer me l m =
     (cond (eqb (standing l m) refused) (says (voteTo me m noSerials 0)) silent))
 
 -- ---- outcome. Late changes nothing. An abort of a fresh serial (document 01: early) makes it last, with its stamp, and over.
--- a commit: each object that the message writes takes the message's value, and the message's version plus 1
-abbrev pub appliedOne : List ℕ → Entry → List ℕ
-appliedOne l e = cond (eqb (e .mode) 0) l (withVersion (withValue l (e .object) (e .value)) (e .object) (e .version + 1))
+-- a commit of owner o's transaction n: each object that the message writes takes the message's value, and the message's version plus 1; its author is the
+-- transaction (2.5), held here or not
+abbrev pub appliedOne : List ℕ → ℕ → ℕ → Entry → List ℕ
+appliedOne l o n e =
+    cond (eqb (e .mode) 0) l (withAuthor (withVersion (withValue l (e .object) (e .value)) (e .object) (e .version + 1)) (e .object) o n)
 
-unfoldable pub applied : List ℕ → List Entry → List ℕ
-applied l [] = l
-applied l (e ∷ es) = applied (appliedOne l e) es
+unfoldable pub applied : List ℕ → ℕ → ℕ → List Entry → List ℕ
+applied l o n [] = l
+applied l o n (e ∷ es) = applied (appliedOne l o n e) o n es
 
 -- a commit has word 1, an abort word 0
 unfoldable pub decided : List ℕ → Message → List ℕ
-decided l m = cond (eqb (wordOf m) 1) (applied l (m .entries)) l
+decided l m = cond (eqb (wordOf m) 1) (applied l (m .owner) (m .serial) (m .entries)) l
 
 -- the owner's copies are free, its list entries are cleared, and it is over
 unfoldable pub released : List ℕ → ℕ → List ℕ

@@ -58,27 +58,31 @@ pub(crate) fn leave(image: &mut [u8], o: u8, state: u8, listed: bool)
     image::set_state(image, o, state);
 }
 
-// The entry's copy takes its value, and its version plus 1, if it is written.
-fn apply_one(image: &mut [u8], e: wire::Entry)
+// The entry's copy takes its value, its version plus 1 and owner o's transaction n as its author, if it is written.
+fn apply_one(image: &mut [u8], o: u8, n: u32, e: wire::Entry)
     requires { ⌜ raisable e ≡ true ⌝ }
-    ensures { λ r. ⌜ now (image .exit) ≡ appliedOne (now (image .entry)) e ⌝ }
+    ensures { λ r. ⌜ now (image .exit) ≡ appliedOne (now (image .entry)) o n e ⌝ }
 {
     if e.mode != 0 {
         image::set_value(image, e.object, e.value);
         image::set_version(image, e.object, e.version + 1);
+        image::set_author(image, e.object, o, n);
     }
 }
 
 // The same of every entry.
 fn apply(image: &mut [u8], message: &[u8])
     requires { ⌜ Raisable (decode (now message)) ⌝ }
-    ensures { λ r. ⌜ now (image .exit) ≡ applied (now (image .entry)) (decode (now (message .entry)) .entries) ⌝ }
+    ensures { λ r. ⌜ now (image .exit) ≡ applied (now (image .entry)) (decode (now (message .entry)) .owner) (decode (now (message .entry)) .serial)
+        (decode (now (message .entry)) .entries) ⌝ }
 {
+    let o = wire::owner(message);
+    let s = wire::serial(message);
     let n = wire::entries(message);
     let mut i: usize = 0;
     while i < n {
         let e = wire::nth_entry(message, i);
-        apply_one(image, e);
+        apply_one(image, o, s, e);
         i = i + 1;
     }
 }

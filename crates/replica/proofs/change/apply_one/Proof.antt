@@ -1,4 +1,4 @@
--- `replica::change::apply_one`: value and version, where the mode is to write.
+-- `replica::change::apply_one`: value, version and author, where the mode is to write.
 use borrow.Author.Tests.{eq-eqb, ne-eqb}
 use native.Mathlib.Omega.{arith}
 use Rattle.replica.proofs.Passes.{raised}
@@ -17,13 +17,18 @@ add-set-version c =
 set-version-requires : tie.Need-set-version-requires
 set-version-requires c κs = search needs
 
+set-author-requires : tie.Need-set-author-requires
+set-author-requires c κs = search needs
+
 same-length : tie.Need-same-length
 same-length c = search needs
 
 returns : tie.Need-returns
 returns c =
-    let v = c .before .before .before .before .before .before .before in
-    simp (ne-eqb _ 0 (v .before .before .if1 .taken)) (rw (c .before .before .set-version .ensures, v .set-value .ensures))
+    let w = c .before .before .before .before .before .before in
+    let v = w .before .before .before .before .before in
+    simp (ne-eqb _ 0 (v .before .before .if1 .taken))
+    (rw (c .before .before .set-author .ensures, w .set-version .ensures, v .set-value .ensures))
 
 returns-2 : tie.Need-returns-2
 returns-2 c = simp (eq-eqb _ 0 (c .if1 .left))
@@ -35,6 +40,7 @@ apply-one-spec =
     set-value-requires
     add-set-version
     set-version-requires
+    set-author-requires
     same-length
     returns
     returns-2)

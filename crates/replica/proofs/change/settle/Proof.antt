@@ -3,6 +3,8 @@ use borrow.Author.Tests.{eq-eqb, ne-eqb}
 use Rattle.wire.specs.Decode.{decode}
 use Rattle.replica.specs.Steps.{decided, outcomeImage}
 use denote.Ref.{now}
+use native.Mathlib.Omega.{arith}
+use Rattle.wire.proofs.Theorems.{decoded-fits}
 use Rattle.image.proofs.Sound.{check-sound, sound-check}
 use Rattle.replica.proofs.Kept.{keeps-decided}
 use borrow.Author.Needs.{needs}
@@ -66,11 +68,13 @@ unfolding decode
 release-requires c κs =
     let c3 = c .before .before .before in
     let c7 = c3 .before .before .before .before in
-    let c12 = c7 .before .before .before .before .before in
+    let c10 = c7 .before .before .before in
+    let c12 = c10 .before .before in
     let p = c12 .pre .1 in
     let l = now (c12 .args .image) in
     let m = decode (now (c12 .args .message)) in
-    (rw (c3 .decide .ensures) (sound-check (decided l m) (keeps-decided l m (check-sound l (p .0)))), rw (c7 .owner .ensures) (p .1))
+    let f = decoded-fits (now (c12 .args .message)) (λ j. omega (arith, c10 .shared-slice-known .given j)) in
+    (rw (c3 .decide .ensures) (sound-check (decided l m) (keeps-decided l m (p .1) (p .2) f (check-sound l (p .0)))), rw (c7 .owner .ensures) (p .1))
 
 same-length-3 : tie.Need-same-length-3
 same-length-3 c = search needs
