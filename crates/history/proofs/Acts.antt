@@ -17,7 +17,7 @@ use Rattle.wire.specs.Message.{Message}
 use Rattle.wire.specs.Formed.{wordOf}
 use Rattle.image.specs.declared.Copy.{Copy}
 use Rattle.image.specs.declared.Owner.{Owner}
-use Rattle.image.specs.Layout.{shape, value, version, holder, serial, state, copyOf, ownerOf}
+use Rattle.image.specs.Layout.{shape, value, version, holder, author, authorSerial, serial, state, copyOf, ownerOf}
 use Rattle.image.specs.Layout.{versionField, valueField}
 use Rattle.image.specs.Change.{freeing}
 use Rattle.image.proofs.Lens.{of-out}
@@ -25,8 +25,8 @@ use Rattle.judge.specs.Standing.{aboveOf, standing, active, entered}
 use Rattle.judge.specs.Judge.{votesNo}
 use Rattle.replica.specs.Steps.{fetchImage, askImage, outcomeImage}
 use Rattle.replica.proofs.Delivered.{entries-of, commit-raises}
-use Rattle.replica.proofs.Fields.{restated, ownerWith, holderIn}
-use Rattle.replica.proofs.Holders.{yes-passes, yes-only-free}
+use Rattle.replica.proofs.Fields.{restated, ownerWith, markIn}
+use Rattle.replica.proofs.Holders.{writesIn, yes-passes, yes-only-free}
 use Rattle.replica.proofs.Commits.{version-rises, commit-writes, commit-others}
 use Rattle.replica.proofs.Kept.{keeps-entered, fresh-state, or-split}
 use Rattle.replica.proofs.Taken.{Taken}
@@ -42,15 +42,16 @@ use Rattle.protocol.specs.Log.{logged}
 use Rattle.protocol.specs.Tree.{tree-free}
 use Rattle.protocol.specs.Proof.Tables.{on, clash, put2-here}
 use Rattle.protocol.specs.Proof.Yes.{first-yes}
+use Rattle.protocol.specs.Refine.Authors.{by}
 use Rattle.protocol.specs.Refine.Holders.{nobody-else}
 use Rattle.protocol.specs.Refine.Growth.{Late, Grows, step-grows, grows-same, grows-then}
 use Rattle.history.specs.Sane.{Sane}
 use Rattle.history.proofs.Quorums.{quorums, rules}
-use Rattle.history.proofs.Sim.{stateOf, holderOf, holders, Match, Sim}
+use Rattle.history.proofs.Sim.{stateOf, holderOf, holders, authorOf, Match, Sim}
 use Rattle.history.proofs.Words.{txIn}
 use Rattle.history.proofs.Rows.{SameCopies, OneOwner, sim-lists, sim-listed, sim-sent, sim-refused, sim-held, sim-applied, sim-dropped, sim-twice}
 use Rattle.history.proofs.Images.{copies-from, holders-from, owner-from, holder-some, holder-none, all-in, small-object, its-entry, written-in, not-in}
-use Rattle.history.proofs.Images.{holder-taken, holder-left, freed-from}
+use Rattle.history.proofs.Images.{mark-taken, mark-left, freed-from, contentOf, same-author, author-out, author-by}
 
 -- ---- standings
 fresh-by : (a b : Bool) (st : ℕ) → st ≤ 3 → cond a (aboveOf st) (cond b st 0) ≡ 4 → a ≡ true
@@ -143,7 +144,7 @@ module _ {s : System} {sane : Sane s} (st : Station) (σ : State ℕ) (log : Lis
   still-listed e = record {
     state' = σ;
     sim' = subst (λ (i : List ℕ). Sim sane (withImage st n i) σ log) (sym (entered-listed l m e))
-        (sim-lists st σ log sim n l (record { versions = λ t. refl; values = λ t. refl }) (λ t. refl) (λ w. refl) (λ w. refl));
+        (sim-lists st σ log sim n l (record { versions = λ t. refl; values = λ t. refl; authors = λ t. refl }) (λ t. refl) (λ w. refl) (λ w. refl));
     grown = grows-same σ;
     same-history = refl;
     same-votes = refl;
@@ -157,8 +158,7 @@ module _ {s : System} {sane : Sane s} (st : Station) (σ : State ℕ) (log : Lis
 
   entered-same : SameCopies l (entered l m)
   entered-same = copies-from l (entered l m)
-      (λ t p. let c = entered-copy l m (k .sound) (k .owner) (k .serial) (k .stamp) (k .fits) t p in
-      (ap (λ (y : Copy). y .value) c, ap (λ (y : Copy). y .version) c))
+      (λ t p. ap contentOf (entered-copy l m (k .sound) (k .owner) (k .serial) (k .stamp) (k .fits) t p))
 
   now-listed : active l m ≡ true → standing l m ≡ 4 → Listing
   now-listed a e =
@@ -191,7 +191,7 @@ module _ {s : System} {sane : Sane s} (st : Station) (σ : State ℕ) (log : Lis
   unmoved P p = record {
     after = σ;
     log-after = log;
-    sim-after = sim-lists st σ log sim n l (record { versions = λ t. refl; values = λ t. refl }) (λ t. refl) (λ w. refl) (λ w. refl);
+    sim-after = sim-lists st σ log sim n l (record { versions = λ t. refl; values = λ t. refl; authors = λ t. refl }) (λ t. refl) (λ w. refl) (λ w. refl);
     grows = grows-same σ;
     history-same = refl;
     told = p;
@@ -226,14 +226,11 @@ module _ {s : System} {sane : Sane s} (st : Station) (σ : State ℕ) (log : Lis
     at-node : st₁ .images n ≡ i₁
     at-node = put-same (st .images) n i₁
 
-    -- an image whose copies are those before, in value and version, against the listed one; and its holders
-    copies-of : (i j : List ℕ) → j ≡ i₁ → ((t : ℕ) → t < shape .objects → (copyOf i t .value ≡ copyOf l t .value) ×
-        (copyOf i t .version ≡ copyOf l t .version))
-        → SameCopies j i
+    -- an image whose copies have the content of those before, against the listed one; and its holders
+    copies-of : (i j : List ℕ) → j ≡ i₁ → ((t : ℕ) → t < shape .objects → contentOf (copyOf i t) ≡ contentOf (copyOf l t)) → SameCopies j i
     copies-of i j e h = copies-from j i (λ t p.
-        let c = h t p in
-        let d = ap (λ (y : List ℕ). copyOf y t) e ∙ entered-copy l m (k .sound) (k .owner) (k .serial) (k .stamp) (k .fits) t p in
-        (c .0 ∙ sym (ap (λ (y : Copy). y .value) d), c .1 ∙ sym (ap (λ (y : Copy). y .version) d)))
+        h t p ∙ sym (ap (λ (y : List ℕ). contentOf (copyOf y t)) e
+        ∙ ap contentOf (entered-copy l m (k .sound) (k .owner) (k .serial) (k .stamp) (k .fits) t p)))
 
     holders-of : (i j : List ℕ) → j ≡ i₁ → ((t : ℕ) → t < shape .objects → copyOf i t .holder ≡ copyOf l t .holder) → (t : ℕ) → holder i t ≡ holder j t
     holders-of i j e h = holders-from j i (λ t p.
@@ -242,8 +239,7 @@ module _ {s : System} {sane : Sane s} (st : Station) (σ : State ℕ) (log : Lis
 
     fetch-view : (j : List ℕ) → j ≡ i₁ → SameCopies j (fetchImage l m)
     fetch-view j e = copies-of (fetchImage l m) j e (λ t p.
-        let c = fetch-copy l m (k .sound) (k .owner) (k .serial) (k .stamp) (k .fits) a t p in
-        (ap (λ (y : Copy). y .value) c, ap (λ (y : Copy). y .version) c))
+        ap contentOf (fetch-copy l m (k .sound) (k .owner) (k .serial) (k .stamp) (k .fits) a t p))
 
     fetch-holders : (j : List ℕ) → j ≡ i₁ → (t : ℕ) → holder (fetchImage l m) t ≡ holder j t
     fetch-holders j e = holders-of (fetchImage l m) j e
@@ -291,8 +287,7 @@ module _ {s : System} {sane : Sane s} (st : Station) (σ : State ℕ) (log : Lis
     -- ---- a vote no
     no-view : (j : List ℕ) → j ≡ i₁ → votesNo i₁ m ≡ true → SameCopies j (askImage l m)
     no-view j e v = copies-of (askImage l m) j e (λ t p.
-        let c = no-copy l m (k .sound) (k .owner) (k .serial) (k .stamp) (k .fits) a v t p in
-        (ap (λ (y : Copy). y .value) c, ap (λ (y : Copy). y .version) c))
+        ap contentOf (no-copy l m (k .sound) (k .owner) (k .serial) (k .stamp) (k .fits) a v t p))
 
     no-holders : (j : List ℕ) → j ≡ i₁ → votesNo i₁ m ≡ true → (t : ℕ) → holder (askImage l m) t ≡ holder j t
     no-holders j e v = holders-of (askImage l m) j e
@@ -381,15 +376,14 @@ module _ {s : System} {sane : Sane s} (st : Station) (σ : State ℕ) (log : Lis
 
       yes-view : (j : List ℕ) → j ≡ i₁ → SameCopies j (askImage l m)
       yes-view j e = copies-of (askImage l m) j e (λ t p.
-          let c = yes-copy l m (k .sound) (k .owner) (k .serial) (k .stamp) (k .fits) a v t p in
-          (ap (λ (y : Copy). y .value) c, ap (λ (y : Copy). y .version) c))
+          ap contentOf (yes-copy l m (k .sound) (k .owner) (k .serial) (k .stamp) (k .fits) a v t p))
 
       -- the holder of an object below 64
-      held-holder : (j : List ℕ) → j ≡ i₁ → (t : ℕ) → t < objects → holder (askImage l m) t ≡ holderIn o (m .entries) t (holder j t)
+      held-holder : (j : List ℕ) → j ≡ i₁ → (t : ℕ) → t < objects → holder (askImage l m) t ≡ markIn o (m .entries) t (holder j t)
       unfolding copyOf
       held-holder j e t p =
           ap (λ (y : Copy). y .holder) (yes-copy l m (k .sound) (k .owner) (k .serial) (k .stamp) (k .fits) a v t p)
-          ∙ ap (holderIn o (m .entries) t) (sym (ap (λ (y : List ℕ). holder y t) e
+          ∙ ap (markIn o (m .entries) t) (sym (ap (λ (y : List ℕ). holder y t) e
           ∙ ap (λ (y : Copy). y .holder) (entered-copy l m (k .sound) (k .owner) (k .serial) (k .stamp) (k .fits) t p)))
 
       -- what is written is held by the owner, all else as it was
@@ -398,13 +392,13 @@ module _ {s : System} {sane : Sane s} (st : Station) (σ : State ℕ) (log : Lis
           let z = its-entry (τ .history .contents x) (m .entries) match' t w in
           let p : t < objects = subst (λ (g : ℕ). g < objects) (z .2) (small-object (m .kind) (m .entries) (entries-of m (k .formed)) (z .0) (z .1)) in
           ap (λ (h : ℕ). cond (ltb t objects) (cond (eqb h nobody) none (some h)) none)
-          (held-holder i₁ refl t p ∙ holder-taken o t (m .entries) (holder i₁ t) (written-in (τ .history .contents x) (m .entries) match' t w))
+          (held-holder i₁ refl t p ∙ mark-taken o t (m .entries) (holder i₁ t) (written-in (τ .history .contents x) (m .entries) match' t w))
           ∙ holder-some t o p (λ q. let y : ⊥ = omega (arith, q, k .owner) in y)
 
       holds-still : (j : List ℕ) → j ≡ i₁ → (t : ℕ) → (Writes (τ .history .contents) x t → ⊥) → holderOf (askImage l m) t ≡ holderOf j t
       holds-still j e t w = on (lt-or-le t objects)
           (λ p. ap (λ (h : ℕ). cond (ltb t objects) (cond (eqb h nobody) none (some h)) none)
-          (held-holder j e t p ∙ holder-left o t (m .entries) (holder j t) (not-in (τ .history .contents x) (m .entries) match' t w)))
+          (held-holder j e t p ∙ mark-left o t (m .entries) (holder j t) (not-in (τ .history .contents x) (m .entries) match' t w)))
           (λ p. let q = le-ltb t objects p in
           ap (λ (b : Bool). cond b (cond (eqb (holder (askImage l m) t) nobody) none (some (holder (askImage l m) t))) none) q
           ∙ sym (ap (λ (b : Bool). cond b (cond (eqb (holder j t) nobody) none (some (holder j t))) none) q))
@@ -485,8 +479,7 @@ module _ {s : System} {sane : Sane s} (st : Station) (σ : State ℕ) (log : Lis
 
     early-sim : Sim sane (withImage st n (outcomeImage l m)) (doDrop σ n x) log
     early-sim = sim-dropped st σ log sim n (outcomeImage l m) x early-drop
-        (copies-from l (outcomeImage l m) (λ t p. let c = early-copy l m (k .sound) (k .owner) (k .serial) (k .stamp) (k .fits) early t p in
-        (ap (λ (y : Copy). y .value) c, ap (λ (y : Copy). y .version) c)))
+        (copies-from l (outcomeImage l m) (λ t p. ap contentOf (early-copy l m (k .sound) (k .owner) (k .serial) (k .stamp) (k .fits) early t p)))
         one-early (freed-from l (outcomeImage l m) o (k .owner) unfreed)
 
     pub dropped-early : Acted (outcomeImage l m) (λ τ l'. (l' ≡ log) × Late (τ .ends) n x)
@@ -520,8 +513,7 @@ module _ {s : System} {sane : Sane s} (st : Station) (σ : State ℕ) (log : Lis
 
       abort-sim : Sim sane (withImage st n (outcomeImage l m)) (doDrop σ n x) log
       abort-sim = sim-dropped st σ log sim n (outcomeImage l m) x here-drop
-          (copies-from l (outcomeImage l m) (λ t p. let c = abort-copy l m (k .sound) (k .owner) (k .serial) (k .stamp) (k .fits) low high word t p in
-          (ap (λ (y : Copy). y .value) c, ap (λ (y : Copy). y .version) c)))
+          (copies-from l (outcomeImage l m) (λ t p. ap contentOf (abort-copy l m (k .sound) (k .owner) (k .serial) (k .stamp) (k .fits) low high word t p)))
           (subst (λ (s : ℕ). OneOwner l (outcomeImage l m) o s 0) (last .0) one-over)
           (freed-from l (outcomeImage l m) o (k .owner)
           (λ t p. ap (λ (y : Copy). y .holder) (abort-copy l m (k .sound) (k .owner) (k .serial) (k .stamp) (k .fits) low high word t p)))
@@ -542,25 +534,52 @@ module _ {s : System} {sane : Sane s} (st : Station) (σ : State ℕ) (log : Lis
       can-apply : CanApply σ n x
       can-apply = record { phase = committed-now; here = held-here is-held }
 
+      -- the author of each copy, by what the entries write
+      signed-now : (t : ℕ) → t < objects
+          → (author (outcomeImage l m) t ≡ markIn o (m .entries) t (author l t))
+          × (authorSerial (outcomeImage l m) t ≡ markIn (m .serial) (m .entries) t (authorSerial l t))
+      unfolding copyOf
+      signed-now t p =
+          let c = commit-copy l m (k .sound) (k .owner) (k .serial) (k .stamp) (k .fits) is-held word (commit-raises m (k .formed) kind) t p in
+          (ap (λ (y : Copy). y .author) c, ap (λ (y : Copy). y .serial) c)
+
+      is-author : (t : ℕ) → t < objects → Writes (σ .history .contents) x t → authorOf (outcomeImage l m) t ≡ by x
+      is-author t p w =
+          let a = signed-now t p in
+          let e = written-in (σ .history .contents x) (m .entries) match t w in
+          author-by (outcomeImage l m) t o (m .serial) p (k .owner) (a .0 ∙ mark-taken o t (m .entries) (author l t) e)
+          (a .1 ∙ mark-taken (m .serial) t (m .entries) (authorSerial l t) e)
+
+      still-author : (t : ℕ) → t < objects → writesIn (m .entries) t ≡ false → authorOf (outcomeImage l m) t ≡ authorOf l t
+      still-author t p e =
+          let a = signed-now t p in
+          same-author l (outcomeImage l m) t (a .0 ∙ mark-left o t (m .entries) (author l t) e)
+          (a .1 ∙ mark-left (m .serial) t (m .entries) (authorSerial l t) e)
+
       now-stored : (t : ℕ) → Writes (σ .history .contents) x t
           → (version (outcomeImage l m) t ≡ suc (σ .history .contents x .version t)) × (value (outcomeImage l m) t ≡ σ .history .contents x .new t)
+          × (authorOf (outcomeImage l m) t ≡ by x)
       now-stored t w =
           let z = its-entry (σ .history .contents x) (m .entries) match t w in
           let c = all-in _ (m .entries) (commit-writes l m k kind is-held word) (z .0) (z .1) (eqb-false (z .0 .mode) 0 (z .3)) in
           let v = match .version-as (z .0) (z .1) in
           let u = match .new-as (z .0) (z .1) (ap (σ .history .contents x .mode) (z .2) ∙ w) in
-          subst (λ (g : ℕ). (version (outcomeImage l m) g ≡ suc (σ .history .contents x .version g)) ×
+          let a = subst (λ (g : ℕ). (version (outcomeImage l m) g ≡ suc (σ .history .contents x .version g)) ×
           (value (outcomeImage l m) g ≡ σ .history .contents x .new g))
-          (z .2) (c .1 ∙ add-one (z .0 .version) ∙ ap suc (sym v), c .0 ∙ sym u)
+          (z .2) (c .1 ∙ add-one (z .0 .version) ∙ ap suc (sym v), c .0 ∙ sym u) in
+          let p : t < objects = subst (λ (g : ℕ). g < objects) (z .2) (small-object (m .kind) (m .entries) (entries-of m (k .formed)) (z .0) (z .1)) in
+          (a .0, a .1, is-author t p w)
 
       still-stored : (t : ℕ) → (Writes (σ .history .contents) x t → ⊥)
           → (version (outcomeImage l m) t ≡ version l t) × (value (outcomeImage l m) t ≡ value l t)
+          × (authorOf (outcomeImage l m) t ≡ authorOf l t)
       still-stored t w = on (lt-or-le t objects)
-          (λ p. let c = commit-others l m k kind is-held word t p (not-in (σ .history .contents x) (m .entries) match t w) in (c .1, c .0))
+          (λ p. let e = not-in (σ .history .contents x) (m .entries) match t w in
+          let c = commit-others l m k kind is-held word t p e in (c .1, c .0, still-author t p e))
           (λ p. (
             of-out (versionField shape) _ t p ∙ sym (of-out (versionField shape) l t p),
-            of-out (valueField shape) _ t p ∙ sym
-                (of-out (valueField shape) l t p),
+            of-out (valueField shape) _ t p ∙ sym (of-out (valueField shape) l t p),
+            author-out (outcomeImage l m) t p ∙ sym (author-out l t p),
           ))
 
       freed-now : (t : ℕ) → t < objects → copyOf (outcomeImage l m) t .holder ≡ freeing o (copyOf l t .holder)

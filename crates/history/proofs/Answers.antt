@@ -19,8 +19,8 @@ use Rattle.wire.specs.Encode.{All, EntryFits, RivalFits, Fits}
 use Rattle.wire.specs.Formed.{wordOf}
 use Rattle.letters.specs.Write.{rivalsBy}
 use Rattle.image.specs.Layout.{shape, valueField, versionField, holderField, readersField, writersField, serialField, stateField, stampField, value}
-use Rattle.image.specs.Layout.{version, serial}
-use Rattle.image.specs.Change.{withOwner, withSerial, withState, withValue, free, unlist}
+use Rattle.image.specs.Layout.{version, authorField, authorSerialField, serial}
+use Rattle.image.specs.Change.{withOwner, withSerial, withState, free, unlist}
 use Rattle.image.proofs.Each.{lt-or-le}
 use Rattle.image.proofs.Lens.{bytes-with, of-small}
 use Rattle.image.proofs.Whole.{bytes-free, bytes-unlist}
@@ -53,14 +53,15 @@ bytes-holding l o [] b = b
 bytes-holding l o (e ∷ es) b =
     bytes-holding (holdingOne l o e) o es (either-way Bytes (eqb (e .mode) 0) _ _ b (bytes-with (holderField shape) l (e .object) o b))
 
-bytes-applied : (l : List ℕ) (es : List Entry) → Bytes l → Bytes (applied l es)
+bytes-applied : (l : List ℕ) (o n : ℕ) (es : List Entry) → Bytes l → Bytes (applied l o n es)
 unfolding applied
-bytes-applied l [] b = b
-bytes-applied l (e ∷ es) b =
-    bytes-applied (appliedOne l e) es
+bytes-applied l o n [] b = b
+bytes-applied l o n (e ∷ es) b =
+    let x = e .object in
+    bytes-applied (appliedOne l o n e) o n es
     (either-way Bytes (eqb (e .mode) 0) _ _ b
-    (bytes-with (versionField shape) (withValue l (e .object) (e .value)) (e .object) (e .version + 1)
-    (bytes-with (valueField shape) l (e .object) (e .value) b)))
+    (bytes-with (authorSerialField shape) _ x n (bytes-with (authorField shape) _ x o
+    (bytes-with (versionField shape) _ x (e .version + 1) (bytes-with (valueField shape) l x (e .value) b)))))
 
 module _ (l : List ℕ) (m : Message) (b : Bytes l) where
   bytes-fetch : Bytes (fetchImage l m)
@@ -84,7 +85,7 @@ module _ (l : List ℕ) (m : Message) (b : Bytes l) where
       either-way Bytes (eqb (standing l m) 0) _ _ b
       (either-way Bytes (eqb (standing l m) 4) _ _ (bytes-owner l o (m .serial) 0 (m .stamp) b)
       (bytes-leaves (free (decided l m) o) o 0
-      (bytes-free (decided l m) o (either-way Bytes (eqb (wordOf m) 1) _ _ (bytes-applied l (m .entries) b) b))))
+      (bytes-free (decided l m) o (either-way Bytes (eqb (wordOf m) 1) _ _ (bytes-applied l o (m .serial) (m .entries) b) b))))
 
   pub bytes-step : (me : ℕ) → Bytes (step l me m .image)
   unfolding step

@@ -20,10 +20,11 @@ use Rattle.protocol.specs.Proof.Tables.{on}
 use Rattle.protocol.specs.Proof.AskAbort.{Forward, committed-asked}
 use Rattle.protocol.specs.Refine.Growth.{Grows, history-same}
 use Rattle.protocol.specs.Refine.Holders.{shown, holders-as-read}
+use Rattle.protocol.specs.Refine.Authors.{authored-as-read, signed, step-authored}
 use Rattle.protocol.specs.Refine.Simulate.{step-kept}
 use Rattle.history.specs.Sane.{Sane}
 use Rattle.history.proofs.Quorums.{rules, top}
-use Rattle.history.proofs.Sim.{tx, WasSent, Owner, Match, Tells, Waits, Read, holders, Sim}
+use Rattle.history.proofs.Sim.{tx, WasSent, Owner, Match, Tells, Waits, Read, holders, authors, Sim}
 
 -- ---- a table changed at one place
 put-by : {A : Type 0} (P : ℕ → A → Type 0) (t : Bool) (f : ℕ → A) (n : ℕ) (v : A) (i : ℕ) → eqb i n ≡ t → P n v → (eqb i n ≡ false → P i (f i))
@@ -93,14 +94,15 @@ waits-on g b (inr z) = inr (record {
 
 -- ---- a step of the station by one transition
 pub by-one : {s : System} {sane : Sane s} {σ σ' : State ℕ} (st st' : Station) (l : List Tx) → Sim sane st σ l → (s : Step (rules sane) σ σ')
-    → Read st' σ' → ((n t : ℕ) → shown s (holders st) n t ≡ holders st' n t)
+    → Read st' σ' → ((n t : ℕ) → shown s (holders st) n t ≡ holders st' n t) → ((n t : ℕ) → signed s (authors st) n t ≡ authors st' n t)
     → ((n : ℕ) → Owner (σ' .history) (σ' .votes) (σ' .sent) n (st' .records n))
     → ((b : List ℕ) → In b (st' .pool) → In b (st .pool) ⊎ Tells (σ' .history) (σ' .votes) (σ' .sent) b)
     → Sim sane st' σ' (logged s l)
-by-one {sane = sane} st st' l sim s r e ow new =
+by-one {sane = sane} {σ' = σ'} st st' l sim s r e f ow new =
     let k = step-kept (top sane) l (holders st) (sim .kept) s in
     record {
       kept = record { inv = k .0 .inv; log = k .0 .log; holders = holders-as-read _ _ _ _ e (k .0 .holders) };
+      authored = authored-as-read _ _ (σ' .store) _ f (step-authored s (authors st) (sim .authored));
       reads = r;
       owners = ow;
       waits = λ b i. on (new b i) (λ j. waits-on (k .1) b (sim .waits b j)) inl;
@@ -118,6 +120,7 @@ pub by-none : {s : System} {sane : Sane s} {σ : State ℕ} (st : Station) (l : 
     → Sim sane (record { images = st .images; records = putAt (st .records) n c; pool = pool; own = own }) σ l
 by-none {σ = σ} st l sim n c pool own ow new = record {
   kept = sim .kept;
+  authored = sim .authored;
   reads = sim .reads;
   owners = put-all (Owner (σ .history) (σ .votes) (σ .sent)) (st .records) n c ow (λ i e. sim .owners i);
   waits = λ b i. on (new b i) (sim .waits b) inl;
@@ -128,4 +131,4 @@ pub by-pool : {s : System} {sane : Sane s} {σ : State ℕ} (st : Station) (l : 
     → ((b : List ℕ) → In b pool → In b (st .pool) ⊎ Tells (σ .history) (σ .votes) (σ .sent) b)
     → Sim sane (record { images = st .images; records = st .records; pool = pool; own = own }) σ l
 by-pool st l sim pool own new =
-    record { kept = sim .kept; reads = sim .reads; owners = sim .owners; waits = λ b i. on (new b i) (sim .waits b) inl }
+    record { kept = sim .kept; authored = sim .authored; reads = sim .reads; owners = sim .owners; waits = λ b i. on (new b i) (sim .waits b) inl }

@@ -29,7 +29,7 @@ use Rattle.protocol.specs.Table.{In, Suffix, times, select}
 use Rattle.protocol.specs.Rules.{unused, write}
 use Rattle.protocol.specs.State.{Tx, Tx-discrete, committed, State}
 use Rattle.protocol.specs.Replay.{replay, given, committed?}
-use Rattle.protocol.specs.Claims.{AllApplied, Claims}
+use Rattle.protocol.specs.Claims.{AllApplied, MeetsAll, Claims}
 use Rattle.protocol.specs.Log.{BaseClaims}
 use Rattle.protocol.specs.Proof.Tables.{on, clash}
 use Rattle.protocol.specs.Proof.Lists.{select-ext, given-ext, replay-ext, in-select, suffix-tail}
@@ -155,22 +155,25 @@ module _ (st : Station) (L : Ledger) (F : Past) (g : Good st L F) where
       done-applied (rules (w .sane)) σ (w .sim .kept .inv) n x p q
       (w .books .dones x n (s x (d .is-told x p) n (d .its-party x p n ∙ q)))
 
-  -- where every participant has applied what was committed, every newest copy has the last value
-  pub applied-newest : AllApplied (σ .votes) (σ .history) → (q : ℕ) → system st .isRead q ≡ true → (n t : ℕ) → Newest st q n t
-      → value (st .images n) t ≡ lastValue L t
-  applied-newest applied q r n t new =
-      sym (w .sim .reads .r-value n t)
-      ∙ core .newest applied (contains q)
-      (λ x p. quorums (w .sane) .meet (contains q) (σ .history .contents x .participants) (of-mask (system st .isRead) q r)
-      (committed-good (rules (w .sane)) σ (w .sim .kept .inv) x p)) n t
-      (λ m j. subst (λ (k : ℕ). k ≤ σ .store .version n t) (sym (w .sim .reads .r-version m t))
-      (subst (λ (k : ℕ). version (st .images m) t ≤ k) (sym (w .sim .reads .r-version n t)) (below m j)))
-      ∙ sym (base .last t) ∙ sym (last-as t)
+  -- a read quorum meets the participants of everything committed, and what is newest in it is so in the abstract state
+  pub read-meets : (q : ℕ) → system st .isRead q ≡ true → MeetsAll (σ .history) (contains q)
+  read-meets q r x p = quorums (w .sane) .meet (contains q) (σ .history .contents x .participants) (of-mask (system st .isRead) q r)
+      (committed-good (rules (w .sane)) σ (w .sim .kept .inv) x p)
+
+  pub newest-there : (q n t : ℕ) → Newest st q n t → Rattle.protocol.specs.Claims.Newest (σ .store) (contains q) n t
+  newest-there q n t new m j = subst (λ (k : ℕ). k ≤ σ .store .version n t) (sym (w .sim .reads .r-version m t))
+      (subst (λ (k : ℕ). version (st .images m) t ≤ k) (sym (w .sim .reads .r-version n t)) (below m j))
     where
       below : (m : ℕ) → contains q m ≡ true → version (st .images m) t ≤ version (st .images n) t
       below m j = on (lt-or-le m nodes) (λ h. new m h j)
           (λ h. subst (λ (k : ℕ). k ≤ version (st .images n) t)
-          (sym (ap (λ (l : List ℕ). version l t) (g .wide .beyond m h) ∙ blank-zero (versionField shape) t tt tt tt)) (omega arith))
+          (sym (ap (λ (l : List ℕ). version l t) (g .wide .beyond m h) ∙ blank-zero (versionField shape) t tt tt tt tt)) (omega arith))
+
+  -- where every participant has applied what was committed, every newest copy has the last value
+  pub applied-newest : AllApplied (σ .votes) (σ .history) → (q : ℕ) → system st .isRead q ≡ true → (n t : ℕ) → Newest st q n t
+      → value (st .images n) t ≡ lastValue L t
+  applied-newest applied q r n t new = sym (w .sim .reads .r-value n t)
+      ∙ core .newest applied (contains q) (read-meets q r) n t (newest-there q n t new) ∙ sym (base .last t) ∙ sym (last-as t)
 
   pub is-newest : Settled L → (q : ℕ) → system st .isRead q ≡ true → (n t : ℕ) → n < nodes → contains q n ≡ true → t < objects → Newest st q n t
       → value (st .images n) t ≡ lastValue L t

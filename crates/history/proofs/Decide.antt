@@ -93,7 +93,7 @@ module _ {s : System} {sane : Sane s} (st : Station) (σ : State ℕ) (l : List 
 
     pub sim-asked : Sim sane (withIt (requested c party) (st .pool)) σ₁ l
     sim-asked = by-one st (withIt (requested c party) (st .pool)) l sim (ask x asked-for can-ask)
-        (reads-still st σ (σ₁ .history) (σ₁ .chain) (sim .reads)) (λ i t. refl)
+        (reads-still st σ (σ₁ .history) (σ₁ .chain) (sim .reads)) (λ i t. refl) (λ i t. refl)
         (owners-after st σ σ₁ l sim n (requested c party) (ask x asked-for can-ask)
         (λ y e. (
           put-else (σ .history .phase) x voting y (λ f. e (ap (λ (u : Tx). u .owner) f)),
@@ -135,7 +135,7 @@ module _ {s : System} {sane : Sane s} (st : Station) (σ : State ℕ) (l : List 
 
     pub sim-aborted : (pool : List (List ℕ)) → ((b : List ℕ) → In b pool → In b (st .pool)) → Sim sane (withIt (endedAborted c) pool) σ₂ l
     sim-aborted pool old = by-one st (withIt (endedAborted c) pool) l sim (abort x can-abort) (reads-still st σ (σ₂ .history) (σ₂ .chain) (sim .reads))
-        (λ i t. refl)
+        (λ i t. refl) (λ i t. refl)
         (owners-after st σ σ₂ l sim n (endedAborted c) (abort x can-abort)
         (λ y e. (put-else (σ .history .phase) x aborted y (λ f. e (ap (λ (u : Tx). u .owner) f)), refl)) owner-aborted)
         (λ b i. inl (old b i))
@@ -174,7 +174,7 @@ module _ {s : System} {sane : Sane s} (st : Station) (σ : State ℕ) (l : List 
 
     pub sim-committed : (pool : List (List ℕ)) → ((b : List ℕ) → In b pool → In b (st .pool)) → Sim sane (withIt decided pool) σ₃ l
     sim-committed pool old = by-one st (withIt decided pool) l sim (commit x can-commit) (reads-still st σ (σ₃ .history) (σ₃ .chain) (sim .reads))
-        (λ i t. refl)
+        (λ i t. refl) (λ i t. refl)
         (owners-after st σ σ₃ l sim n decided (commit x can-commit)
         (λ y e. (put-else (σ .history .phase) x committed y (λ f. e (ap (λ (u : Tx). u .owner) f)), refl)) owner-committed)
         (λ b i. inl (old b i))

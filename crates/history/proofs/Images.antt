@@ -1,5 +1,5 @@
 -- What a replica's step makes of an image, as the rows that a transition changes: from the laws of crate replica, field by field, at every number.
-use mathlib.Core.Path.{_≡_, refl, sym, _∙_, ap, subst}
+use mathlib.Core.Path.{_≡_, refl, sym, _∙_, ap, ap₂, subst}
 use mathlib.Core.Logic.{inl, inr}
 use mathlib.Core.Bool.{Bool, true, false, cond, not, _&&_, _||_}
 use mathlib.Core.List.{List, [], _∷_}
@@ -8,38 +8,76 @@ use Prim.Native.Nat.{ℕ, _<_, _≤_}
 use native.Mathlib.Omega.{arith}
 use lib.Dec.{eqb, ltb}
 use borrow.Author.Tests.{eqb-true, eqb-false, eq-eqb, ne-eqb, lt-ltb, le-ltb, ltb-true}
-use Rattle.numbers.specs.Sizes.{nodes, nobody, objects}
+use Rattle.numbers.specs.Sizes.{nodes, nobody, unknown, objects}
 use Rattle.wire.specs.declared.Entry.{Entry}
 use Rattle.wire.specs.Formed.{every, entryOk}
 use Rattle.wire.specs.Encode.{All}
+use Rattle.image.specs.declared.Copy.{Copy}
 use Rattle.image.specs.declared.Field.{Field}
 use Rattle.image.specs.declared.Owner.{Owner}
 use Rattle.image.specs.Field.{fieldOf}
 use Rattle.image.specs.Layout.{shape, valueField, versionField, holderField, serialField, stateField, value, version, holder, serial, state, copyOf}
-use Rattle.image.specs.Layout.{ownerOf}
+use Rattle.image.specs.Layout.{authorField, authorSerialField, author, authorSerial, ownerOf}
 use Rattle.image.specs.Change.{freeing}
 use Rattle.image.proofs.Each.{lt-or-le}
 use Rattle.image.proofs.Lens.{of-out}
-use Rattle.replica.proofs.Fields.{writesTo, holderIn}
+use Rattle.replica.proofs.Fields.{writesTo, markIn}
 use Rattle.replica.proofs.Holders.{writesIn}
 use Rattle.protocol.specs.Table.{In}
 use Rattle.protocol.specs.Rules.{read, write}
 use Rattle.protocol.specs.State.{Contents}
 use Rattle.protocol.specs.Proof.Tables.{on, clash}
+use Rattle.protocol.specs.Refine.Authors.{unwritten, lost, by}
 use Rattle.history.proofs.Tests.{and-true, or-true}
-use Rattle.history.proofs.Sim.{holderOf, modeOf, Match}
+use Rattle.history.proofs.Sim.{holderOf, tx, signer, authorOf, modeOf, Match}
 use Rattle.history.proofs.Rows.{SameCopies, SameHolders, OneOwner, FreedHolders}
 
 -- a field that is the same at every item is the same at every number: past the items it reads 0
 pub same-field : (f : Field) (l k : List ℕ) → ((t : ℕ) → t < f .items → fieldOf f k t ≡ fieldOf f l t) → (t : ℕ) → fieldOf f k t ≡ fieldOf f l t
 same-field f l k h t = on (lt-or-le t (f .items)) (λ p. h t p) (λ p. of-out f k t p ∙ sym (of-out f l t p))
 
+-- what a commit writes of a copy
+pub record Content : Type 0 where
+  pub value : ℕ
+  pub version : ℕ
+  pub author : ℕ
+  pub serial : ℕ
+
+abbrev pub contentOf : Copy → Content
+contentOf c = record { value = c .value; version = c .version; author = c .author; serial = c .serial }
+
+-- an author whose owner and serial are the same is read the same; one of an object that is not there is nobody
+pub same-author : (l k : List ℕ) (t : ℕ) → author k t ≡ author l t → authorSerial k t ≡ authorSerial l t → authorOf k t ≡ authorOf l t
+same-author l k t e f = ap₂ (λ (a s : ℕ). cond (ltb t objects) (signer a s) unwritten) e f
+
+pub author-out : (l : List ℕ) (t : ℕ) → objects ≤ t → authorOf l t ≡ unwritten
+author-out l t p = rw (le-ltb t objects p)
+
+pub author-none : (l : List ℕ) (t : ℕ) → author l t ≡ nobody → authorOf l t ≡ unwritten
+author-none l t e = go (ltb t objects)
+  where
+    go : (b : Bool) → cond b (signer (author l t) (authorSerial l t)) unwritten ≡ unwritten
+    go true = rw (eq-eqb (author l t) nobody e)
+    go false = refl
+
+pub author-lost : (l : List ℕ) (t : ℕ) → t < objects → author l t ≡ unknown → authorOf l t ≡ lost
+author-lost l t p e = rw (lt-ltb t objects p, e)
+
+pub author-by : (l : List ℕ) (t o s : ℕ) → t < objects → o < nodes → author l t ≡ o → authorSerial l t ≡ s → authorOf l t ≡ by (tx o s)
+author-by l t o s p small e f =
+    rw (lt-ltb t objects p, e, f, ne-eqb o nobody (λ q. let z : ⊥ = omega arith in z), ne-eqb o unknown (λ q. let z : ⊥ = omega arith in z))
+
 module _ (l k : List ℕ) where
-  -- copies whose value and version are the same
-  pub copies-from : ((t : ℕ) → t < shape .objects → (copyOf k t .value ≡ copyOf l t .value) × (copyOf k t .version ≡ copyOf l t .version)) → SameCopies l k
+  -- copies with the same content
+  pub copies-from : ((t : ℕ) → t < shape .objects → contentOf (copyOf k t) ≡ contentOf (copyOf l t)) → SameCopies l k
   unfolding copyOf
   copies-from h =
-      record { versions = same-field (versionField shape) l k (λ t p. h t p .1); values = same-field (valueField shape) l k (λ t p. h t p .0) }
+      record {
+        versions = same-field (versionField shape) l k (λ t p. ap (λ (c : Content). c .version) (h t p));
+        values = same-field (valueField shape) l k (λ t p. ap (λ (c : Content). c .value) (h t p));
+        authors = λ t. same-author l k t (same-field (authorField shape) l k (λ t p. ap (λ (c : Content). c .author) (h t p)) t)
+            (same-field (authorSerialField shape) l k (λ t p. ap (λ (c : Content). c .serial) (h t p)) t);
+      }
 
   pub holders-from : ((t : ℕ) → t < shape .objects → copyOf k t .holder ≡ copyOf l t .holder) → SameHolders l k
   unfolding copyOf
@@ -180,29 +218,29 @@ module _ (k : Contents ℕ) (es : List Entry) (match : Match k es) (t : ℕ) whe
       by true e = absurd (n (in-written e))
       by false e = refl
 
--- who holds an object after a yes
+-- what is marked with o: the holder after a yes, the author after a commit
 abbrev Taking : ℕ → ℕ → List Entry → ℕ → Type 0
-Taking o t es h = (writesIn es t ≡ true → holderIn o es t h ≡ o) × (writesIn es t ≡ false → holderIn o es t h ≡ h)
+Taking o t es h = (writesIn es t ≡ true → markIn o es t h ≡ o) × (writesIn es t ≡ false → markIn o es t h ≡ h)
 
-holder-in : (o t : ℕ) (es : List Entry) (h : ℕ) → Taking o t es h
-unfolding Rattle.judge.specs.Judge.some holderIn
-holder-in o t [] h = ((λ e. absurd (let z : false ≡ true = e in clash (cc))), (λ e. refl))
-holder-in o t (x ∷ es) h = by (writesTo x t) (writesIn es t) refl (holder-in o t es)
+mark-in : (o t : ℕ) (es : List Entry) (h : ℕ) → Taking o t es h
+unfolding Rattle.judge.specs.Judge.some markIn
+mark-in o t [] h = ((λ e. absurd (let z : false ≡ true = e in clash (cc))), (λ e. refl))
+mark-in o t (x ∷ es) h = by (writesTo x t) (writesIn es t) refl (mark-in o t es)
   where
-    at-end : (b : Bool) → writesIn es t ≡ b → Taking o t es o → holderIn o es t o ≡ o
+    at-end : (b : Bool) → writesIn es t ≡ b → Taking o t es o → markIn o es t o ≡ o
     at-end true e r = r .0 e
     at-end false e r = r .1 e
 
     by : (a b : Bool) → writesIn es t ≡ b → ((g : ℕ) → Taking o t es g)
-        → ((a || b) ≡ true → holderIn o es t (cond a o h) ≡ o) × ((a || b) ≡ false → holderIn o es t (cond a o h) ≡ h)
+        → ((a || b) ≡ true → markIn o es t (cond a o h) ≡ o) × ((a || b) ≡ false → markIn o es t (cond a o h) ≡ h)
     by true b e r = ((λ q. at-end b e (r o)), (λ q. absurd (let z : true ≡ false = q in clash (cc))))
     by false b e r = ((λ q. r h .0 (e ∙ q)), (λ q. r h .1 (e ∙ q)))
 
-pub holder-taken : (o t : ℕ) (es : List Entry) (h : ℕ) → writesIn es t ≡ true → holderIn o es t h ≡ o
-holder-taken o t es h = holder-in o t es h .0
+pub mark-taken : (o t : ℕ) (es : List Entry) (h : ℕ) → writesIn es t ≡ true → markIn o es t h ≡ o
+mark-taken o t es h = mark-in o t es h .0
 
-pub holder-left : (o t : ℕ) (es : List Entry) (h : ℕ) → writesIn es t ≡ false → holderIn o es t h ≡ h
-holder-left o t es h = holder-in o t es h .1
+pub mark-left : (o t : ℕ) (es : List Entry) (h : ℕ) → writesIn es t ≡ false → markIn o es t h ≡ h
+mark-left o t es h = mark-in o t es h .1
 
 -- the objects of a message's entries
 pub small-object : (kind : ℕ) (es : List Entry) → every (entryOk kind) es ≡ true → (e : Entry) → In e es → e .object < objects

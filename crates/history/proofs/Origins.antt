@@ -5,7 +5,7 @@ use mathlib.Core.Path.{_≡_, refl, sym, _∙_, ap, subst}
 use mathlib.Core.Logic.{_≢_, _⊎_, inl, inr}
 use mathlib.Core.Bool.{Bool, true, false, cond}
 use mathlib.Core.List.{List, [], _∷_, cons≢nil}
-use mathlib.Core.Option.{none}
+use mathlib.Core.Option.{none, some}
 use Prim.Native.Nat.{ℕ, suc, _<_, _≤_}
 use native.Mathlib.Omega.{arith}
 use lib.Dec.{leb}
@@ -13,9 +13,10 @@ use borrow.Author.Tests.{lt-ltb, le-ltb, le-leb, lt-leb, eq-eqb}
 use Rattle.numbers.specs.Sizes.{nobody, objects, mostOpen}
 use Rattle.mask.specs.Mask.{contains}
 use Rattle.wire.specs.Decode.{fromOf, toOf, ownerOf, serialOf}
-use Rattle.image.specs.Layout.{shape, value, version, holder, serial, state, valueField, versionField, serialField, stateField}
-use Rattle.image.proofs.Blanks.{bytes-blank, blank-zero, blank-sound}
+use Rattle.image.specs.Layout.{shape, value, version, holder, serial, state, valueField, versionField, authorSerialField, serialField, stateField}
+use Rattle.image.proofs.Blanks.{bytes-blank, blank-zero, blank-author, blank-sound}
 use Rattle.image.proofs.Each.{lt-or-le}
+use Rattle.image.proofs.Lens.{of-out}
 use Rattle.image.proofs.Sound.{HolderSound, check-sound, sound-check}
 use Rattle.coordinator.specs.declared.Coordinator.{Coordinator}
 use Rattle.coordinator.specs.State.{idleAfter}
@@ -35,10 +36,12 @@ use Rattle.protocol.specs.Proof.Tables.{on, clash, pick-cases}
 use Rattle.protocol.specs.Proof.Lists.{in-suffix, in-front, suffix-tail, suffix-whole, count-ext, replay-ext, given-at}
 use Rattle.protocol.specs.Refine.Growth.{Late}
 use Rattle.protocol.specs.Refine.Origin.{valuesOf, Brought, origin, values-ext, origin-ok, origin-log}
+use Rattle.protocol.specs.Refine.Authors.{unwritten, lost, by, AuthoredBy, Authored, one-author, names-cases}
 use Rattle.history.specs.Ledger.{Ledger, txOf, in?}
-use Rattle.history.specs.Origin.{Carried, Origin, ofCarried, ledgerOf, ballotsOf, isWriting, writes, writersOf, Rested, blankOrigin}
+use Rattle.history.specs.Origin.{Carried, Origin, ofCarried, ledgerOf, ballotsOf, isWriting, writes, writersOf, AuthorIs, Rested, blankOrigin}
 use Rattle.history.proofs.Quorums.{tree-sane, rules, top, of-mask}
-use Rattle.history.proofs.Sim.{tx, stateOf, holderOf, holders, Owner, Gone, Sim}
+use Rattle.history.proofs.Sim.{tx, stateOf, holderOf, holders, authorOf, authors, Owner, Gone, Sim}
+use Rattle.history.proofs.Images.{author-out, author-none, author-lost, author-by}
 use Rattle.history.proofs.Quiet.{found-blank, no-bit}
 use Rattle.history.proofs.Books.{Decided, Present, Past, World}
 use Rattle.history.proofs.Theorem.{Good}
@@ -249,6 +252,42 @@ module _ (o : Origin) where
     gone b i = let z = r .waits b i in
         record { well = z .well; decided = begun-phase (txOf b) (z .begun); late = λ e. late-at (toOf b) (txOf b) (z .arrives e) }
 
+    -- ---- who wrote each copy
+    is-write : (m : Mode) → isWriting m ≡ true → m ≡ write
+    is-write unused e = absurd (clash (cc))
+    is-write read e = absurd (clash (cc))
+    is-write write e = refl
+
+    wrote-it : (t v : ℕ) (x : Tx) (m : List Tx) → Suffix (x ∷ m) l → writes k x t ≡ true → v ≡ suc (writersOf k m t)
+        → (before .phase x ≡ committed) × (before .contents x .mode t ≡ write) × (v ≡ suc (before .contents x .version t))
+    wrote-it t v x m s e c = let i = inside x m t s in (
+      its-phase x i,
+      ap (λ (y : Contents ℕ). y .mode t) (its-contents x i) ∙ is-write (k .mode x t) e,
+      c ∙ ap suc (sym (version-is x m t s ∙ counts-as m t (suffix-tail x m l s))),
+    )
+
+    no-author : (t v : ℕ) → v ≡ 0 → AuthoredBy before t v unwritten
+    no-author t v e = record { no-version = λ f. e; its-version = λ x f. absurd (clash (cc)) }
+
+    authored : Authored (authors st) store before
+    authored n t = on (lt-or-le t objects) here
+        (λ h. subst (AuthoredBy before t (version (st .images n) t)) (sym (author-out (st .images n) t h)) (no-author t _ (of-out (versionField shape) _ t h)))
+      where
+        v : ℕ
+        v = version (st .images n) t
+
+        here : t < objects → AuthoredBy before t v (authorOf (st .images n) t)
+        here h = on (r .authors n t h) (λ a. on (names-cases (writes k) l t v (r .written n t))
+            (λ z. let b : AuthorIs (st .images n) t none = subst (AuthorIs (st .images n) t) (z .1) a in
+            subst (AuthoredBy before t v) (sym (author-none (st .images n) t (b .0))) (no-author t v (z .0)))
+            (λ z. let x = z .0 in let b : AuthorIs (st .images n) t (some x) = subst (AuthorIs (st .images n) t) (z .5) a in
+            subst (AuthoredBy before t v) (sym (author-by (st .images n) t (x .owner) (x .serial) h (b .0) (b .1) (b .2)))
+            (record { no-version = λ f. absurd (clash (cc)); its-version = λ y f. subst
+                (λ (u : Tx). (before .phase u ≡ committed) × (before .contents u .mode t ≡ write) × (v ≡ suc (before .contents u .version t)))
+                (one-author f) (wrote-it t v x (z .1) (z .2) (z .3) (z .4)) })))
+            (λ e. subst (AuthoredBy before t v) (sym (author-lost (st .images n) t h e))
+            (record { no-version = λ f. absurd (clash (cc)); its-version = λ y f. absurd (clash (cc)) }))
+
     sim : Sim (r .sane) st σ l
     sim = record {
       kept = record {
@@ -259,6 +298,7 @@ module _ (o : Origin) where
           shown-held = λ n t w e. absurd (let f = free n t in clash (cc));
         };
       };
+      authored = authored;
       reads = record { r-version = λ n t. refl; r-value = λ n t. refl; r-last = λ n w. refl; r-state = λ n w. refl };
       owners = owner;
       waits = λ b i. inr (gone b i);
@@ -393,15 +433,16 @@ blank-rested up = record {
   valid = λ n. sound-check _ blank-sound;
   bytes = λ n. bytes-blank;
   beyond = λ n h. refl;
-  all-over = λ n w. blank-zero (stateField shape) w tt tt tt;
-  below = λ n w. subst (λ (s : ℕ). s ≤ 0) (sym (blank-zero (serialField shape) w tt tt tt)) (omega arith);
+  all-over = λ n w. blank-zero (stateField shape) w tt tt tt tt;
+  below = λ n w. subst (λ (s : ℕ). s ≤ 0) (sym (blank-zero (serialField shape) w tt tt tt tt)) (omega arith);
   once = λ x m s. absurd (cons≢nil s);
   begun = λ x i. absurd i;
   write-quorum = λ x i. absurd i;
   late = λ x n i. absurd i;
   stored = λ x m n t s. absurd (cons≢nil s);
-  written = λ n t. subst (λ (s : ℕ). s ≤ 0) (sym (blank-zero (versionField shape) t tt tt tt)) (omega arith);
-  copies = λ n t. blank-zero (valueField shape) t tt tt tt;
+  written = λ n t. subst (λ (s : ℕ). s ≤ 0) (sym (blank-zero (versionField shape) t tt tt tt tt)) (omega arith);
+  copies = λ n t. blank-zero (valueField shape) t tt tt tt tt;
+  authors = λ n t h. inl (blank-author t h, blank-zero (authorSerialField shape) t tt tt tt tt);
   waits = λ b i. absurd i;
   room = omega arith;
 }

@@ -1,24 +1,25 @@
--- At rest nobody holds anything, so every participant has applied what was committed: every newest copy has replay's last value. And what is at rest is
--- an origin again: it carries what replay is fed.
+-- At rest nobody holds anything, so every participant has applied what was committed: every newest copy has replay's last value, and its author is replay's
+-- last writer. And what is at rest is an origin again: it carries what replay is fed.
 use mathlib.Core.Path.{_≡_, refl, sym, _∙_, ap, subst}
-use mathlib.Core.Logic.{inl, inr, by-cases}
-use mathlib.Core.Bool.{true, false, cond}
+use mathlib.Core.Logic.{_≢_, _⊎_, inl, inr, by-cases}
+use mathlib.Core.Bool.{Bool, true, false, cond}
 use mathlib.Core.List.{List, [], _∷_}
-use Prim.Native.Nat.{ℕ, suc, _≤_}
+use mathlib.Core.Option.{Option, none, some}
+use Prim.Native.Nat.{ℕ, suc, _≤_, _<_}
 use native.Mathlib.Decide.{ℕ-discrete}
 use native.Mathlib.Omega.{arith}
-use lib.Dec.{eqb}
+use lib.Dec.{T, eqb, eqb→eq}
 use lib.ListN.{length}
-use borrow.Author.Tests.{eqb-true}
-use Rattle.numbers.specs.Sizes.{nodes, mostWaiting}
+use borrow.Author.Tests.{eqb-true, ne-eqb, le-ltb}
+use Rattle.numbers.specs.Sizes.{nodes, objects, mostWaiting, nobody, unknown}
 use Rattle.mask.specs.Mask.{contains}
 use Rattle.mask.proofs.Laws.{contains-within}
-use Rattle.mask.proofs.Tests.{T-true}
+use Rattle.mask.proofs.Tests.{T-true, and-left, and-right}
 use Rattle.wire.specs.Message.{vote, done}
 use Rattle.wire.specs.Decode.{kindOf, ownerOf}
 use Rattle.wire.specs.Items.{wordOf}
-use Rattle.image.specs.Layout.{shape, value, version, serial, state, stateField}
-use Rattle.image.specs.Valid.{over}
+use Rattle.image.specs.Layout.{shape, value, version, author, authorSerial, serial, state, stateField}
+use Rattle.image.specs.Valid.{over, authorOk}
 use Rattle.image.proofs.Each.{lt-or-le}
 use Rattle.image.proofs.Lens.{of-out}
 use Rattle.image.proofs.Sound.{sound-check}
@@ -30,28 +31,30 @@ use Rattle.steps.specs.Step.{Call}
 use Rattle.protocol.specs.Table.{In, Suffix, AtMostOnce}
 use Rattle.protocol.specs.Rules.{Mode, unused, read, write, Rules}
 use Rattle.protocol.specs.State.{Tx, Tx-discrete, committed, Contents, History, State}
-use Rattle.protocol.specs.Claims.{AllApplied}
+use Rattle.protocol.specs.Claims.{AllApplied, AppliedIn}
 use Rattle.protocol.specs.Invariant.{wrote, committedWrite, count}
 use Rattle.protocol.specs.Log.{fed}
 use Rattle.protocol.specs.Replay.{replay, given, after, committed?}
-use Rattle.protocol.specs.Proof.Core.{committed-good}
+use Rattle.protocol.specs.Proof.Core.{all-applied-in, committed-good}
 use Rattle.protocol.specs.Proof.Tables.{on, clash}
 use Rattle.protocol.specs.Proof.Lists.{in-suffix, suffix-tail, suffix-whole, in-select, select-all, count-ext, replay-ext, given-ext}
 use Rattle.protocol.specs.Refine.Origin.{heldIn, Brought, values-ext}
 use Rattle.protocol.specs.Refine.Rest.{earlier, same-contents, same-wrote, rest-brought}
-use Rattle.history.specs.Ledger.{Ledger, in?, fed as fedBy, turn, givenTo, lastValue, isDone}
+use Rattle.protocol.specs.Refine.Authors.{unwritten, by, namesOf, lastName, names-cases, author-named, newest-by, newest-unwritten}
+use Rattle.history.specs.Ledger.{Ledger, in?, fed as fedBy, turn, givenTo, lastValue, lastWriter, isDone}
 use Rattle.history.specs.Ballots.{isYes}
-use Rattle.history.specs.Origin.{Origin, Carried, ledgerOf, isWriting, writes, writersOf, heldAfter, Spent, Rested, originOf}
+use Rattle.history.specs.Origin.{Origin, Carried, ledgerOf, isWriting, writes, writersOf, heldAfter, writerAfter, AuthorIs, Spent, Rested, originOf}
 use Rattle.history.specs.Claims.{AllTyped, Settled, Newest, reached, told}
 use Rattle.history.proofs.Quorums.{rules, top}
 use Rattle.history.proofs.Tests.{and-true, or-true}
-use Rattle.history.proofs.Sim.{stateOf, waits-well}
+use Rattle.history.proofs.Sim.{tx, stateOf, authorOf, authors, waits-well}
+use Rattle.history.proofs.Images.{author-none, author-by}
 use Rattle.history.proofs.Books.{Past, World}
 use Rattle.history.proofs.Moves.{Behind, Bound}
 use Rattle.history.proofs.InTurn.{InTurn}
 use Rattle.history.proofs.Theorem.{Good}
 use Rattle.history.proofs.Spare.{Spare, spare-next}
-use Rattle.history.proofs.Claimed.{applied-newest, fed-as, always-good}
+use Rattle.history.proofs.Claimed.{read-meets, newest-there, applied-newest, fed-as, always-good}
 use Rattle.history.proofs.Numbered.{always-in-turn, always-room}
 use Rattle.history.proofs.Origins.{is-carried}
 
@@ -74,6 +77,76 @@ pub rest-newest : (o : Origin) → Rested o → (cs : List Call) → AllTyped cs
 rest-newest o r cs a rest q c n t new =
     let g = always-good o r cs a in
     applied-newest _ _ _ g (rest-applied (reached o cs) _ _ (g .world) (always-in-turn o r cs a) rest) q c n t new
+
+-- ---- who wrote last
+-- the author of a copy as it is read, by its owner and serial
+author-cases : (l : List ℕ) (t : ℕ) → t < objects → T (authorOk (author l t) (authorSerial l t))
+    → ((authorOf l t ≡ unwritten) × (author l t ≡ nobody) × (authorSerial l t ≡ 0))
+    ⊎ ((author l t ≡ unknown) ⊎ ((authorOf l t ≡ by (tx (author l t) (authorSerial l t))) × (author l t < nodes)))
+author-cases l t h ok = on (lt-or-le (author l t) nodes)
+    (λ k. inr (inr (author-by l t (author l t) (authorSerial l t) h k refl refl, k)))
+    (λ k. let z = rw (le-ltb (author l t) nodes k) at ok in
+    by-cases (ℕ-discrete (author l t) unknown) (λ e. inr (inl e))
+    (λ e. let y = rw (ne-eqb (author l t) unknown e) at z in
+    let a = eqb→eq (author l t) nobody (and-left (eqb (author l t) nobody) _ y) in
+    inl (author-none l t a, a, eqb→eq (authorSerial l t) 0 (and-right (eqb (author l t) nobody) _ y))))
+
+module _ (st : Station) (L : Ledger) (F : Past) (g : Good st L F) where
+  abbrev D : World st L F
+  D = g .world
+
+  abbrev W : Tx → ℕ → Bool
+  W = wrote (D .state .history)
+
+  abbrev fedThere : List Tx
+  fedThere = fed (D .state) (D .log)
+
+  -- a committed transaction writes what it is told to write
+  told-writes : (x : Tx) (t : ℕ) → D .state .history .phase x ≡ committed → isWriting (L .mode x t) ≡ W x t
+  told-writes x t p = ap isWriting (D .books .decided .its-mode x p t) ∙ by-mode (D .state .history .contents x .mode t)
+      ∙ ap (λ q. committedWrite q (D .state .history .contents x .mode t)) (sym p)
+    where
+      by-mode : (m : Mode) → isWriting m ≡ committedWrite committed m
+      by-mode unused = refl
+      by-mode read = refl
+      by-mode write = refl
+
+  -- in replay as the events tell it and in the abstract state the last writer is the same
+  writer-as : (t : ℕ) → lastWriter L t ≡ lastName W fedThere t
+  unfolding lastWriter
+  writer-as t = ap (λ (m : List Tx). replay none (λ x u a. after (L .mode x u) (some x) a) m t) (fed-as st L F g)
+      ∙ replay-ext none (λ x u a. cond (W x u) (some x) a) (λ x u a. after (L .mode x u) (some x) a) fedThere t
+      (λ x i a. signs (L .mode x t) (some x) a
+      ∙ ap (λ (b : Bool). cond b (some x) a) (told-writes x t (in-select (committed? (D .state .history)) (D .log) x i .1)))
+    where
+      signs : (m : Mode) (x a : Option Tx) → after m x a ≡ cond (isWriting m) x a
+      signs unused x a = refl
+      signs read x a = refl
+      signs write x a = refl
+
+  -- where every participant has applied what was committed, the author of every newest copy, if it is known, is the last writer
+  pub applied-author : AllApplied (D .state .votes) (D .state .history) → (q : ℕ) → system st .isRead q ≡ true → (n t : ℕ) → t < objects → Newest st q n t
+      → author (st .images n) t ≢ unknown → AuthorIs (st .images n) t (lastWriter L t)
+  applied-author applied q r n t small new known = on (author-cases (st .images n) t small (D .valid .images n .0 .authors t small))
+      (λ z. subst (AuthorIs (st .images n) t) (sym (writer-as t ∙ newest-unwritten R (top (D .sane)) (D .state) (D .log) (D .sim .kept .inv)
+      (D .sim .kept .log) (authors st) (D .sim .authored) (contains q) done n t (newest-there st L F g q n t new) (z .0))) (z .1, z .2))
+      (λ y. on y (λ e. absurd (known e))
+      (λ z. subst (AuthorIs (st .images n) t) (sym (writer-as t ∙ newest-by R (top (D .sane)) (D .state) (D .log) (D .sim .kept .inv)
+      (D .sim .kept .log) (authors st) (D .sim .authored) (contains q) done n t (newest-there st L F g q n t new) _ (z .0))) (z .1, refl, refl)))
+    where
+      R : Rules ℕ
+      R = rules (D .sane)
+
+      done : AppliedIn (D .state .votes) (D .state .history) (contains q)
+      done = all-applied-in R (D .state) (D .sim .kept .inv) applied (contains q) (read-meets st L F g q r)
+
+-- THE THEOREM of 2.5: at rest, in every read quorum, whichever nodes are on, the author of every newest copy, if it is known, is replay's last writer
+pub rest-author : (o : Origin) → Rested o → (cs : List Call) → AllTyped cs → Quiescent (reached o cs) → (q : ℕ)
+    → system (reached o cs) .isRead q ≡ true → (n t : ℕ) → t < objects → Newest (reached o cs) q n t → author (reached o cs .images n) t ≢ unknown
+    → AuthorIs (reached o cs .images n) t (lastWriter (told o cs) t)
+rest-author o r cs a rest q c n t small new known =
+    let g = always-good o r cs a in
+    applied-author _ _ _ g (rest-applied (reached o cs) _ _ (g .world) (always-in-turn o r cs a) rest) q c n t small new known
 
 -- ---- what is late or held at a node where all is over, is no later than the last
 behind-most : (l : List ℕ) (o s : ℕ) → Behind l o s → s ≤ serial l o
@@ -141,14 +214,8 @@ module _ (st : Station) (L : Ledger) (F : Past) (g : Good st L F) (t : InTurn st
     its-mode u = w .books .decided .its-mode x p u
 
     writes-as : (u : ℕ) → writes k x u ≡ wrote h' x u
-    writes-as u = ap isWriting (its-mode u) ∙ by (σ .history .contents x .mode u)
-        ∙ ap (λ q. committedWrite q (σ .history .contents x .mode u)) (sym p) ∙ sym (same x u)
+    writes-as u = told-writes st L F g x u p ∙ sym (same x u)
       where
-        by : (m : Mode) → isWriting m ≡ committedWrite committed m
-        by unused = refl
-        by read = refl
-        by write = refl
-
         same : (y : Tx) (v : ℕ) → wrote h' y v ≡ wrote (σ .history) y v
         same = same-wrote R (top (w .sane)) σ (w .log) (w .sim .kept .inv) (w .sim .kept .log)
             over-there
@@ -212,6 +279,24 @@ module _ (st : Station) (L : Ledger) (F : Past) (g : Good st L F) (t : InTurn st
       ∙ sym (values-ext (wrote h') (λ x. h' .contents x .new) 0 (writes k) (k .new) (k .txs) u (version (st .images n) u)
       (λ x i. writes-as x i u) (λ x i. new-as x i u))
 
+  -- each author is the writer of its copy's version
+  names-as : (u v : ℕ) → writerAfter k u v ≡ namesOf (wrote (σ .history)) (fed σ (w .log)) u v
+  names-as u v = values-ext (wrote (σ .history)) (λ x r. some x) none (writes k) (λ x r. some x) (k .txs) u v
+      (λ x i. told-writes st L F g x u (is-committed x i)) (λ x i. refl)
+      ∙ ap (λ (m : List Tx). namesOf (wrote (σ .history)) m u v) same-list
+
+  authored : (n u : ℕ) → u < objects
+      → AuthorIs (st .images n) u (writerAfter k u (version (st .images n) u)) ⊎ (author (st .images n) u ≡ unknown)
+  authored n u small = on (author-cases (st .images n) u small (w .valid .images n .0 .authors u small))
+      (λ z. let e = w .sim .authored n u .no-version (z .0) in inl (subst (AuthorIs (st .images n) u) (sym (none-of (sym (w .sim .reads .r-version n u) ∙ e))) (z .1, z .2)))
+      (λ y. on y inr (λ z. inl (subst (AuthorIs (st .images n) u) (sym (names-as u (version (st .images n) u)
+      ∙ ap (namesOf (wrote (σ .history)) (fed σ (w .log)) u) (sym (w .sim .reads .r-version n u))
+      ∙ author-named R (top (w .sane)) σ (w .log) (w .sim .kept .inv) (w .sim .kept .log) (authors st) (w .sim .authored) n u _ (z .0))) (z .1, refl, refl))))
+    where
+      none-of : version (st .images n) u ≡ 0 → writerAfter k u (version (st .images n) u) ≡ none
+      none-of e = on (names-cases (writes k) (k .txs) u (version (st .images n) u) (written n u)) (λ z. z .1)
+          (λ z. absurd (let f = z .4 in let y : ⊥ = omega (arith, e, f) in y))
+
   pub good-rests : Rested (originOf st L)
   good-rests = record {
     sane = w .sane;
@@ -230,6 +315,7 @@ module _ (st : Station) (L : Ledger) (F : Past) (g : Good st L F) (t : InTurn st
     stored = stored;
     written = written;
     copies = copies;
+    authors = authored;
     waits = spent;
     room = room;
   }

@@ -20,10 +20,11 @@ use Rattle.protocol.specs.Transitions.{Step, list, copy, voteYes, voteNo, apply
 use Rattle.protocol.specs.Log.{logged}
 use Rattle.protocol.specs.Proof.Tables.{on, put2-cases, putRow-cases}
 use Rattle.protocol.specs.Refine.Growth.{step-grows}
+use Rattle.protocol.specs.Refine.Authors.{by, authored-as-read}
 use Rattle.protocol.specs.Refine.Holders.{holders-as-read, holds?, freed}
 use Rattle.history.specs.Sane.{Sane}
 use Rattle.history.proofs.Quorums.{rules}
-use Rattle.history.proofs.Sim.{stateOf, holderOf, holders, Owner, Sim}
+use Rattle.history.proofs.Sim.{stateOf, holderOf, holders, authorOf, authors, Owner, Sim}
 use Rattle.history.proofs.Carry.{onward, owner-on, by-one}
 
 -- ---- one image changed, as rows of tables: f is the table, g what is read off an image
@@ -56,10 +57,11 @@ module _ {X : Type 0} (g : List ℕ → ℕ → X) (f : ℕ → ℕ → X) (imag
       (λ e. reads i j ∙ ap (λ (k : ℕ). g (images k) j) e ∙ sym (else j (λ q. z .0 (e, q)))) (λ e. reads i j))
 
 -- ---- how an image may differ from another
--- the copies are the same; the holders are
+-- the copies are the same in version, value and author; the holders are
 pub record SameCopies (l k : List ℕ) : Type 0 where
   pub versions : (t : ℕ) → version k t ≡ version l t
   pub values : (t : ℕ) → value k t ≡ value l t
+  pub authors : (t : ℕ) → authorOf k t ≡ authorOf l t
 
 abbrev pub SameHolders : List ℕ → List ℕ → Type 0
 SameHolders l k = (t : ℕ) → holder k t ≡ holder l t
@@ -92,6 +94,19 @@ module _ {s : System} {sane : Sane s} (st : Station) (σ : State ℕ) (l : List 
       → (i : ℕ) → Owner (σ' .history) (σ' .votes) (σ' .sent) i (st .records i)
   owners-on s p q i = owner-on (onward (step-grows s)) i (st .records i) (λ r. p _) (λ r. q _) (sim .owners i)
 
+  -- what stays as it was is read as it was
+  versions-same : SameCopies old k → (i j : ℕ) → σ .store .version i j ≡ version (putAt (st .images) n k i) j
+  versions-same a = row-same (λ m t. version m t) _ (st .images) n k (sim .reads .r-version) (a .versions)
+
+  values-same : SameCopies old k → (i j : ℕ) → σ .store .value i j ≡ value (putAt (st .images) n k i) j
+  values-same a = row-same (λ m t. value m t) _ (st .images) n k (sim .reads .r-value) (a .values)
+
+  authors-same : SameCopies old k → (i j : ℕ) → authors st i j ≡ authors next i j
+  authors-same a = row-same (λ m t. authorOf m t) (authors st) (st .images) n k (λ i t. refl) (a .authors)
+
+  holders-same : SameHolders old k → (i j : ℕ) → holders st i j ≡ holders next i j
+  holders-same b = row-same (λ m t. holderOf m t) (holders st) (st .images) n k (λ i t. refl) (holder-as old k b)
+
   -- nothing that is read changes: lists of readers and writers
   pub sim-lists : SameCopies old k → SameHolders old k → ((w : ℕ) → serial k w ≡ serial old w) → ((w : ℕ) → state k w ≡ state old w) → Sim sane next σ l
   sim-lists a b c d =
@@ -100,28 +115,18 @@ module _ {s : System} {sane : Sane s} (st : Station) (σ : State ℕ) (l : List 
         kept = record {
           inv = sim .kept .inv;
           log = sim .kept .log;
-          holders = holders-as-read _ _ _ _
-              (row-same (λ m t. holderOf m t) (holders st) (st .images) n k (λ i t. refl) (holder-as old k b)) (sim .kept .holders);
+          holders = holders-as-read _ _ _ _ (holders-same b) (sim .kept .holders);
         };
+        authored = authored-as-read _ _ (σ .store) _ (authors-same a) (sim .authored);
         reads = record {
-          r-version = row-same (λ m t. version m t) _ (st .images) n k (r .r-version) (a .versions);
-          r-value = row-same (λ m t. value m t) _ (st .images) n k (r .r-value) (a .values);
+          r-version = versions-same a;
+          r-value = values-same a;
           r-last = row-same (λ m t. serial m t) _ (st .images) n k (r .r-last) c;
           r-state = row-same (λ m t. stateOf (state m t)) _ (st .images) n k (r .r-state) (λ j. ap stateOf (d j));
         };
         owners = sim .owners;
         waits = sim .waits;
       }
-
-  -- what stays as it was is read as it was
-  versions-same : SameCopies old k → (i j : ℕ) → σ .store .version i j ≡ version (putAt (st .images) n k i) j
-  versions-same a = row-same (λ m t. version m t) _ (st .images) n k (sim .reads .r-version) (a .versions)
-
-  values-same : SameCopies old k → (i j : ℕ) → σ .store .value i j ≡ value (putAt (st .images) n k i) j
-  values-same a = row-same (λ m t. value m t) _ (st .images) n k (sim .reads .r-value) (a .values)
-
-  holders-same : SameHolders old k → (i j : ℕ) → holders st i j ≡ holders next i j
-  holders-same b = row-same (λ m t. holderOf m t) (holders st) (st .images) n k (λ i t. refl) (holder-as old k b)
 
   -- the serial of owner o, its state
   serial-put : (o s u : ℕ) → OneOwner old k o s u → (i j : ℕ) → put2 ℕ-discrete ℕ-discrete (σ .ends .last) n o s i j ≡ serial (putAt (st .images) n k i) j
@@ -140,14 +145,14 @@ module _ {s : System} {sane : Sane s} (st : Station) (σ : State ℕ) (l : List 
   pub sim-listed : (x : Tx) → CanList σ n x → SameCopies old k → SameHolders old k → OneOwner old k (x .owner) (x .serial) 1 → Sim sane next (doList σ n x) l
   sim-listed x g a b c = by-one st next l sim (list n x g)
       (record { r-version = versions-same a; r-value = values-same a; r-last = serial-put _ _ _ c; r-state = state-put _ _ _ c })
-      (holders-same b) (owners-on (list n x g) (λ y. refl) (λ y. refl)) (λ y i. inl i)
+      (holders-same b) (authors-same a) (owners-on (list n x g) (λ y. refl) (λ y. refl)) (λ y i. inl i)
 
   -- voted no
   pub sim-refused : (x : Tx) → CanNo σ n x → SameCopies old k → SameHolders old k → OneOwner old k (x .owner) (serial old (x .owner)) 3
       → Sim sane next (doNo σ n x) l
   sim-refused x g a b c = by-one st next l sim (voteNo n x g)
       (record { r-version = versions-same a; r-value = values-same a; r-last = serial-kept _ _ c; r-state = state-put _ _ _ c })
-      (holders-same b) (owners-on (voteNo n x g) (λ y. refl) (λ y. refl)) (λ y i. inl i)
+      (holders-same b) (authors-same a) (owners-on (voteNo n x g) (λ y. refl) (λ y. refl)) (λ y i. inl i)
 
   -- voted yes: what is written is held
   pub sim-held : (x : Tx) → (g : CanYes (rules sane) σ n x) → SameCopies old k → OneOwner old k (x .owner) (serial old (x .owner)) 2
@@ -157,7 +162,7 @@ module _ {s : System} {sane : Sane s} (st : Station) (σ : State ℕ) (l : List 
   sim-held x g a c here else = by-one st next l sim (voteYes n x g)
       (record { r-version = versions-same a; r-value = values-same a; r-last = serial-kept _ _ c; r-state = state-put _ _ _ c })
       (row-putRow (λ m t. holderOf m t) (holders st) (st .images) n k (λ i t. refl) (writes? (σ .history .contents x)) (λ t. some (x .owner)) here else)
-      (owners-on (voteYes n x g) (λ y. refl) (λ y. refl)) (λ y i. inl i)
+      (authors-same a) (owners-on (voteYes n x g) (λ y. refl) (λ y. refl)) (λ y i. inl i)
 
   holders-freed : (w : ℕ) → FreedHolders old k w → (i j : ℕ) → freed (holders st) n w i j ≡ holders next i j
   holders-freed w f =
@@ -165,8 +170,9 @@ module _ {s : System} {sane : Sane s} (st : Station) (σ : State ℕ) (l : List 
 
   -- a commit applied
   pub sim-applied : (x : Tx) → CanApply σ n x → OneOwner old k (x .owner) (serial old (x .owner)) 0 → FreedHolders old k (x .owner)
-      → ((t : ℕ) → Writes (σ .history .contents) x t → (version k t ≡ suc (σ .history .contents x .version t)) × (value k t ≡ σ .history .contents x .new t))
-      → ((t : ℕ) → (Writes (σ .history .contents) x t → ⊥) → (version k t ≡ version old t) × (value k t ≡ value old t))
+      → ((t : ℕ) → Writes (σ .history .contents) x t
+      → (version k t ≡ suc (σ .history .contents x .version t)) × (value k t ≡ σ .history .contents x .new t) × (authorOf k t ≡ by x))
+      → ((t : ℕ) → (Writes (σ .history .contents) x t → ⊥) → (version k t ≡ version old t) × (value k t ≡ value old t) × (authorOf k t ≡ authorOf old t))
       → Sim sane next (doApply σ n x) l
   sim-applied x g c f here else = by-one st next l sim (apply n x g)
       (record {
@@ -177,21 +183,24 @@ module _ {s : System} {sane : Sane s} (st : Station) (σ : State ℕ) (l : List 
         r-last = serial-kept _ _ c;
         r-state = state-put _ _ _ c;
       })
-      (holders-freed (x .owner) f) (owners-on (apply n x g) (λ y. refl) (λ y. refl)) (λ y i. inl i)
+      (holders-freed (x .owner) f)
+      (row-putRow (λ m t. authorOf m t) (authors st) (st .images) n k (λ i t. refl) (writes? (σ .history .contents x)) (λ t. by x)
+      (λ t w. here t w .2) (λ t w. else t w .2))
+      (owners-on (apply n x g) (λ y. refl) (λ y. refl)) (λ y i. inl i)
 
   -- an abort taken
   pub sim-dropped : (x : Tx) → CanDrop σ n x → SameCopies old k → OneOwner old k (x .owner) (x .serial) 0 → FreedHolders old k (x .owner) → Sim sane next
       (doDrop σ n x) l
   sim-dropped x g a c f = by-one st next l sim (drop n x g)
       (record { r-version = versions-same a; r-value = values-same a; r-last = serial-put _ _ _ c; r-state = state-put _ _ _ c })
-      (holders-freed (x .owner) f) (owners-on (drop n x g) (λ y. refl) (λ y. refl)) (λ y i. inl i)
+      (holders-freed (x .owner) f) (authors-same a) (owners-on (drop n x g) (λ y. refl) (λ y. refl)) (λ y i. inl i)
 
 -- a copy sent: no image changes
 pub sim-sent : {s : System} {sane : Sane s} (st : Station) (σ : State ℕ) (l : List Tx) → Sim sane st σ l → (n t : ℕ) → Sim sane st (doCopy σ n t) l
 sim-sent {sane = sane} st σ l sim n t =
     let r = sim .reads in
     let s : Step (rules sane) σ (doCopy σ n t) = copy n t in
-    by-one st st l sim s (record { r-version = r .r-version; r-value = r .r-value; r-last = r .r-last; r-state = r .r-state }) (λ i j. refl)
+    by-one st st l sim s (record { r-version = r .r-version; r-value = r .r-value; r-last = r .r-last; r-state = r .r-state }) (λ i j. refl) (λ i j. refl)
     (λ i. owner-on (onward (step-grows s)) i (st .records i) (λ u. refl) (λ u. refl) (sim .owners i)) (λ b i. inl i)
 
 -- ---- an image changed twice at one node

@@ -9,13 +9,13 @@ use Prim.Native.Nat.{ℕ, zero, suc, _<_}
 use native.Mathlib.Omega.{arith}
 use lib.Dec.{eqb, ltb}
 use lib.ListN.{getD}
-use Rattle.numbers.specs.Sizes.{nobody, objects}
+use Rattle.numbers.specs.Sizes.{nobody, unknown, objects}
 use Rattle.mask.specs.Mask.{contains}
 use Rattle.wire.specs.declared.Entry.{Entry}
 use Rattle.wire.specs.Message.{copy, ask, vote, outcome}
 use Rattle.wire.specs.Decode.{kindOf, fromOf, toOf, decode, checkOf}
 use Rattle.wire.specs.Items.{entryOf, wordOf}
-use Rattle.image.specs.Layout.{value, version, holder, serial, state}
+use Rattle.image.specs.Layout.{value, version, holder, author, authorSerial, serial, state}
 use Rattle.coordinator.specs.declared.Object.{Object}
 use Rattle.coordinator.specs.declared.Coordinator.{Coordinator}
 use Rattle.coordinator.specs.System.{System}
@@ -29,6 +29,7 @@ use Rattle.protocol.specs.State.{Ends, Votes, History, State}
 use Rattle.protocol.specs.Proof.Tables.{on}
 use Rattle.protocol.specs.Refine.Growth.{Late}
 use Rattle.protocol.specs.Refine.Holders.{HolderTable}
+use Rattle.protocol.specs.Refine.Authors.{Author, unwritten, lost, by, AuthorTable, Authored}
 use Rattle.protocol.specs.Refine.Simulate.{Kept, Reads}
 use Rattle.history.specs.Ledger.{txOf}
 use Rattle.history.specs.Sane.{Sane}
@@ -47,14 +48,24 @@ holderOf l t = cond (ltb t objects) (cond (eqb (holder l t) nobody) none (some (
 abbrev pub holders : Station → HolderTable
 holders st n t = holderOf (st .images n) t
 
+abbrev pub tx : ℕ → ℕ → Tx
+tx n s = record { owner = n; serial = s }
+
+-- an author of a copy, as its owner and serial are read
+abbrev pub signer : ℕ → ℕ → Author
+signer a s = cond (eqb a nobody) unwritten (cond (eqb a unknown) lost (by (tx a s)))
+
+abbrev pub authorOf : List ℕ → ℕ → Author
+authorOf l t = cond (ltb t objects) (signer (author l t) (authorSerial l t)) unwritten
+
+abbrev pub authors : Station → AuthorTable
+authors st n t = authorOf (st .images n) t
+
 abbrev pub Read : Station → State ℕ → Type 0
 Read st σ =
     Reads σ (λ n t. version (st .images n) t) (λ n t. value (st .images n) t) (λ n w. serial (st .images n) w) (λ n w. stateOf (state (st .images n) w))
 
 -- ---- a record
-abbrev pub tx : ℕ → ℕ → Tx
-tx n s = record { owner = n; serial = s }
-
 pub other-tx : (n i s r : ℕ) → (i ≡ n → ⊥) → tx i s ≡ tx n r → ⊥
 other-tx n i s r e f = e (ap (λ (x : Tx). x .owner) f)
 
@@ -135,6 +146,7 @@ waits-tells σ b x e p q (inr g) = on (g .decided) (λ d. absurd (p (ap (σ .his
 -- ---- all of it, with the log
 pub record Sim {s : System} (sane : Sane s) (st : Station) (σ : State ℕ) (l : List Tx) : Type 0 where
   pub kept : Kept (rules sane) σ l (holders st)
+  pub authored : Authored (authors st) (σ .store) (σ .history)
   pub reads : Read st σ
   pub owners : (n : ℕ) → Owner (σ .history) (σ .votes) (σ .sent) n (st .records n)
   pub waits : (b : List ℕ) → In b (st .pool) → Waits σ b

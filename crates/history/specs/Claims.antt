@@ -1,5 +1,5 @@
 -- What is claimed of every list of steps from an origin that is `Rested`, the blank station being one, whichever nodes are on: demand 3, and the numbers
--- of deliveries. It is said once, of whatever steps an `Account` is of: here the station's own, above it those of the service. A list is newest first, so
+-- of deliveries; and who wrote last. It is said once, of whatever steps an `Account` is of: here the station's own, above it those of the service. A list is newest first, so
 -- the lists that came before are its ends; what is claimed after every list is claimed after every one of those.
 use mathlib.Core.Path.{_≡_}
 use mathlib.Core.Logic.{_≢_, _⊎_}
@@ -9,26 +9,26 @@ use mathlib.Core.List.{List, [], _∷_}
 use mathlib.Core.Option.{Option, none}
 use Prim.Native.Nat.{ℕ, _^_, _≤_, _<_}
 use lib.ListN.{length, getD}
-use Rattle.numbers.specs.Sizes.{nodes, objects, mostWaiting}
+use Rattle.numbers.specs.Sizes.{nodes, objects, mostWaiting, unknown}
 use Rattle.mask.specs.Mask.{contains}
 use Rattle.numbers.specs.Numbers.{outOfTurn, poolFull}
 use Rattle.wire.specs.declared.Entry.{Entry}
 use Rattle.wire.specs.Message.{ask, outcome}
 use Rattle.wire.specs.Decode.{kindOf, decode}
 use Rattle.wire.specs.Items.{wordOf}
-use Rattle.image.specs.Layout.{value, version}
+use Rattle.image.specs.Layout.{value, version, author}
 use Rattle.coordinator.specs.declared.Coordinator.{Coordinator}
 use Rattle.coordinator.specs.State.{idlePhase, committed, objectAt, isOpen, ready}
 use Rattle.coordinator.specs.System.{System}
-use Rattle.steps.specs.Station.{Station, system}
+use Rattle.steps.specs.Station.{Station, system, Quiescent}
 use Rattle.steps.specs.Step.{Call, begin, openRead, openWrite, setValue, found, reselect, requestCommit, abort, send, delivery, drop, switch, step}
 use Rattle.steps.specs.Run.{after, Event, eventOf, trace}
 use Rattle.protocol.specs.Table.{In, Suffix, times}
 use Rattle.protocol.specs.Rules.{unused, read, write}
 use Rattle.protocol.specs.State.{Tx, Tx-discrete}
-use Rattle.history.specs.Ledger.{Ledger, ledgerFrom, txOf, current, fed, givenTo, lastValue}
+use Rattle.history.specs.Ledger.{Ledger, ledgerFrom, txOf, current, fed, givenTo, lastValue, lastWriter}
 use Rattle.history.specs.Ballots.{Ballots, ballotsFrom}
-use Rattle.history.specs.Origin.{Origin, ledgerOf, ballotsOf}
+use Rattle.history.specs.Origin.{Origin, ledgerOf, ballotsOf, AuthorIs}
 
 -- A step's arguments are of their C types: thirteen distances of 16 bits, a timestamp of 32 bits, a value of 64 bits. All others may be any number.
 abbrev pub Distances : List ℕ → Type 0
@@ -78,6 +78,10 @@ Settled L = (x : Tx) → In x (L .committed) → (n : ℕ) → contains (L .part
 -- no node of the mask has a newer copy
 abbrev pub Newest : Station → ℕ → ℕ → ℕ → Type 0
 Newest st q n t = (m : ℕ) → m < nodes → contains q m ≡ true → version (st .images m) t ≤ version (st .images n) t
+
+-- every copy's author is known
+abbrev pub Known : Station → Type 0
+Known st = (n t : ℕ) → author (st .images n) t ≢ unknown
 
 -- a transaction is ripe: votes were asked for it, a yes of it from every participant was delivered to its owner while on, and nothing spoilt it since
 pub record Ripe (L : Ledger) (B : Ballots) (x : Tx) : Type 0 where
@@ -166,6 +170,16 @@ module _ {C : Type 0} (A : Account C) where
     pub none-waits : (k : ℕ) (kept : Bool) → length (A .reached cs .pool) ≤ k → A .number cs (A .deliver k kept) ≡ outOfTurn
     pub one-waits : (k : ℕ) (kept : Bool) → k < length (A .reached cs .pool)
         → (A .number cs (A .deliver k kept) ≡ 0) ⊎ Crowded (A .reached cs .pool) kept (A .number cs (A .deliver k kept)) (A .put cs (A .deliver k false))
+
+  -- Who wrote last (document 02, 2.5). No step makes an author unknown. And at rest, in every read quorum, whichever nodes are on, every newest copy has
+  -- replay's last value, and its author, unless it is unknown, is replay's last writer: nobody exactly where the object has none.
+  pub record LastWriters (cs : List C) : Type 0 where
+    pub known : Known (A .reached []) → Known (A .reached cs)
+    pub newest-value : Quiescent (A .reached cs) → (q : ℕ) → system (A .reached cs) .isRead q ≡ true → (n t : ℕ) → n < nodes → contains q n ≡ true
+        → t < objects → Newest (A .reached cs) q n t → value (A .reached cs .images n) t ≡ A .last cs t
+    pub newest-author : Quiescent (A .reached cs) → (q : ℕ) → system (A .reached cs) .isRead q ≡ true → (n t : ℕ) → n < nodes → contains q n ≡ true
+        → t < objects → Newest (A .reached cs) q n t → author (A .reached cs .images n) t ≢ unknown
+        → AuthorIs (A .reached cs .images n) t (lastWriter (A .told cs) t)
 
 -- ---- the station's own steps
 module _ (o : Origin) where

@@ -215,3 +215,7 @@ givenTo L x t = given Tx-discrete 0 (turn L) x (fed L) t
 
 unfoldable pub lastValue : Ledger → ℕ → ℕ
 lastValue L t = replay 0 (turn L) (fed L) t
+
+-- its last writer of an object (document 02, 2.5), none at first: each transaction in its turn signs what it writes
+unfoldable pub lastWriter : Ledger → ℕ → Option Tx
+lastWriter L t = replay none (λ x u a. after (L .mode x u) (some x) a) (fed L) t

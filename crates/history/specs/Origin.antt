@@ -2,14 +2,16 @@
 -- leaves at rest is another (`rests`, proofs/Resting). So whatever is claimed of lists of steps is claimed of those that go on from there.
 use mathlib.Core.Path.{_≡_}
 use mathlib.Core.Bool.{Bool, true, false, _||_}
+use mathlib.Core.Logic.{_⊎_}
 use mathlib.Core.List.{List, [], _∷_}
-use Prim.Native.Nat.{ℕ, _≤_}
+use mathlib.Core.Option.{Option, none, some}
+use Prim.Native.Nat.{ℕ, _≤_, _<_}
 use lib.ListN.{length}
-use Rattle.numbers.specs.Sizes.{nodes, mostWaiting}
+use Rattle.numbers.specs.Sizes.{nodes, objects, mostWaiting, nobody, unknown}
 use Rattle.mask.specs.Mask.{contains}
 use Rattle.octets.proofs.Laws.{Bytes}
 use Rattle.wire.specs.Decode.{kindOf, fromOf, toOf, ownerOf, serialOf, stampOf, checkOf}
-use Rattle.image.specs.Layout.{shape, value, version, serial, state}
+use Rattle.image.specs.Layout.{shape, value, version, author, authorSerial, serial, state}
 use Rattle.image.specs.Valid.{over, check}
 use Rattle.image.specs.Blank.{blankAs}
 use Rattle.coordinator.specs.State.{idlePhase}
@@ -82,6 +84,15 @@ writersOf k l t = count (writes k) l t
 abbrev pub heldAfter : Carried → ℕ → ℕ → ℕ
 heldAfter k t v = valuesOf (writes k) (k .new) 0 (k .txs) t v
 
+-- the last of them; none of the first 0
+abbrev pub writerAfter : Carried → ℕ → ℕ → Option Tx
+writerAfter k t v = valuesOf (writes k) (λ x u. some x) none (k .txs) t v
+
+-- the author of a copy is a node's transaction, or nobody
+abbrev pub AuthorIs : List ℕ → ℕ → Option Tx → Type 0
+AuthorIs l t none = (author l t ≡ nobody) × (authorSerial l t ≡ 0)
+AuthorIs l t (some x) = (x .owner < nodes) × (author l t ≡ x .owner) × (authorSerial l t ≡ x .serial)
+
 -- ---- at rest
 -- A message may wait still. It is of its owner's last transaction or an earlier one, and of the last one has the timestamp; that transaction is late
 -- at the replica that it is for, and where it is a yes or a done, at the node that said it.
@@ -118,6 +129,9 @@ pub record Rested (o : Origin) : Type 0 where
   -- each copy is what its writers up to its version left
   pub written : (n t : ℕ) → version (o .station .images n) t ≤ writersOf (o .carried) (o .carried .txs) t
   pub copies : (n t : ℕ) → value (o .station .images n) t ≡ heldAfter (o .carried) t (version (o .station .images n) t)
+  -- and its author is the last of these, or unknown: it was written before authors were kept
+  pub authors : (n t : ℕ) → t < objects
+      → AuthorIs (o .station .images n) t (writerAfter (o .carried) t (version (o .station .images n) t)) ⊎ (author (o .station .images n) t ≡ unknown)
   -- what waits is spent, and there is room for it
   pub waits : (b : List ℕ) → In b (o .station .pool) → Spent (o .station) b
   pub room : length (o .station .pool) ≤ mostWaiting

@@ -2,7 +2,7 @@
 -- of an origin takes `valuesOf` (Origin).
 -- Growth: what never goes back. Messages: what a sent message tells stays true. Holders: the images' holders. Simulate: all of it for one
 -- transition, and a state read from bytes. Origin: a state at rest that brings committed transactions along. Rest: what a run leaves at rest is
--- one. Refill: 2.10's swapped memory. Convert: 2.9's conversion at rest.
+-- one. Authors: who wrote each copy last. Refill: 2.10's swapped memory. Convert: 2.9's conversion at rest.
 pub mod Growth
 pub mod Messages
 pub mod Holders
@@ -11,3 +11,4 @@ pub mod Refill
 pub mod Convert
 pub mod Origin
 pub mod Rest
+pub mod Authors

@@ -87,6 +87,16 @@ module _ {A : Type 0} (w : Tx → Object → Bool) (new : Tx → Object → A) (
   values-end m (x ∷ l) o i (inr s) le =
       let c = count-suffix w m l o s in values-more x l o i (omega (arith, c, le)) ∙ values-end m l o i s le
 
+  -- what a writer wrote stands behind those before it
+  pub values-at : (x : Tx) (m l : List Tx) (o : Object) → Suffix (x ∷ m) l → w x o ≡ true → valuesOf w new z l o (suc (count w m o)) ≡ new x o
+  unfolding valuesOf
+  values-at x m l o q v = values-end (x ∷ m) l o (suc (count w m o)) q (let c = ap (λ (t : Bool). cond t (suc (count w m o)) (count w m o)) v in omega (arith, c))
+      ∙ ap (λ (t : Bool). cond t (pick (ℕ-discrete (suc (count w m o)) (suc (count w m o))) (new x o) rest) rest) v
+      ∙ on (pick-cases (ℕ-discrete (suc (count w m o)) (suc (count w m o))) (new x o) rest) (λ y. y .1) (λ y. absurd (y .0 refl))
+    where
+      rest : A
+      rest = valuesOf w new z m o (suc (count w m o))
+
   -- the last of them is what is held after all turns
   pub values-last : (l : List Tx) (o : Object) → valuesOf w new z l o (count w l o) ≡ replay z (λ x t a. cond (w x t) (new x t) a) l o
   unfolding valuesOf
@@ -183,17 +193,10 @@ module _ {A : Type 0} (R : Rules A) (s : Store A) (e : Ends) (h : History A) (b 
   -- what a writer wrote stands behind what it found
   writer-entry : (x : Tx) (m : List Tx) (o : Object) → Suffix (x ∷ m) l → w x o ≡ true
       → (suc (count w m o) ≤ count w l o) × (h .contents x .new o ≡ valuesOf w new (R .blank) l o (suc (count w m o)))
-  unfolding valuesOf
   writer-entry x m o q v =
       let c : count w (x ∷ m) o ≡ suc (count w m o) = ap (λ (t : Bool). cond t (suc (count w m o)) (count w m o)) v in
       let d = count-suffix w (x ∷ m) l o q in
-      (omega (arith, c, d), sym (values-end w new (R .blank) (x ∷ m) l o (suc (count w m o)) q (omega (arith, c)) ∙ here))
-    where
-      here : valuesOf w new (R .blank) (x ∷ m) o (suc (count w m o)) ≡ h .contents x .new o
-      here = ap (λ (t : Bool). cond t (pick (ℕ-discrete (suc (count w m o)) (suc (count w m o))) (h .contents x .new o)
-          (valuesOf w new (R .blank) m o (suc (count w m o)))) (valuesOf w new (R .blank) m o (suc (count w m o)))) v
-          ∙ on (pick-cases (ℕ-discrete (suc (count w m o)) (suc (count w m o))) (h .contents x .new o)
-          (valuesOf w new (R .blank) m o (suc (count w m o)))) (λ y. y .1) (λ y. absurd (y .0 refl))
+      (omega (arith, c, d), sym (values-at w new (R .blank) x m l o q v))
 
   pub origin-ok : Inv R (origin R s e h)
   origin-ok = record {

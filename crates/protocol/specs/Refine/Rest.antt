@@ -26,7 +26,7 @@ at-most-or-above zero b = inl (omega arith)
 at-most-or-above (suc a) zero = inr (omega arith)
 at-most-or-above (suc a) (suc b) = on (at-most-or-above a b) (λ q. inl (omega (arith, q))) (λ q. inr (omega (arith, q)))
 
-below : (v c : ℕ) → (v ≡ suc c → ⊥) → v ≤ suc c → v ≤ c
+pub below : (v c : ℕ) → (v ≡ suc c → ⊥) → v ≤ suc c → v ≤ c
 below v c n le = on (at-most-or-above v c) (λ q. q) (λ q. absurd (n (omega (arith, q, le))))
 
 -- only the committed ones keep their contents; nobody else will commit
