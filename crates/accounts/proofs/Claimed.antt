@@ -1,26 +1,29 @@
--- Demand 3, the numbers of deliveries and the sums of every list of the service's steps, from an origin that is at rest: the claims with replay as the
+-- Demand 3, the numbers of deliveries, who wrote last and the sums of every list of the service's steps, from an origin that is at rest: the claims with replay as the
 -- machine has it (OnMachine), where replay that adds is the same (Effects). The blank service is an origin, and so is what a list leaves at rest.
 use mathlib.Core.Path.{_≡_, refl, sym, subst, _∙_}
-use mathlib.Core.Logic.{inl, inr}
+use mathlib.Core.Logic.{_≢_, inl, inr}
 use mathlib.Core.List.{List, []}
 use Prim.Native.Nat.{ℕ}
 use native.Mathlib.Omega.{arith}
+use Rattle.numbers.specs.Sizes.{unknown}
 use Rattle.parts.specs.Parts.{part}
 use Rattle.wire.specs.declared.Entry.{Entry}
+use Rattle.image.specs.Layout.{value, author}
 use Rattle.settings.proofs.Sound.{blank-number}
 use Rattle.steps.specs.Station.{Station, Quiescent}
 use Rattle.protocol.specs.Table.{In, Suffix}
 use Rattle.protocol.specs.State.{Tx}
 use Rattle.protocol.specs.Proof.Lists.{suffix-tail}
-use Rattle.history.specs.Ledger.{ledgerFrom}
+use Rattle.history.specs.Ledger.{ledgerFrom, lastWriter}
 use Rattle.history.specs.Ledger.{lastValue as machineLast, givenTo as machineGiven}
-use Rattle.history.specs.Origin.{ledgerOf}
+use Rattle.history.specs.Origin.{ledgerOf, AuthorIs}
 use Rattle.history.specs.Origin.{Rested as MachineRested, originOf as machineOf}
-use Rattle.history.specs.Claims.{Demand3, DeliveryNumbers, Finds, Carries, Sourced}
+use Rattle.history.specs.Claims.{Demand3, DeliveryNumbers, Finds, Carries, Sourced, NewestAtRest, Known, LastWriters}
 use Rattle.history.specs.Claims.{AllTyped as AllStepsTyped}
 use Rattle.history.proofs.Claimed.{typed-suffix}
 use Rattle.history.proofs.Resting.{carried-last}
-use Rattle.history.proofs.Resting.{rests as machine-rests}
+use Rattle.history.proofs.Resting.{rests as machine-rests, last-writers as machine-last-writers}
+use Rattle.history.proofs.Origins.{blank-known}
 use Rattle.history.proofs.Origins.{blank-rested as machine-blank-rested}
 use Rattle.service.specs.Service.{Call}
 use Rattle.accounts.specs.Accounts.{Origin, Rested, blankOrigin, AllTyped, reached, expand, told, effects, lastValue, gaveTo, account}
@@ -86,6 +89,19 @@ module _ (o : Origin) (r : Rested o) where
     pub adds-exactly : AddsExactly o cs
     adds-exactly = gives-exactly o (r .machine) (settings-long o r) cs a
 
+    pub last-writers : LastWriters (account o) cs
+    last-writers =
+        let d = machine-last-writers (o .machine) (r .machine) (expand o cs) a in
+        let e = sym (same-machine o cs) in
+        record {
+          known = λ k. subst Known e (d .known k);
+          newest-value = λ rest q c n t h i u w.
+              subst (λ (st : Station). NewestAtRest st (λ l t. value l t ≡ machineLast (told o cs) t)) e (d .newest-value) rest q c n t h i u w
+              ∙ sym (last-same o (r .machine) (settings-long o r) cs a t);
+          newest-author =
+              subst (λ (st : Station). NewestAtRest st (λ l t. author l t ≢ unknown → AuthorIs l t (lastWriter (told o cs) t))) e (d .newest-author);
+        }
+
     -- ---- what it leaves at rest is an origin again, and replay goes on where it was
     pub rests : Quiescent (reached o cs .machine) → Rested (originOf o cs)
     rests q = record {
@@ -110,3 +126,10 @@ blank-rested up = record {
 
 pub from-blank : (up : ℕ) (cs : List Call) → AllTyped cs → Demand3 (account (blankOrigin up)) cs
 from-blank up = demand-3 (blankOrigin up) (blank-rested up)
+
+-- from there every author is known, so at rest every newest copy's author is replay's last writer
+pub writers-from-blank : (up : ℕ) (cs : List Call) → AllTyped cs
+    → NewestAtRest (reached (blankOrigin up) cs .machine) (λ l t. AuthorIs l t (lastWriter (told (blankOrigin up) cs) t))
+writers-from-blank up cs typed rest q c n t h i u w =
+    let d = last-writers (blankOrigin up) (blank-rested up) cs typed in
+    d .newest-author rest q c n t h i u w (d .known (blank-known up) n t)

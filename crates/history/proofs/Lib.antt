@@ -19,6 +19,7 @@
 -- The steps, one by one, and the theorem:
 --   Calls, Answered, Served, Sends   each step of the station
 --   Wide, Stamped     what else every step keeps: records fit their widths; serials and stamps of the waiting messages are their owner's
+--   Known             no step makes an author unknown
 --   Theorem           one more step keeps a history good
 --   Origins           an origin is good, and what is told of its votes and its pool is in order; the blank station is an origin
 -- What 'committed' means, on top of a good history:
@@ -31,7 +32,7 @@
 --   Going, Turned     coordinators keep it; every step does
 --   Room, Numbered    the pool has at most 128 messages; the number of every delivery
 --   Spare             only a begin ends idleness and opens; the record of what is no node stays idle
---   Resting           at rest every newest copy has replay's last value, and what is at rest is an origin again
+--   Resting           at rest every newest copy has replay's last value and last writer, and what is at rest is an origin again
 -- Replay's last values in bounded memory:
 --   Ranks             places in a list; what one more commit makes of the values held
 --   Tracked, Running  what a digest keeps of a ledger; every list of steps, as a digest and as a sheet
@@ -59,6 +60,7 @@ pub mod Answered
 pub mod Served
 pub mod Sends
 pub mod Wide
+pub mod Known
 pub mod Stamped
 pub mod Moves
 pub mod InTurn

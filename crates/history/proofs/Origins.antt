@@ -13,7 +13,9 @@ use borrow.Author.Tests.{lt-ltb, le-ltb, le-leb, lt-leb, eq-eqb}
 use Rattle.numbers.specs.Sizes.{nobody, objects, mostOpen}
 use Rattle.mask.specs.Mask.{contains}
 use Rattle.wire.specs.Decode.{fromOf, toOf, ownerOf, serialOf}
-use Rattle.image.specs.Layout.{shape, value, version, holder, serial, state, valueField, versionField, authorSerialField, serialField, stateField}
+use Rattle.image.specs.Layout.{shape, value, version, holder, serial, state, valueField, versionField, serialField, stateField}
+use Rattle.image.specs.Layout.{authorField, authorSerialField}
+use Rattle.image.specs.Blank.{blankAs}
 use Rattle.image.proofs.Blanks.{bytes-blank, blank-zero, blank-author, blank-sound}
 use Rattle.image.proofs.Each.{lt-or-le}
 use Rattle.image.proofs.Lens.{of-out}
@@ -39,6 +41,7 @@ use Rattle.protocol.specs.Refine.Origin.{valuesOf, Brought, origin, values-ext,
 use Rattle.protocol.specs.Refine.Authors.{unwritten, lost, by, AuthoredBy, Authored, one-author, names-cases}
 use Rattle.history.specs.Ledger.{Ledger, txOf, in?}
 use Rattle.history.specs.Origin.{Carried, Origin, ofCarried, ledgerOf, ballotsOf, isWriting, writes, writersOf, AuthorIs, Rested, blankOrigin}
+use Rattle.history.specs.Claims.{Known}
 use Rattle.history.proofs.Quorums.{tree-sane, rules, top, of-mask}
 use Rattle.history.proofs.Sim.{tx, stateOf, holderOf, holders, authorOf, authors, Owner, Gone, Sim}
 use Rattle.history.proofs.Images.{author-out, author-none, author-lost, author-by}
@@ -422,7 +425,11 @@ module _ (o : Origin) where
       waits = timely;
     }
 
--- ---- the blank station is one, whichever nodes are on
+-- ---- the blank station is one, whichever nodes are on; every author is known there
+pub blank-known : (up : ℕ) → Known (blankOrigin up .station)
+blank-known up n t e = on (lt-or-le t objects) (λ h. let f = blank-author t h in let z : ⊥ = omega (arith, e, f) in z)
+    (λ h. let f = of-out (authorField shape) (blankAs shape) t h in let z : ⊥ = omega (arith, e, f) in z)
+
 pub blank-rested : (on : ℕ) → Rested (blankOrigin on)
 unfolding idleAfter valuesOf
 blank-rested up = record {

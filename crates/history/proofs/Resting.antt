@@ -44,7 +44,7 @@ use Rattle.protocol.specs.Refine.Authors.{unwritten, by, namesOf, lastName, nam
 use Rattle.history.specs.Ledger.{Ledger, in?, fed as fedBy, turn, givenTo, lastValue, lastWriter, isDone}
 use Rattle.history.specs.Ballots.{isYes}
 use Rattle.history.specs.Origin.{Origin, Carried, ledgerOf, isWriting, writes, writersOf, heldAfter, writerAfter, AuthorIs, Spent, Rested, originOf}
-use Rattle.history.specs.Claims.{AllTyped, Settled, Newest, reached, told}
+use Rattle.history.specs.Claims.{AllTyped, Settled, Newest, Known, LastWriters, reached, told, account}
 use Rattle.history.proofs.Quorums.{rules, top}
 use Rattle.history.proofs.Tests.{and-true, or-true}
 use Rattle.history.proofs.Sim.{tx, stateOf, authorOf, authors, waits-well}
@@ -53,6 +53,7 @@ use Rattle.history.proofs.Books.{Past, World}
 use Rattle.history.proofs.Moves.{Behind, Bound}
 use Rattle.history.proofs.InTurn.{InTurn}
 use Rattle.history.proofs.Theorem.{Good}
+use Rattle.history.proofs.Known.{known-next}
 use Rattle.history.proofs.Spare.{Spare, spare-next}
 use Rattle.history.proofs.Claimed.{read-meets, newest-there, applied-newest, fed-as, always-good}
 use Rattle.history.proofs.Numbered.{always-in-turn, always-room}
@@ -147,6 +148,19 @@ pub rest-author : (o : Origin) → Rested o → (cs : List Call) → AllTyped cs
 rest-author o r cs a rest q c n t small new known =
     let g = always-good o r cs a in
     applied-author _ _ _ g (rest-applied (reached o cs) _ _ (g .world) (always-in-turn o r cs a) rest) q c n t small new known
+
+-- no author becomes unknown
+pub always-known : (o : Origin) → Rested o → Known (o .station) → (cs : List Call) → AllTyped cs → Known (reached o cs)
+always-known o r k [] a = k
+always-known o r k (c ∷ cs) a = known-next (reached o cs) (always-good o r cs (a .1) .world .valid) (always-known o r k cs (a .1)) c
+
+-- THE THEOREM of 2.5, whole
+pub last-writers : (o : Origin) → Rested o → (cs : List Call) → AllTyped cs → LastWriters (account o) cs
+last-writers o r cs a = record {
+  known = λ k. always-known o r k cs a;
+  newest-value = λ rest q c n t h i small new. rest-newest o r cs a rest q c n t new;
+  newest-author = λ rest q c n t h i small new known. rest-author o r cs a rest q c n t small new known;
+}
 
 -- ---- what is late or held at a node where all is over, is no later than the last
 behind-most : (l : List ℕ) (o s : ℕ) → Behind l o s → s ≤ serial l o

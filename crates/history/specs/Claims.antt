@@ -79,6 +79,11 @@ Settled L = (x : Tx) → In x (L .committed) → (n : ℕ) → contains (L .part
 abbrev pub Newest : Station → ℕ → ℕ → ℕ → Type 0
 Newest st q n t = (m : ℕ) → m < nodes → contains q m ≡ true → version (st .images m) t ≤ version (st .images n) t
 
+-- at rest it holds of the image and the object of every newest copy, in every read quorum, whichever nodes are on
+abbrev pub NewestAtRest : Station → (List ℕ → ℕ → Type 0) → Type 0
+NewestAtRest st P = Quiescent st → (q : ℕ) → system st .isRead q ≡ true → (n t : ℕ) → n < nodes → contains q n ≡ true → t < objects → Newest st q n t
+    → P (st .images n) t
+
 -- every copy's author is known
 abbrev pub Known : Station → Type 0
 Known st = (n t : ℕ) → author (st .images n) t ≢ unknown
@@ -171,15 +176,12 @@ module _ {C : Type 0} (A : Account C) where
     pub one-waits : (k : ℕ) (kept : Bool) → k < length (A .reached cs .pool)
         → (A .number cs (A .deliver k kept) ≡ 0) ⊎ Crowded (A .reached cs .pool) kept (A .number cs (A .deliver k kept)) (A .put cs (A .deliver k false))
 
-  -- Who wrote last (document 02, 2.5). No step makes an author unknown. And at rest, in every read quorum, whichever nodes are on, every newest copy has
-  -- replay's last value, and its author, unless it is unknown, is replay's last writer: nobody exactly where the object has none.
+  -- Who wrote last (document 02, 2.5). No step makes an author unknown. And at rest every newest copy has replay's last value, and its author, if it is
+  -- known, is replay's last writer: nobody (255 and 0) exactly where the object has none.
   pub record LastWriters (cs : List C) : Type 0 where
     pub known : Known (A .reached []) → Known (A .reached cs)
-    pub newest-value : Quiescent (A .reached cs) → (q : ℕ) → system (A .reached cs) .isRead q ≡ true → (n t : ℕ) → n < nodes → contains q n ≡ true
-        → t < objects → Newest (A .reached cs) q n t → value (A .reached cs .images n) t ≡ A .last cs t
-    pub newest-author : Quiescent (A .reached cs) → (q : ℕ) → system (A .reached cs) .isRead q ≡ true → (n t : ℕ) → n < nodes → contains q n ≡ true
-        → t < objects → Newest (A .reached cs) q n t → author (A .reached cs .images n) t ≢ unknown
-        → AuthorIs (A .reached cs .images n) t (lastWriter (A .told cs) t)
+    pub newest-value : NewestAtRest (A .reached cs) (λ l t. value l t ≡ A .last cs t)
+    pub newest-author : NewestAtRest (A .reached cs) (λ l t. author l t ≢ unknown → AuthorIs l t (lastWriter (A .told cs) t))
 
 -- ---- the station's own steps
 module _ (o : Origin) where
