@@ -352,13 +352,26 @@ static void blank_station(station *s)
     }
 }
 
+/* Who booked for the supplier last, as a node's own copy has it. */
+static void show_last_booking(const node *n)
+{
+    senna_author last = senna_image_author(n->memory.image, SENNA_IMAGE, SUPPLIER);
+    must(last.number, "who wrote last");
+    if (last.owner < SENNA_NODES) {
+        printf("last for supplier %d, by node %u's copy: booking %" PRIu32 " of node %u\n", SUPPLIER, n->number, last.serial, last.owner);
+    } else {
+        printf("last for supplier %d, by node %u's copy: %s\n", SUPPLIER, n->number, last.owner == SENNA_NOBODY ? "nobody" : "not known");
+    }
+}
+
 int main(void)
 {
     static station s;
     node *five = &s.nodes[5], *eight = &s.nodes[8];
     blank_station(&s);
+    show_last_booking(&s.nodes[0]);
 
-    printf("-- a plain booking\n");
+    printf("\n-- a plain booking\n");
     weigh(five, 12500);
     carry_on(&s, ROUNDS);
 
@@ -416,5 +429,6 @@ int main(void)
     carry_on(&s, ROUNDS);
 
     printf("\nbooked at node 5: %" PRId64 " g, at node 8: %" PRId64 " g\n", five->memory.booked, eight->memory.booked);
+    show_last_booking(&s.nodes[0]);
     return EXIT_SUCCESS;
 }

@@ -46,10 +46,11 @@ extern "C" {
 #define SENNA_ENTRIES 8       /* entries of a message, at most */
 #define SENNA_MESSAGE_MIN 15  /* bytes of the shortest message */
 #define SENNA_MESSAGE_MAX 128 /* bytes of the longest message, and of the smallest buffer for one */
-#define SENNA_IMAGE 1207      /* bytes of a stored image */
+#define SENNA_IMAGE 1527      /* bytes of a stored image */
+#define SENNA_IMAGE_1207 1207 /* bytes of a stored image of the first release, which senna_take_in reads */
 #define SENNA_RECORD 301      /* bytes of a coordinator's record */
 #define SENNA_WAITING 128     /* messages that wait in a station's pool, at most */
-#define SENNA_IMAGES 15691    /* bytes of a station's images: thirteen of SENNA_IMAGE, node 0 first */
+#define SENNA_IMAGES 19851    /* bytes of a station's images: thirteen of SENNA_IMAGE, node 0 first */
 #define SENNA_RECORDS 3913    /* bytes of a station's records: thirteen of SENNA_RECORD, node 0 first */
 #define SENNA_POOL 16513      /* bytes of a station's pool */
 #define SENNA_OWN 2           /* bytes of the mask of a station's nodes that are on */
@@ -293,12 +294,27 @@ senna_written senna_write_yield(uint8_t *out, size_t size, uint8_t owner, uint32
 
 /*
  * Images. Numbers are little-endian. SENNA_IMAGE bytes:
- *   the count 64, then 64 copies: value 8 (signed), version 4, holder 1 (0 to 12, 255 for none), readers 2, writers 2 (masks)
+ *   the count 64, then 64 copies: value 8 (signed), version 4, holder 1 (0 to 12, SENNA_NOBODY for none), readers 2, writers 2 (masks),
+ *   author 5: owner 1, serial 4
  *   the count 13, then 13 owners: last serial 4, state 1 (0 over, 1 listed, 2 held, 3 refused), stamp 4
  *
  * An owner's serial and stamp are both 0, and then its state is 0, or neither is 0. A holder's state is 2. A node that readers or
- * writers contain has state 1, and no mask is above SENNA_ALL. An image that breaks any of this is damaged.
+ * writers contain has state 1, and no mask is above SENNA_ALL. An author is the transaction that wrote the copy last, with its owner, 0 to 12, and its
+ * serial, from 1; or SENNA_NOBODY with serial 0, as in a blank image, where no commit has written it; or SENNA_UNKNOWN with serial 0, where it was
+ * written before authors were kept. An image that breaks any of this is damaged. Nothing ties the author to the version.
+ *
+ * Formats by length. An image is told by its length alone:
+ *
+ *   bytes                    written since              copies                          read by
+ *   1207 (SENNA_IMAGE_1207)  the first release          64 of 17 bytes, without author  senna_take_in only
+ *   1527 (SENNA_IMAGE)       authors are kept; present  64 of 22 bytes, as above        every call on images; senna_take_in writes it
+ *
+ * A caller who holds images of an older length gets SENNA_LENGTH from every other call: take them in first.
  */
+
+/* Who is no node: for a holder and an author nobody; for an author unknown. */
+#define SENNA_NOBODY 255
+#define SENNA_UNKNOWN 254
 
 /*
  * Whether bytes are a valid image.
@@ -312,7 +328,8 @@ senna_written senna_write_yield(uint8_t *out, size_t size, uint8_t owner, uint32
 uint8_t senna_check_image(const uint8_t *image, size_t length);
 
 /*
- * Writes a blank image: all zeros, but for the two counts and the holders, which are 255. Whatever stood there before is lost.
+ * Writes a blank image: all zeros, but for the two counts, and the holders and the owners of authors, which are SENNA_NOBODY. Whatever stood
+ * there before is lost.
  *
  * image   where the image goes
  * length  the bytes at image
@@ -321,6 +338,45 @@ uint8_t senna_check_image(const uint8_t *image, size_t length);
  * written. Only writes to image; no heap; re-entrant.
  */
 uint8_t senna_blank_image(uint8_t *image, size_t length);
+
+/*
+ * Takes an image of an older length in: writes it as an image of the present length. Each copy and each owner stays as it was; what the older format
+ * does not have is added. From SENNA_IMAGE_1207: the author is SENNA_UNKNOWN where the version is above 0, until the next commit of that object
+ * writes the copy, and SENNA_NOBODY at version 0.
+ *
+ * A program calls it once after an update, on each node's kept image, before any other call on it. It then keeps the new bytes in place of the old
+ * ones. Records and settings stay as they are. A station's nodes are taken in together, and with the station at rest, that is with every record idle,
+ * where what was booked before and what is booked after shall count as one running.
+ *
+ * old         the older image; only read
+ * old_length  the bytes at old, SENNA_IMAGE_1207
+ * image       where the image goes; whatever stood there before is lost
+ * length      the bytes at image, SENNA_IMAGE
+ *
+ * Numbers, the lowest that fits: SENNA_LENGTH (old_length is no older length, as SENNA_IMAGE is none, or length is not SENNA_IMAGE), SENNA_DAMAGED
+ * (old breaks a rule of its own format). On a refusal nothing is written. Otherwise senna_check_image answers 0 for what is written. Only reads
+ * the bytes at old, only writes to image, which must not overlap old; no heap; re-entrant. On the stack it has a scratch of SENNA_IMAGE bytes.
+ */
+uint8_t senna_take_in(const uint8_t *old, size_t old_length, uint8_t *image, size_t length);
+
+/* Who wrote a copy last. On a refusal owner and serial are 0. */
+typedef struct senna_author {
+    uint8_t number;  /* SENNA_OK, or why the call refuses */
+    uint8_t owner;   /* the transaction's owner, 0 to 12; SENNA_NOBODY or SENNA_UNKNOWN */
+    uint32_t serial; /* the transaction's serial; 0 for nobody and unknown */
+} senna_author;
+
+/*
+ * Who wrote an object's copy last: the author, as the image has it.
+ *
+ * image   the image; only read
+ * length  the bytes at image
+ * object  the object
+ *
+ * Numbers, the lowest that fits: SENNA_LENGTH (length is not SENNA_IMAGE), SENNA_DAMAGED, SENNA_NO_SUCH_OBJECT (object above 63).
+ * Only reads the bytes at image; no heap; re-entrant.
+ */
+senna_author senna_image_author(const uint8_t *image, size_t length, uint8_t object);
 
 /*
  * The replica: it answers the messages that owners send to a node, and keeps the node's image. Of each owner it knows the last
@@ -341,8 +397,8 @@ typedef struct senna_received {
  *   ask      listed: judged, and a vote is answered. No where another holds any of its objects, where a copy here has a higher version,
  *            or where a rival is older. Yes holds what it writes and names the rivals. Held: yes again; refused: no again, both without
  *            rivals. Late: nothing.
- *   commit   held: each object that it writes takes its value and its version plus 1. Then the owner lets go of everything, its
- *            transaction is over, and done is answered. Late: done only.
+ *   commit   held: each object that it writes takes its value and its version plus 1, and its transaction as the author. Then the owner lets
+ *            go of everything, its transaction is over, and done is answered. Late: done only.
  *   abort    the owner lets go of everything, its transaction is over, and done is answered; also before any other message of its
  *            transaction came. Late: done only.
  *
