@@ -340,7 +340,7 @@ static unsigned waits_at(unsigned node)
 /* A batch of one weight from its begin to its last done at a station; the value that the root's copy then has. */
 static int64_t book(unsigned node, uint32_t timestamp, const uint8_t *list, size_t size)
 {
-    const uint8_t *root = images + 1 + 17 * 7;
+    const uint8_t *root = images + 1 + 22 * 7;
     unsigned to;
     check(station_batch(node, timestamp, list, size).answer == 1, "a batch chooses the root");
     check(there_and_back(node, 0, 7) == SENNA_READY, "the root's copy");

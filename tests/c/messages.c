@@ -12,7 +12,7 @@ static_assert(sizeof(senna_entries) == 136 && offsetof(senna_entries, count) == 
 static_assert(sizeof(senna_serials) == 52, "the layout that the library takes");
 static_assert(sizeof(senna_written) == 2 && offsetof(senna_written, length) == 1, "the layout that the library returns");
 static_assert(SENNA_MESSAGE_MIN == 12 + 3 && SENNA_MESSAGE_MAX == 12 + 3 + 14 * SENNA_ENTRIES + 1, "the sizes agree");
-static_assert(SENNA_IMAGE == 1 + 17 * SENNA_OBJECTS + 1 + 9 * SENNA_NODES, "the sizes agree");
+static_assert(SENNA_IMAGE == 1 + 22 * SENNA_OBJECTS + 1 + 9 * SENNA_NODES, "the sizes agree");
 
 static void check_number(unsigned got, unsigned number, const char *what)
 {
@@ -321,17 +321,17 @@ static void check_changed(uint8_t *image, size_t place, unsigned byte, unsigned 
 /* The places of an image's fields. */
 static size_t copy_at(unsigned object)
 {
-    return 1 + 17 * (size_t)object;
+    return 1 + 22 * (size_t)object;
 }
 
 static size_t owner_at(unsigned node)
 {
-    return 1 + 17 * SENNA_OBJECTS + 1 + 9 * (size_t)node;
+    return 1 + 22 * SENNA_OBJECTS + 1 + 9 * (size_t)node;
 }
 
 static void check_images(void)
 {
-    enum { ROOM = 1400 };
+    enum { ROOM = 1700 };
     static uint8_t image[ROOM];
     size_t length;
     unsigned at;
@@ -346,8 +346,8 @@ static void check_images(void)
     check_number(senna_blank_image(image, SENNA_IMAGE), SENNA_OK, "a blank image");
     check(filled(image + SENNA_IMAGE, ROOM - SENNA_IMAGE), "a blank image alters nothing behind it");
     for (all = 1, at = 0; at < SENNA_IMAGE; at++) {
-        int holder = at >= 1 && at < owner_at(0) - 1 && (at - 1) % 17 == 12;
-        unsigned expected = at == 0 ? 64 : at == owner_at(0) - 1 ? 13 : holder ? 255 : 0;
+        unsigned place = at >= 1 && at < owner_at(0) - 1 ? (at - 1) % 22 : 0; /* in a copy: 12 the holder, 17 the author's owner */
+        unsigned expected = at == 0 ? 64 : at == owner_at(0) - 1 ? 13 : place == 12 || place == 17 ? SENNA_NOBODY : 0;
         all &= image[at] == expected;
     }
     check(all, "each byte of the blank image");
@@ -383,6 +383,13 @@ static void check_images(void)
     check_changed(image, copy_at(7) + 15, 32, SENNA_DAMAGED, "a writer who is refused");
     check_changed(image, copy_at(7) + 14, 32, SENNA_DAMAGED, "readers above 8191");
     check_changed(image, copy_at(7) + 16, 32, SENNA_DAMAGED, "writers above 8191");
+    check_changed(image, copy_at(7) + 17, SENNA_UNKNOWN, SENNA_OK, "an unknown author");
+    check_changed(image, copy_at(7) + 17, 0, SENNA_DAMAGED, "an author with serial 0");
+    check_changed(image, copy_at(7) + 17, 12, SENNA_DAMAGED, "author 12 with serial 0");
+    check_changed(image, copy_at(7) + 17, 13, SENNA_DAMAGED, "author 13");
+    check_changed(image, copy_at(7) + 17, 253, SENNA_DAMAGED, "author 253");
+    check_changed(image, copy_at(7) + 18, 1, SENNA_DAMAGED, "nobody with a serial");
+    check_changed(image, copy_at(7) + 21, 1, SENNA_DAMAGED, "nobody with a great serial");
     check_changed(image, owner_at(5) + 4, 0, SENNA_OK, "the refused owner made over");
     check_changed(image, owner_at(5) + 4, 4, SENNA_DAMAGED, "state 4");
     check_changed(image, owner_at(5) + 5, 0, SENNA_DAMAGED, "stamp 0 with a serial");

@@ -18,6 +18,7 @@
 #define FUNCTIONS(F)                                                                                                                               \
     F(is_read_quorum) F(is_write_quorum) F(nearest_read) F(nearest_write)                                                                          \
     F(check_message) F(check_image) F(check_record) F(check_settings) F(blank_image) F(blank_record) F(blank_settings)                             \
+    F(take_in) F(image_author)                                                                                                                     \
     F(write_fetch) F(write_copy) F(write_ask) F(write_vote) F(write_outcome) F(write_done) F(write_yield)                                          \
     F(replica_receive) F(replica_answers) F(load_hours) F(load_classes) F(settings_kind) F(coordinator_waiting)                                    \
     F(coordinator_begin) F(coordinator_batch) F(coordinator_reselect) F(coordinator_open_read) F(coordinator_open_write) F(coordinator_set_value)  \
@@ -63,6 +64,7 @@ static uint32_t timestamps;
 
 static unsigned current;
 static int clean;
+static unsigned long written_by[256]; /* copies by the owner of their author, as the library told it */
 static unsigned long accepted_of[COUNT], faults_of[COUNT], numbers_of[COUNT][LAST_NUMBER + 1], brought[SENNA_FINISHED + 1], given_up;
 
 /* ---- Random numbers (xorshift) ---- */
@@ -555,6 +557,53 @@ static void call_check(void)
     }
 }
 
+/* An image as the first release had it: copies of 17 bytes, without their authors. */
+static void make_older(uint8_t *old, const uint8_t *image)
+{
+    unsigned t;
+    old[0] = image[0];
+    for (t = 0; t < SENNA_OBJECTS; t++) {
+        memcpy(old + 1 + 17 * t, image + 1 + 22 * t, 17);
+    }
+    memcpy(old + 1 + 17 * SENNA_OBJECTS, image + 1 + 22 * SENNA_OBJECTS, 1 + 9 * SENNA_NODES);
+}
+
+/* An older image taken in is an image, which is the older one with authors. It is taken home, now and then: who wrote last is then unknown. */
+static void call_take_in(uint8_t *node_image)
+{
+    uint8_t right[SENNA_IMAGE_1207], again[SENNA_IMAGE_1207];
+    lent *old, *l;
+    unsigned number;
+    make_older(right, node_image);
+    old = lend_read(right, sizeof right);
+    l = lend(node_image, SENNA_IMAGE, below(8) == 0 ? node_image : NULL, 1);
+    number = senna_take_in(old->at, old->length, l->at, l->length);
+    if (number == SENNA_OK) {
+        make_older(again, l->at);
+        must(old->length == sizeof again && memcmp(again, old->at, sizeof again) == 0, "what is taken in is as it was");
+        must(senna_check_image(l->at, l->length) == SENNA_OK, "what is taken in is an image");
+    }
+    answered(number);
+}
+
+/* An older image taken in; who wrote a copy last. */
+static void call_image(void)
+{
+    uint8_t *node_image = images + below(SENNA_NODES) * SENNA_IMAGE;
+    senna_author a;
+    lent *l;
+    if (current == AT_take_in) {
+        call_take_in(node_image);
+        return;
+    }
+    l = lend_read(node_image, SENNA_IMAGE);
+    a = senna_image_author(l->at, l->length, object());
+    must(a.number == SENNA_OK || (a.owner == 0 && a.serial == 0), "a refusal has owner and serial 0");
+    must(a.number != SENNA_OK || (a.owner < SENNA_NODES ? a.serial > 0 : a.owner >= SENNA_UNKNOWN && a.serial == 0), "an author");
+    written_by[a.owner] += a.number == SENNA_OK;
+    answered(a.number);
+}
+
 static void call_write(void)
 {
     lent *l = lend_out();
@@ -872,6 +921,8 @@ static void one_call(void)
         call_quorum();
     } else if (current <= AT_blank_settings) {
         call_check();
+    } else if (current <= AT_image_author) {
+        call_image();
     } else if (current <= AT_write_yield) {
         call_write();
     } else if (current <= AT_replica_answers) {
@@ -959,7 +1010,7 @@ static const struct {
     {AT_coordinator_batch, 0x273f, 0x253f}, {AT_station_batch, 0x273f, 0x253f}, {AT_load_classes, 0xc457, 0xc457},
     {AT_station_load_classes, 0xc477, 0xc477}, {AT_coordinator_waiting, 0x47, 0x47}, {AT_settings_kind, 0x7, 0x7},
     {AT_coordinator_request_commit, 0xb37, 0xa37}, {AT_station_request_commit, 0xb37, 0x837},
-    {AT_nearest_read, 0x113, 0x113},        {AT_nearest_write, 0x113, 0x113},
+    {AT_nearest_read, 0x113, 0x113},        {AT_nearest_write, 0x113, 0x113},   {AT_take_in, 0x7, 0x7},       {AT_image_author, 0x47, 0x47},
 };
 
 static void report_reached(void)
@@ -996,6 +1047,10 @@ static void report(unsigned long calls)
         check(brought[i] > 0, "each thing that a delivery brings about");
     }
     check(!enough || given_up > 0, "a batch that is given up");
+    for (i = 0, number = 0; i < SENNA_NODES; i++) {
+        number += written_by[i] > 0;
+    }
+    check(!enough || (number > 0 && written_by[SENNA_NOBODY] > 0 && written_by[SENNA_UNKNOWN] > 0), "authors of each sort");
     printf("%lu calls of %d functions, %lu committed, %lu batches given up\n", calls, COUNT, brought[SENNA_COMMITTED], given_up);
 }
 

@@ -116,9 +116,11 @@ static void one_booking(void)
     check(senna_coordinator_phase(it.records + ME * SENNA_RECORD, SENNA_RECORD) == SENNA_IDLE, "idle again");
     check(senna_coordinator_outcome(it.records + ME * SENNA_RECORD, SENNA_RECORD) == SENNA_COMMITTED, "committed");
     for (node = 0; node < SENNA_NODES; node++) {
-        const uint8_t *copy = it.images + node * SENNA_IMAGE + 1 + 17 * OBJECT;
+        const uint8_t *copy = it.images + node * SENNA_IMAGE + 1 + 22 * OBJECT;
+        senna_author last = senna_image_author(it.images + node * SENNA_IMAGE, SENNA_IMAGE, OBJECT);
         int wrote = (PARTY >> node) % 2 == 1;
         check(copy[0] == (wrote ? 0x06 : 0) && copy[7] == (wrote ? 0xff : 0) && copy[8] == (wrote ? 1 : 0), "the copies of the party, no others");
+        check(last.number == SENNA_OK && last.owner == (wrote ? ME : SENNA_NOBODY) && last.serial == (wrote ? 1u : 0u), "written last by this booking");
     }
 }
 

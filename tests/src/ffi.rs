@@ -3,6 +3,7 @@
 pub mod coordinator;
 pub mod station;
 
+use crate::model::image::Author;
 use crate::model::message::{Entry, Rival, Transaction, ENTRIES};
 use crate::model::quorum::{Choice, Kind, NODES};
 
@@ -58,6 +59,14 @@ struct SennaReceived {
     length: u8,
 }
 
+/// `senna_author` of the header.
+#[repr(C)]
+struct SennaAuthor {
+    number: u8,
+    owner: u8,
+    serial: u32,
+}
+
 extern "C" {
     fn senna_is_read_quorum(mask: u16) -> u8;
     fn senna_is_write_quorum(mask: u16) -> u8;
@@ -66,6 +75,8 @@ extern "C" {
     fn senna_check_message(message: *const u8, length: usize) -> u8;
     fn senna_check_image(image: *const u8, length: usize) -> u8;
     fn senna_blank_image(image: *mut u8, length: usize) -> u8;
+    fn senna_take_in(old: *const u8, old_length: usize, image: *mut u8, length: usize) -> u8;
+    fn senna_image_author(image: *const u8, length: usize, object: u8) -> SennaAuthor;
     fn senna_write_fetch(out: *mut u8, size: usize, to: u8, owner: u8, serial: u32, stamp: u32, object: u8, mode: u8) -> SennaWritten;
     fn senna_write_copy(out: *mut u8, size: usize, from: u8, owner: u8, serial: u32, stamp: u32, entry: SennaEntry) -> SennaWritten;
     fn senna_write_ask(out: *mut u8, size: usize, to: u8, owner: u8, serial: u32, stamp: u32, entries: SennaEntries) -> SennaWritten;
@@ -147,6 +158,20 @@ pub fn check_image(image: &[u8]) -> u8 {
 pub fn blank_image(image: &mut [u8]) -> u8 {
     // SAFETY: the function writes at most `length` bytes at `image`, which are lent for the call.
     unsafe { senna_blank_image(image.as_mut_ptr(), image.len()) }
+}
+
+/// The library takes an older image in, to a buffer; its number.
+pub fn take_in(old: &[u8], image: &mut [u8]) -> u8 {
+    // SAFETY: the function reads at most `old_length` bytes at `old` and writes at most `length` bytes at `image`, both lent for the call and apart from
+    // each other.
+    unsafe { senna_take_in(old.as_ptr(), old.len(), image.as_mut_ptr(), image.len()) }
+}
+
+/// Who wrote an object's copy last, as the library tells it; with its number.
+pub fn image_author(image: &[u8], object: u8) -> (u8, Author) {
+    // SAFETY: the function reads at most `length` bytes at `image`, which are lent for the call.
+    let got = unsafe { senna_image_author(image.as_ptr(), image.len(), object) };
+    (got.number, Author { owner: got.owner, serial: got.serial })
 }
 
 /// What a write call answers.

@@ -52,6 +52,8 @@ pub enum Fault {
     IgnoresHolder,
     /// A replica's vote does not mind that a copy here has a higher version.
     IgnoresVersion,
+    /// A replica's commit leaves who wrote a copy last.
+    LeavesAuthor,
     /// A coordinator commits with more than half of the participants' yes.
     CommitsByMajority,
     /// A coordinator lets a copy change what was found for an object that is ready.

@@ -1,10 +1,12 @@
-//! Stored images: the check of bytes and the blank image, against the model.
+//! Stored images: the check of bytes and the blank image, against the model; who wrote a copy last, and older images taken in.
 
+mod authors;
 pub mod damages;
 pub mod records;
+mod taking;
 
 use crate::ffi;
-use crate::model::image::{self as model, state, Image, Rule, IMAGE, NOBODY};
+use crate::model::image::{self as model, state, Author, Image, Layout, Rule, IMAGE, NOBODY, TODAY};
 use crate::model::quorum::{nodes, NODES};
 use crate::model::{number, OBJECTS};
 use crate::random::Random;
@@ -22,6 +24,13 @@ pub fn run(runner: &mut Runner) {
     runner.check("images: changed records", changed_records);
     runner.check("images: random bytes", random_bytes);
     runner.check("images in four threads", threads);
+    authors::run(runner);
+    taking::run(runner);
+}
+
+/// Lengths to try: every one up to 1600, and some great ones, those of older and of later images among them.
+fn some_lengths() -> Vec<usize> {
+    (0..=1600).chain([2414, 2935, 3054, 3191, 15_691, 19_851, 65_536 + 1207, 65_536 + IMAGE]).collect()
 }
 
 /// How many images were taken, and how many refused with 1 and with 2.
@@ -70,12 +79,13 @@ fn described(bytes: &[u8]) -> String {
     }
 }
 
-/// The blank image in place of random bytes, every byte of it; and every other length up to 1300 is refused with all bytes as they were.
-/// The bytes about the buffer are as they were, too.
+/// The blank image in place of random bytes, every byte of it; and every other length is refused with all bytes as they were. The bytes about the
+/// buffer are as they were, too.
 fn blank(random: &mut Random, rounds: usize) -> Verdict {
     let margin = 50;
     let (mut refused, mut written) = (0, 0);
-    for length in (0..=1300).chain([2414, 15_691, 65_536 + IMAGE]) {
+    let lengths = some_lengths();
+    for &length in &lengths {
         for _ in 0..if length == IMAGE { 200 * rounds } else { 3 } {
             let before = random.bytes(length + 2 * margin);
             let mut after = before.clone();
@@ -100,7 +110,7 @@ fn blank(random: &mut Random, rounds: usize) -> Verdict {
             }
         }
     }
-    ensure!(written >= 200 && refused == 3 * 1303, "{written} written and {refused} refused are too poor");
+    ensure!(written >= 200 && refused == 3 * (lengths.len() - 1), "{written} written and {refused} refused are too poor");
     Ok(format!("{written} written, {refused} refused for their length"))
 }
 
@@ -109,21 +119,26 @@ fn known_bytes() -> Verdict {
     let mut image = model::blank();
     let mut bytes = vec![0; IMAGE];
     bytes[0] = 64;
-    bytes[1089] = 13;
+    bytes[1409] = 13;
     for object in 0..64 {
-        bytes[1 + 17 * object + 12] = 255;
+        bytes[1 + 22 * object + 12] = 255;
+        bytes[1 + 22 * object + 17] = 255;
     }
     ensure!(model::encode(&image) == bytes, "the model's own blank image has other bytes");
     ensure!(ffi::check_image(&bytes) == number::OK, "the blank image is refused");
-    // Object 63 has value -2, version 0x01020304, holder 12, reader 0, writers 0 and 8. Owner 0 is listed, owner 8 too, owner 12 held.
-    image.copies[63] = model::ObjectCopy { value: -2, version: 0x0102_0304, holder: 12, readers: 1, writers: 257 };
+    // Object 63 has value -2, version 0x01020304, holder 12, reader 0, writers 0 and 8, author 7 with serial 0x05060708. Owner 0 is listed, owner 8 too,
+    // owner 12 held. Who wrote object 0 is unknown.
+    let author = Author { owner: 7, serial: 0x0506_0708 };
+    image.copies[63] = model::ObjectCopy { value: -2, version: 0x0102_0304, holder: 12, readers: 1, writers: 257, author };
+    image.copies[0].author = Author::UNKNOWN;
     image.owners[0] = model::Owner { serial: 1, state: state::LISTED, stamp: 2 };
     image.owners[8] = model::Owner { serial: 0x0a0b_0c0d, state: state::LISTED, stamp: 0x0102_0304 };
     image.owners[12] = model::Owner { serial: 1 << 24, state: state::HELD, stamp: 1 << 16 };
-    bytes[1072..1089].copy_from_slice(&[0xfe, 255, 255, 255, 255, 255, 255, 255, 4, 3, 2, 1, 12, 1, 0, 1, 1]);
-    bytes[1090..1099].copy_from_slice(&[1, 0, 0, 0, 1, 2, 0, 0, 0]);
-    bytes[1162..1171].copy_from_slice(&[0x0d, 0x0c, 0x0b, 0x0a, 1, 4, 3, 2, 1]);
-    bytes[1198..1207].copy_from_slice(&[0, 0, 0, 1, 2, 0, 0, 1, 0]);
+    bytes[18] = 254;
+    bytes[1387..1409].copy_from_slice(&[0xfe, 255, 255, 255, 255, 255, 255, 255, 4, 3, 2, 1, 12, 1, 0, 1, 1, 7, 8, 7, 6, 5]);
+    bytes[1410..1419].copy_from_slice(&[1, 0, 0, 0, 1, 2, 0, 0, 0]);
+    bytes[1482..1491].copy_from_slice(&[0x0d, 0x0c, 0x0b, 0x0a, 1, 4, 3, 2, 1]);
+    bytes[1518..1527].copy_from_slice(&[0, 0, 0, 1, 2, 0, 0, 1, 0]);
     ensure!(model::encode(&image) == bytes, "the model itself encodes an image otherwise than as the bytes written here");
     ensure!(model::decode(&bytes) == Some(image), "the model itself decodes the bytes written here to another image");
     let got = ffi::check_image(&bytes);
@@ -139,6 +154,10 @@ struct Busy {
     held: usize,
     listed: usize,
     last_versions: usize,
+    /// Copies written by a transaction, by nobody, and by whom is unknown.
+    written: usize,
+    unwritten: usize,
+    unknown: usize,
 }
 
 impl Busy {
@@ -151,12 +170,16 @@ impl Busy {
             self.held += usize::from(copy.holder != NOBODY);
             self.listed += nodes(copy.readers).count() + nodes(copy.writers).count();
             self.last_versions += usize::from(copy.version == u32::MAX);
+            self.written += usize::from(copy.author.serial != 0);
+            self.unwritten += usize::from(copy.author == Author::NOBODY);
+            self.unknown += usize::from(copy.author == Author::UNKNOWN);
         }
     }
 
     fn rich(&self, images: usize) -> bool {
         let states = self.states.iter().all(|&count| count > 2 * images);
-        states && self.unused > images && self.held > 20 * images && self.listed > 100 * images && self.last_versions > images
+        let authors = self.written > 30 * images && self.unwritten > 5 * images && self.unknown > 5 * images;
+        authors && states && self.unused > images && self.held > 20 * images && self.listed > 100 * images && self.last_versions > images
     }
 }
 
@@ -174,20 +197,35 @@ fn valid(random: &mut Random, rounds: usize) -> Verdict {
         ensure!(seen.compare(&bytes)? == number::OK, "{}: refused", described(&bytes));
         busy.add(&image);
     }
-    let Busy { states, unused, held, listed, last_versions } = busy;
+    let Busy { states, unused, held, listed, last_versions, written, unwritten, unknown } = busy;
     let counted = format!(
-        "{images} images, owners by state {states:?}, {unused} unused, {held} holders, {listed} listed bits, {last_versions} versions at the last"
+        "{images} images, owners by state {states:?}, {unused} unused, {held} holders, {listed} listed bits, {last_versions} versions at the last, \
+         {written} authors, {unwritten} nobody, {unknown} unknown"
     );
     ensure!(busy.rich(images), "the images are too poor: {counted}");
     Ok(counted)
 }
 
-/// Whether a byte of an image is of a value or a version, about which there is no rule.
-fn is_free(at: usize) -> bool {
-    (1..1089).contains(&at) && (at - 1) % 17 < 12
+/// Whether a byte of an image in a layout is of a value or a version, about which there is no rule.
+fn is_free(layout: Layout, at: usize) -> bool {
+    (1..layout.count_at()).contains(&at) && (at - 1) % layout.width < 12
 }
 
-/// Busy images and the blank one with each byte changed in turn: to all 256 values, but where a copy has its value and version to a few.
+/// What a byte of an image is changed to: all 256 values, but where a copy has its value and version a few.
+fn values_at(random: &mut Random, layout: Layout, at: usize, byte: u8) -> Vec<u8> {
+    if is_free(layout, at) {
+        vec![0, 1, byte ^ 1, byte ^ 128, 127, 254, 255, random.byte()]
+    } else {
+        (0..=255).collect()
+    }
+}
+
+/// How many images are made of one so.
+fn values_in_all(layout: Layout) -> usize {
+    (0..layout.length()).map(|at| if is_free(layout, at) { 8 } else { 256 }).sum()
+}
+
+/// Busy images and the blank one with each byte changed in turn.
 fn every_byte(random: &mut Random, rounds: usize) -> Verdict {
     let mut seen = Seen::default();
     let mut images = vec![model::blank(), records::some_valid(random)];
@@ -198,27 +236,30 @@ fn every_byte(random: &mut Random, rounds: usize) -> Verdict {
     for image in &images {
         let bytes = model::encode(image);
         for at in 0..IMAGE {
-            let few = [0, 1, bytes[at] ^ 1, bytes[at] ^ 128, 127, 254, 255, random.byte()];
-            let all: Vec<u8> = (0..=255).collect();
             let mut changed = bytes.clone();
-            for &value in if is_free(at) { &few[..] } else { &all[..] } {
+            for value in values_at(random, TODAY, at, bytes[at]) {
                 changed[at] = value;
                 seen.compare(&changed)?;
             }
         }
     }
     let all = seen.all();
-    let expected = images.len() * ((2 + 5 * OBJECTS + 9 * NODES) * 256 + 12 * OBJECTS * 8);
-    ensure!(all == expected && seen.accepted * 10 > all && seen.damaged * 10 > all, "too poor: {}", seen.words());
+    let expected = images.len() * ((2 + 10 * OBJECTS + 9 * NODES) * 256 + 12 * OBJECTS * 8);
+    ensure!(
+        all == expected && expected == images.len() * values_in_all(TODAY) && seen.accepted * 10 > all && seen.damaged * 10 > all,
+        "too poor: {}",
+        seen.words()
+    );
     Ok(seen.words())
 }
 
-/// Valid images cut short and padded to every length from 0 to 1300, and to some great ones: only their own is taken.
+/// Valid images cut short and padded to every length from 0 to 1600, and to some great ones: only their own is taken.
 fn every_length(random: &mut Random, _: usize) -> Verdict {
     let mut seen = Seen::default();
+    let lengths = some_lengths();
     for image in [model::blank(), records::busy(random)] {
         let bytes = model::encode(&image);
-        for length in (0..=1300).chain([2414, 15_691, 65_536 + IMAGE]) {
+        for &length in &lengths {
             let mut other = bytes[..length.min(IMAGE)].to_vec();
             let more = length - other.len();
             other.extend(if random.once_in(2) { vec![0; more] } else { random.bytes(more) });
@@ -227,7 +268,7 @@ fn every_length(random: &mut Random, _: usize) -> Verdict {
             ensure!(got == expected, "an image of {length} bytes: {got}, not {expected}");
         }
     }
-    ensure!(seen.accepted == 2 && seen.length == 2 * 1303 && seen.damaged == 0, "too poor: {}", seen.words());
+    ensure!(seen.accepted == 2 && seen.length == 2 * (lengths.len() - 1) && seen.damaged == 0, "too poor: {}", seen.words());
     Ok(seen.words())
 }
 
@@ -240,11 +281,11 @@ fn each_rule(random: &mut Random, rounds: usize) -> Verdict {
         let mut seen = Seen::default();
         for _ in 0..tries {
             let image = records::busy(random);
-            let bytes = (damage.make)(random, image);
+            let bytes = damage.bytes(random, TODAY, image);
             let broken = model::decode(&bytes).map(|image| model::broken(&image));
             let meant = match damage.breaks {
                 Breaks::Only(rule) => Some(vec![rule]),
-                Breaks::Count => None,
+                Breaks::CopyCount | Breaks::OwnerCount => None,
             };
             ensure!(broken == meant, "{name}: {broken:?} is broken, but {meant:?} was meant");
             seen.compare(&bytes).map_err(|wrong| format!("{name}: {wrong}"))?;
@@ -286,11 +327,11 @@ fn random_bytes(random: &mut Random, rounds: usize) -> Verdict {
     let mut seen = Seen::default();
     let base = model::encode(&records::busy(random));
     for _ in 0..10_000 * rounds {
-        let length = if random.once_in(10) { random.below(1300) } else { IMAGE };
+        let length = if random.once_in(10) { random.below(1700) } else { IMAGE };
         let mut bytes = random.bytes(length);
         seen.compare(&bytes)?;
         if length == IMAGE {
-            (bytes[0], bytes[1089]) = (64, 13);
+            (bytes[0], bytes[TODAY.count_at()]) = (64, 13);
             seen.compare(&bytes)?;
             let from = random.below(IMAGE);
             let to = (from + 1 + random.below(6)).min(IMAGE);
@@ -317,6 +358,9 @@ fn threads(random: &mut Random, rounds: usize) -> Verdict {
             let mut bytes = random.bytes(IMAGE);
             ensure!(ffi::blank_image(&mut bytes) == number::OK, "the blank image is refused");
             ensure!(bytes == model::encode(&model::blank()), "the blank image is another");
+            taking::Seen::default().compare(random, &model::encode_as(model::FIRST, &image), IMAGE)?;
+            let object = random.below(70) as u8;
+            authors::compare(&model::encode(&image), object)?;
         }
         Ok(())
     })?;

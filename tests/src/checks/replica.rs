@@ -7,7 +7,7 @@ mod seen;
 use crate::checks::image::damages::DAMAGES;
 use crate::checks::image::records as images;
 use crate::checks::message::records::{self as messages, some_byte, some_node};
-use crate::model::image::{self, IMAGE};
+use crate::model::image::{self, IMAGE, TODAY};
 use crate::model::message::{self, LONGEST};
 use crate::model::number;
 use crate::random::Random;
@@ -117,7 +117,7 @@ fn every_length(random: &mut Random, rounds: usize) -> Verdict {
         let bytes = image::encode(&image);
         let me = some_node(random);
         let message = message::encode(&records::some_message(random, &image, me));
-        for length in (0..300).chain(1150..1260).chain([2414, 15_691]) {
+        for length in (0..300).chain(1150..1260).chain(1470..1580).chain([2935, 3054, 19_851]) {
             let mut cut = bytes.clone();
             cut.resize(length, 0);
             seen.compare(random, whole(&cut, me, &message))?;
@@ -138,7 +138,7 @@ fn damaged_images(random: &mut Random, rounds: usize) -> Verdict {
     for damage in DAMAGES {
         for _ in 0..tries {
             let image = images::busy(random);
-            let bytes = (damage.make)(random, image.clone());
+            let bytes = damage.bytes(random, TODAY, image.clone());
             let me = some_node(random);
             let message = message::encode(&records::some_message(random, &image, me));
             seen.compare(random, whole(&bytes, me, &message)).map_err(|wrong| format!("{}: {wrong}", damage.name))?;
@@ -167,7 +167,7 @@ fn several_numbers(random: &mut Random, rounds: usize) -> Verdict {
             if wrong(2) {
                 sent.truncate(random.below(15));
             }
-            let damaged = if wrong(3) { (random.pick(DAMAGES).make)(random, image) } else { image::encode(&image) };
+            let damaged = if wrong(3) { random.pick(DAMAGES).bytes(random, TODAY, image) } else { image::encode(&image) };
             let kept = if wrong(4) { random.below(IMAGE) } else { IMAGE };
             let size = if wrong(5) { random.below(LONGEST) } else { LONGEST };
             let me = if wrong(6) { me + 1 + random.below(200) as u8 } else { me };

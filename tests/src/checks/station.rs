@@ -1,5 +1,6 @@
 //! Random scenarios at a station: the model's own, with faults that the check of demand 3 must notice, and the library's beside the model's.
 
+mod authors;
 mod bad;
 mod closing_time;
 mod compiled;
@@ -10,8 +11,9 @@ mod stories;
 mod tampering;
 
 use crate::model::history::{History, Order};
+use crate::model::image::{FIRST, IMAGE};
 use crate::model::message::LAST;
-use crate::model::quorum::ALL;
+use crate::model::quorum::{ALL, NODES};
 use crate::model::record::RECORD;
 use crate::model::station::{blank, Station, Step};
 use crate::model::{image, number, record, Fault};
@@ -31,6 +33,7 @@ pub fn run(runner: &mut Runner) {
     runner.check("station model: each part of demand 3 can fail", |random, _| tampering::tampering(random));
     runner.check("station model: the law of the weights can fail", |_, _| tampering::weights());
     runner.check("station library: scenarios", library_scenarios);
+    runner.check("station library: taken in at rest", authors::taken_in);
     runner.check("station library: bad buffers", bad::bad_buffers);
     runner.check("station library: closing time at every moment", |_, _| closing_time::at_every_moment());
     runner.check("station library: blank", |random, _| compiled::blanks(random));
@@ -58,6 +61,7 @@ const fn slip(name: &'static str, fault: Fault, order: Order, meaning: bool, poi
 const SLIPS: &[Slip] = &[
     slip("a replica that ignores the holder", Fault::IgnoresHolder, Order::Log, true, |style| style),
     slip("a replica that ignores the version", Fault::IgnoresVersion, Order::Log, true, |style| style),
+    slip("a commit that leaves who wrote last", Fault::LeavesAuthor, Order::Log, true, |style| style),
     slip("a commit by a majority", Fault::CommitsByMajority, Order::Log, true, |style| style),
     slip("a commit by a majority, by (0) to (c) alone", Fault::CommitsByMajority, Order::Log, false, |style| style),
     slip("a late copy that changes what was found", Fault::TakesLateCopies, Order::Log, true, Style::lingering),
@@ -125,6 +129,9 @@ impl Run<'_> {
             ensure!(known, "a delivery of {:?} gave {number}", before.pool[*at]);
         }
         ensure!(event.told.is_ok() || self.station == before, "{event:?} was refused and changed something");
+        if self.setup.fault == Fault::None {
+            self.seen.authors.replaced += authors::moved(&before, &event, &self.station)?;
+        }
         if self.setup.fault == Fault::None && self.seen.steps() % self.setup.every == 0 {
             ends::same(self.setup.ends, &before, &event, &self.station)?;
         }
@@ -141,6 +148,30 @@ impl Run<'_> {
         let shown = self.compiled.as_ref().map(|compiled| compiled.whole(&self.station)).transpose()?;
         let station = shown.as_ref().unwrap_or(&self.station);
         self.history.as_ref().map_or(Ok(()), |history| history.check(station, self.setup.order))
+    }
+
+    /// Counts who wrote last, where the station is at rest and the check of demand 3 has compared it.
+    fn count_authors(&mut self) {
+        if let Some(history) = self.history.as_ref().filter(|_| self.station.at_rest()) {
+            self.seen.authors.add(&history.last_authors());
+        }
+    }
+
+    /// At rest, the images are taken in as an older program left them, without authors. The running goes on.
+    fn take_in(&mut self) -> Result<(), String> {
+        ensure!(self.station.at_rest(), "taken in while a transaction is under way");
+        for node in 0..NODES {
+            let old = image::encode_as(FIRST, &self.station.images[node]);
+            let taken = image::take_in_call(&old, IMAGE).map_err(|number| format!("the image of node {node} is not taken in: {number}"))?;
+            self.station.images[node] = image::load(&taken).map_err(|number| format!("what was taken in at node {node} is {number}"))?;
+            if let Some(compiled) = &mut self.compiled {
+                compiled.take_in(node, &old, &self.station.images[node])?;
+            }
+        }
+        if let Some(history) = &mut self.history {
+            history.forget_authors();
+        }
+        Ok(())
     }
 
     /// All that is stored is valid, as bytes too.
@@ -182,6 +213,7 @@ fn one_scenario(random: &mut Random, style: &Style, mut run: Run) -> Result<(), 
     }
     run.close(random)?;
     run.check()?;
+    run.count_authors();
     ensure!(fault != Fault::None || run.station.at_rest(), "the station does not come to rest");
     ensure!(fault != Fault::None || run.history.is_none_or(|history| history.settled()), "the station is at rest, but not settled");
     Ok(())
@@ -215,8 +247,8 @@ pub fn scenarios(random: &mut Random, rounds: usize, ends: Ends, every: usize) -
         one_scenario(random, &style, Run::new(on, setup, &mut seen))?;
     }
     let (case, least) = seen.rarest();
-    let counted = format!("{}; the rarest ({case}) {least} times", seen.words());
-    ensure!(least > 2 * rounds && seen.of(Case::Committed) > 600 * rounds, "too poor: {counted}");
+    let counted = format!("{}; the rarest ({case}) {least} times; {}", seen.words(), seen.authors.words());
+    ensure!(least > 2 * rounds && seen.of(Case::Committed) > 600 * rounds && seen.authors.rich(rounds), "too poor: {counted}");
     Ok(counted)
 }
 
@@ -235,12 +267,13 @@ fn library_scenarios(random: &mut Random, rounds: usize) -> Verdict {
     let (closed, loaded) = (seen.numbers[0][usize::from(number::CLOSED)], seen.numbers[5][0]);
     let batches = [(seen.of(Case::BatchCommitted), 500), (seen.of(Case::BatchGivenUp), 40), (seen.of(Case::ClassesOverTenths), 40)];
     let counted = format!(
-        "{}; {committed} committed; aborted: {called} by a call, {voted} by a no, {yielded} by a yield; the rarest ({case}) {least} times",
-        seen.words()
+        "{}; {committed} committed; aborted: {called} by a call, {voted} by a no, {yielded} by a yield; the rarest ({case}) {least} times; {}",
+        seen.words(),
+        seen.authors.words()
     );
     let rich = [(seen.steps(), 1_000_000), (committed, 2000), (called, 2000), (voted, 2000), (yielded, 200), (used_up, 200), (least, 10)];
     let rich = [&rich[..], &batches, &[(closed, 400), (loaded, 4000)]].concat();
-    ensure!(rich.iter().all(|&(count, floor)| count >= floor * rounds), "too poor: {counted}");
+    ensure!(rich.iter().all(|&(count, floor)| count >= floor * rounds) && seen.authors.rich(rounds), "too poor: {counted}");
     Ok(counted)
 }
 

@@ -29,6 +29,7 @@ pub fn run(runner: &mut Runner, path: &Path) {
     runner.check("station program: known texts", |_, _| known_texts(&child));
     runner.check("station program: clocks, lists and hours", |_, _| known_hours(&child));
     runner.check("station program: classes and batches", |_, _| known_classes(&child));
+    runner.check("station program: who wrote last", |_, _| known_authors(&child));
     runner.check("station program: stored scenarios", |_, _| stored(&child));
     runner.check("station program: its sample", |_, _| sample(&child));
     runner.check("station program: every byte at every place", |_, _| every_byte(&child));
@@ -246,6 +247,41 @@ fn known_classes(child: &Child) -> Verdict {
     Ok(format!("{} texts", texts.len() + 2))
 }
 
+/// A booking of 500 grams for object 7 by node 4, as lines: up to the last yes, then each participant's commit and done.
+fn booking() -> [Vec<String>; 3] {
+    let there = |to: u8, object: u8| vec![format!("send 4 {to} {object}"), String::from("deliver 0"), String::from("deliver 0")];
+    let words = |list: &[&str]| list.iter().map(|line| String::from(*line)).collect::<Vec<String>>();
+    let open = [words(&["begin 4 1 8191", "write 4 7"]), there(0, 7), words(&["set 4 7 500", "ask 4"])].concat();
+    let party = || [0, 1, 2, 4, 5, 7, 8].into_iter();
+    [open, party().flat_map(|to| there(to, 0)).collect(), party().flat_map(|to| there(to, 0)).collect()]
+}
+
+/// The program prints a text that ends so, and so does the model.
+fn ends_with(child: &Child, lines: &[String], end: &str) -> Result<(), String> {
+    let text = lines.join("\n");
+    let modelled = output(text.as_bytes())?;
+    same(child, text.as_bytes(), Feed::Pipe, &modelled)?;
+    ensure!(modelled.ends_with(end.as_bytes()), "behind {:?} the end is not {end:?}", lines.last());
+    Ok(())
+}
+
+/// Who wrote last in the ending: nobody before the first commit has arrived, the booking after it, and nobody's name by one that was given up.
+fn known_authors(child: &Child) -> Verdict {
+    let [open, votes, commits] = booking();
+    let committed = [open.clone(), votes.clone()].concat();
+    ends_with(child, &committed, "end\n  object 7 version 0 value 0 nodes 8191 by - replay 500\n  at rest no\n  settled no\n")?;
+    let first = [committed.clone(), commits[..2].to_vec()].concat();
+    ends_with(child, &first, "end\n  object 7 version 1 value 500 nodes 1 by 4/1 replay 500\n  at rest no\n  settled no\n")?;
+    let whole = [committed, commits].concat();
+    let end = "end\n  object 7 version 1 value 500 nodes 439 by 4/1 replay 500\n  at rest yes\n  settled yes\n";
+    ends_with(child, &whole, end)?;
+    // The second booking is given up once node 0 holds its copy: what it would have written has left no name.
+    let again: Vec<String> = open.iter().map(|line| line.replace("begin 4 1", "begin 4 2").replace("500", "9")).collect();
+    let given_up = [whole, again, votes[..3].to_vec(), vec![String::from("abort 4")]].concat();
+    ends_with(child, &given_up, &end.replace("rest yes", "rest no"))?;
+    Ok(String::from("4 endings"))
+}
+
 /// A batch of 4,096 weights, and of one more.
 fn full_batch(child: &Child) -> Result<(), String> {
     let sixteen = format!("list{}", " 1999".repeat(LINE_NUMBERS));
@@ -286,7 +322,7 @@ fn stored(child: &Child) -> Verdict {
         ensure!(lines(&text).iter().all(|line| read_line(line) != Line::Bad), "{}: a bad line", path.display());
         read += lines(&text).len();
     }
-    ensure!(names.len() >= 10 && read > 2000, "{} scenarios of {read} lines are too few", names.len());
+    ensure!(names.len() >= 14 && read > 2000, "{} scenarios of {read} lines are too few", names.len());
     Ok(format!("{} scenarios, {read} lines", names.len()))
 }
 
@@ -360,6 +396,9 @@ struct Counts {
     bad: BTreeMap<&'static str, usize>,
     /// Scenarios' ends: at rest or not, settled or not.
     ends: BTreeMap<(bool, bool), usize>,
+    /// Objects in ends that a transaction wrote last, and that are still nobody's.
+    written: usize,
+    unwritten: usize,
     bytes: usize,
 }
 
@@ -528,6 +567,10 @@ impl Writer<'_> {
         for &end in &self.program.ends {
             *self.counts.ends.entry(end).or_insert(0) += 1;
         }
+        let shown = lines(&self.program.printed).into_iter().filter(|line| line.starts_with(b"  object "));
+        let (unwritten, written): (Vec<&[u8]>, Vec<&[u8]>) = shown.partition(|line| line.windows(6).any(|part| part == b" by - "));
+        self.counts.written += written.len();
+        self.counts.unwritten += unwritten.len();
         self.counts.bytes += self.text.len();
         (self.text, self.program.printed)
     }
@@ -615,7 +658,8 @@ impl Counts {
         format!(
             "{} scenarios, {} bytes, {} steps, {} committed; aborted: {called} by a call, {voted} by a no, {yielded} by a yield; {}; \
              {bad} bad lines of {} kinds, {} that say nothing, {} refused blanks, {} of 160 bytes; {} negative values, {} extreme; \
-             distances {} times, none {} times; {} clocks, {} lists, {} too wide; ends (at rest, settled) {:?}; the rarest ({case}) {least} times",
+             distances {} times, none {} times; {} clocks, {} lists, {} too wide; ends (at rest, settled) {:?}, \
+             {} objects by a transaction, {} by nobody; the rarest ({case}) {least} times",
             self.scenarios,
             self.bytes,
             self.seen.steps(),
@@ -632,7 +676,9 @@ impl Counts {
             self.clocks,
             self.lists,
             self.wide,
-            self.ends
+            self.ends,
+            self.written,
+            self.unwritten
         )
     }
 }
@@ -676,6 +722,7 @@ fn random_scenarios(child: &Child, random: &mut Random, rounds: usize) -> Verdic
         (counts.clocks, 500),
         (counts.lists, 200),
         (counts.wide, 20),
+        (counts.written, 100),
         (counts.rarest().1, 1),
     ];
     ensure!(rich.iter().all(|&(count, floor)| count >= floor * rounds), "too poor: {counted}");

@@ -1,4 +1,5 @@
-//! Demand 3: what a run tells, the one-by-one running (here: replay) of the committed transactions, and what must hold between the two.
+//! Demand 3: what a run tells, the one-by-one running (here: replay) of the committed transactions, and what must hold between the two; with it who
+//! wrote last.
 //!
 //! The history is fed with events. It keeps the pool, who is on and each owner's serial by itself; of the station it reads only what
 //! demand 3 speaks of: what a record has found, and the copies in the images; and of a batch its grams, and the tenths that wait.
@@ -6,6 +7,7 @@
 use super::classes::{self, Classes, Ledger, CLASSES};
 use super::coordinator::{Brought, Call};
 use super::hours::{self, Table, LAST_MINUTE};
+use super::image::Author;
 use super::message::{kind, Entry, Message, COMMIT, WRITE, YES};
 use super::quorum::{inside, is_quorum, nodes, only, Kind, ALL, NODES};
 use super::record::Opened;
@@ -82,10 +84,11 @@ impl Story {
     }
 }
 
-/// What replay gives: what each transaction finds for its objects, and the last values.
+/// What replay gives: what each transaction finds for its objects, the last values, and who wrote each object last.
 struct Replayed {
     finds: BTreeMap<(Name, u8), i64>,
     last: [i64; OBJECTS],
+    writers: [Option<Name>; OBJECTS],
 }
 
 /// In which order the committed transactions are replayed.
@@ -114,6 +117,8 @@ pub struct History {
     ledgers: [Ledger; NODES],
     /// The new values that committed transactions gave each object.
     given: [BTreeSet<i64>; OBJECTS],
+    /// Those that were committed before the images were taken in from a layout without authors.
+    forgotten: BTreeSet<Name>,
     /// Whether it is checked what 'committed' means; the tests of the other parts leave this one out.
     meaning: bool,
 }
@@ -145,6 +150,7 @@ impl History {
             classes: std::array::from_fn(|_| None),
             ledgers: std::array::from_fn(|_| Ledger::default()),
             given: std::array::from_fn(|_| BTreeSet::new()),
+            forgotten: BTreeSet::new(),
             meaning,
         }
     }
@@ -379,7 +385,7 @@ impl History {
             Order::Log | Order::Setting => logged.copied().collect(),
             Order::Decisions => self.committed.clone(),
         };
-        let mut replayed = Replayed { finds: BTreeMap::new(), last: [0; OBJECTS] };
+        let mut replayed = Replayed { finds: BTreeMap::new(), last: [0; OBJECTS], writers: [None; OBJECTS] };
         for name in names {
             for wanted in &self.stories[&name].wanted {
                 let held = &mut replayed.last[usize::from(wanted.object)];
@@ -388,6 +394,7 @@ impl History {
                 if wanted.mode == WRITE {
                     // Past the range only in an order that is wrong, where what is found shows it.
                     *held = wanted.effect.on(held_for).unwrap_or(*held);
+                    replayed.writers[usize::from(wanted.object)] = Some(name);
                 }
             }
         }
@@ -399,7 +406,27 @@ impl History {
         self.replay(Order::Log).last
     }
 
-    /// Demand 3 of the run so far: (0), (a), and (c) where it is settled. (b) and the rest were checked at each event.
+    /// "The last writer in the newest copy is that of the one-by-one running": nobody where it has none, and unknown where it was committed before the
+    /// images were taken in.
+    fn author_of(&self, writer: Option<Name>) -> Author {
+        match writer {
+            None => Author::NOBODY,
+            Some(name) if self.forgotten.contains(&name) => Author::UNKNOWN,
+            Some(Name { owner, serial }) => Author { owner, serial },
+        }
+    }
+
+    /// The author that every newest copy of each object must have, once all is settled.
+    pub fn last_authors(&self) -> [Author; OBJECTS] {
+        self.replay(Order::Log).writers.map(|writer| self.author_of(writer))
+    }
+
+    /// The images are taken in from a layout without authors, at rest. The running goes on.
+    pub fn forget_authors(&mut self) {
+        self.forgotten = self.committed.iter().copied().collect();
+    }
+
+    /// Demand 3 of the run so far: (0), (a), and where it is settled (c) and who wrote last. (b) and the rest were checked at each event.
     pub fn check(&self, station: &Station, order: Order) -> Result<(), String> {
         let replayed = self.replay(order);
         for name in &self.committed {
@@ -413,25 +440,31 @@ impl History {
             }
         }
         if self.settled() {
-            (0..OBJECTS).try_for_each(|object| newest(station, object, replayed.last[object]))?;
+            (0..OBJECTS).try_for_each(|object| newest(station, object, replayed.last[object], self.author_of(replayed.writers[object])))?;
         }
         Ok(())
     }
 }
 
-/// (c) of one object: in every read quorum, each node whose version is the highest there has this value.
-fn newest(station: &Station, object: usize, value: i64) -> Result<(), String> {
-    let copies: [(u32, i64); NODES] = std::array::from_fn(|node| {
+/// (c) of one object, and who wrote it last: in every read quorum, each node whose version is the highest there has this value and this author.
+fn newest(station: &Station, object: usize, value: i64, author: Author) -> Result<(), String> {
+    let copies: [(u32, i64, Author); NODES] = std::array::from_fn(|node| {
         let copy = &station.images[node].copies[object];
-        (copy.version, copy.value)
+        (copy.version, copy.value, copy.author)
     });
-    if copies.iter().all(|&copy| copy == (copies[0].0, value)) {
+    if copies.iter().all(|&copy| copy == (copies[0].0, value, author)) {
         return Ok(());
     }
     for &mask in read_quorums() {
         let highest = nodes(mask).map(|node| copies[node].0).max().unwrap_or(0);
-        let wrong = nodes(mask).find(|&node| copies[node].0 == highest && copies[node].1 != value);
+        let newest = || nodes(mask).filter(|&node| copies[node].0 == highest);
+        let wrong = newest().find(|&node| copies[node].1 != value);
         ensure!(wrong.is_none(), "(c) in {mask} node {wrong:?} has {copies:?} of object {object}, but replay ends with {value}");
+        let wrong = newest().find(|&node| copies[node].2 != author);
+        ensure!(
+            wrong.is_none(),
+            "(author) in {mask} node {wrong:?} has {copies:?} of object {object}, but replay's last writer is {author:?}"
+        );
     }
     Ok(())
 }

@@ -1,6 +1,6 @@
 //! A replica (document 01: copy end): one message in, an image changed, an answer or none. Each sentence of 'The copy end' in its order.
 
-use super::image::{self, state, Image, IMAGE, NOBODY};
+use super::image::{self, state, Author, Image, IMAGE, NOBODY};
 use super::message::{self, kind, Entry, Message, Rival, Transaction, COMMIT, LONGEST, NO, READ, SHORTEST, WRITE, YES};
 use super::quorum::{nodes, only, NODES};
 use super::{number, Fault};
@@ -150,8 +150,9 @@ fn ask(image: &mut Image, me: u8, message: &Message, fault: Fault) -> Result<Opt
 
 /// "Commit on held: the copy of each tally the message writes takes the message's value and the message's version plus 1. Abort in any
 /// state. Both free the owner's copies, clear its list entries, set over and answer done. Commit on listed or refused, or on a serial above
-/// the last, is 5. .. An early abort, in state 0, makes its serial last, with its stamp, and over." Late, an outcome gets done.
-fn outcome(image: &mut Image, me: u8, message: &Message) -> Result<Option<Message>, u8> {
+/// the last, is 5. .. An early abort, in state 0, makes its serial last, with its stamp, and over." Late, an outcome gets done. A copy's last writer is
+/// the commit that wrote it (2.5).
+fn outcome(image: &mut Image, me: u8, message: &Message, fault: Fault) -> Result<Option<Message>, u8> {
     let transaction = message.transaction;
     let owner = transaction.owner;
     let done = Ok(Some(message::done(me, transaction)));
@@ -167,6 +168,9 @@ fn outcome(image: &mut Image, me: u8, message: &Message) -> Result<Option<Messag
             for entry in message.entries.iter().filter(|entry| entry.mode == WRITE) {
                 let copy = &mut image.copies[usize::from(entry.object)];
                 (copy.value, copy.version) = (entry.value, entry.version + 1);
+                if fault != Fault::LeavesAuthor {
+                    copy.author = Author { owner, serial: transaction.serial };
+                }
             }
         }
         (Standing::Listed | Standing::Held | Standing::Refused, _) => {}
@@ -185,7 +189,7 @@ pub fn deliver(image: &mut Image, me: u8, message: &Message, fault: Fault) -> Re
     match message.kind {
         kind::FETCH => fetch(image, me, message),
         kind::ASK => ask(image, me, message, fault),
-        kind::OUTCOME => outcome(image, me, message),
+        kind::OUTCOME => outcome(image, me, message, fault),
         // "So is a kind meant for the other end, at either end."
         _ => Err(number::OUT_OF_TURN),
     }

@@ -3,6 +3,7 @@
 use super::classes::encode_weights;
 use super::coordinator::Call;
 use super::history::History;
+use super::image::Author;
 use super::message::{kind, Message, READ, WRITE, YES};
 use super::quorum::{nodes, only, ALL, NODES};
 use super::station::{blank, Event, Station, Step};
@@ -225,6 +226,23 @@ fn answered(step: &Step, answer: i64) -> String {
     }
 }
 
+/// "OWNER/SERIAL", a dash where nobody wrote, a question mark where it is unknown who did.
+fn show_author(author: Author) -> String {
+    match author {
+        Author::NOBODY => String::from("-"),
+        Author::UNKNOWN => String::from("?"),
+        Author { owner, serial } => format!("{owner}/{serial}"),
+    }
+}
+
+/// The newest copies of an object.
+struct Newest {
+    version: u32,
+    value: i64,
+    nodes: u16,
+    author: Author,
+}
+
 /// What came of a line, for a test to count.
 #[derive(Clone, Debug, PartialEq, Eq)]
 pub enum Taken {
@@ -275,12 +293,13 @@ impl Program {
         self.print(&format!("  {number} {}", word_of(number)));
     }
 
-    /// The newest copies of an object: version, value, and the nodes that have it.
-    fn newest(&self, object: usize) -> (u32, i64, u16) {
+    /// The newest copies of an object: version, the nodes that have it, and the value and the author of the lowest node's.
+    fn newest(&self, object: usize) -> Newest {
         let copy = |node: usize| &self.station.images[node].copies[object];
         let version = nodes(ALL).map(|node| copy(node).version).max().expect("thirteen nodes");
         let having: Vec<usize> = nodes(ALL).filter(|&node| copy(node).version == version).collect();
-        (version, copy(having[0]).value, having.iter().map(|&node| only(node)).sum())
+        let first = copy(having[0]);
+        Newest { version, value: first.value, nodes: having.iter().map(|&node| only(node)).sum(), author: first.author }
     }
 
     /// The end of the scenario that runs, if one does.
@@ -291,9 +310,10 @@ impl Program {
         self.print("end");
         let replayed = self.history.last_values();
         for object in 0..OBJECTS {
-            let ((version, value, having), replay) = (self.newest(object), replayed[object]);
+            let (Newest { version, value, nodes, author }, replay) = (self.newest(object), replayed[object]);
             if version != 0 || replay != 0 {
-                self.print(&format!("  object {object} version {version} value {value} nodes {having} replay {replay}"));
+                let by = show_author(author);
+                self.print(&format!("  object {object} version {version} value {value} nodes {nodes} by {by} replay {replay}"));
             }
         }
         for node in nodes(ALL) {

@@ -2,7 +2,7 @@
 
 use super::records::in_state;
 use crate::checks::message::records::some_serial;
-use crate::model::image::{encode, state, Image, Owner, Rule};
+use crate::model::image::{encode_as, state, Author, Image, Layout, Owner, Rule};
 use crate::model::quorum::only;
 use crate::model::OBJECTS;
 use crate::random::Random;
@@ -12,19 +12,42 @@ use crate::random::Random;
 pub enum Breaks {
     /// This rule alone.
     Only(Rule),
-    /// A count: the bytes are no image at all.
-    Count,
+    /// The count of the copies, or of the owners: the bytes are no image at all.
+    CopyCount,
+    OwnerCount,
 }
 
 /// A way to break an image in which every state stands twice or more.
 pub struct Damage {
     pub name: &'static str,
     pub breaks: Breaks,
-    pub make: fn(&mut Random, Image) -> Vec<u8>,
+    make: fn(&mut Random, Image) -> Image,
 }
 
-const fn damage(name: &'static str, rule: Rule, make: fn(&mut Random, Image) -> Vec<u8>) -> Damage {
+const fn damage(name: &'static str, rule: Rule, make: fn(&mut Random, Image) -> Image) -> Damage {
     Damage { name, breaks: Breaks::Only(rule), make }
+}
+
+impl Damage {
+    /// The bytes of an image that is broken so, in a layout.
+    pub fn bytes(&self, random: &mut Random, layout: Layout, image: Image) -> Vec<u8> {
+        let bytes = encode_as(layout, &(self.make)(random, image));
+        match self.breaks {
+            Breaks::Only(_) => bytes,
+            Breaks::CopyCount => miscounted(random, bytes, 0),
+            Breaks::OwnerCount => miscounted(random, bytes, layout.count_at()),
+        }
+    }
+
+    /// Whether a layout has what is broken.
+    pub fn fits(&self, layout: Layout) -> bool {
+        layout.has_authors() || !matches!(self.breaks, Breaks::Only(rule) if rule.of_authors())
+    }
+}
+
+/// The ways to break an image of a layout.
+pub fn damages_of(layout: Layout) -> Vec<&'static Damage> {
+    DAMAGES.iter().filter(|damage| damage.fits(layout)).collect()
 }
 
 /// One of the owners in this state.
@@ -38,59 +61,59 @@ fn place(random: &mut Random) -> usize {
     *random.pick(&[0, 63, any])
 }
 
-fn held_by(random: &mut Random, mut image: Image, holder: u8) -> Vec<u8> {
+fn held_by(random: &mut Random, mut image: Image, holder: u8) -> Image {
     image.copies[place(random)].holder = holder;
-    encode(&image)
+    image
 }
 
 /// A copy held by an owner of another state.
-fn held_in(random: &mut Random, image: Image, state: u8) -> Vec<u8> {
+fn held_in(random: &mut Random, image: Image, state: u8) -> Image {
     let holder = one_in(random, &image, state) as u8;
     held_by(random, image, holder)
 }
 
 /// These bits among the readers or the writers of a copy.
-fn listing(random: &mut Random, mut image: Image, bits: u16, reads: bool) -> Vec<u8> {
+fn listing(random: &mut Random, mut image: Image, bits: u16, reads: bool) -> Image {
     let copy = &mut image.copies[place(random)];
     if reads {
         copy.readers |= bits;
     } else {
         copy.writers |= bits;
     }
-    encode(&image)
+    image
 }
 
 /// An owner of another state among the readers or the writers of a copy.
-fn listed_in(random: &mut Random, image: Image, state: u8, reads: bool) -> Vec<u8> {
+fn listed_in(random: &mut Random, image: Image, state: u8, reads: bool) -> Image {
     let bit = only(one_in(random, &image, state));
     listing(random, image, bit, reads)
 }
 
 /// A bit that names no node among the readers or the writers of a copy.
-fn above_all(random: &mut Random, image: Image, reads: bool) -> Vec<u8> {
+fn above_all(random: &mut Random, image: Image, reads: bool) -> Image {
     let bit = *random.pick(&[1 << 13, 1 << 14, 1 << 15, 7 << 13]);
     listing(random, image, bit, reads)
 }
 
 /// An owner whom no copy names, with these fields.
-fn owned(random: &mut Random, mut image: Image, owner: Owner) -> Vec<u8> {
+fn owned(random: &mut Random, mut image: Image, owner: Owner) -> Image {
     let state = *random.pick(&[state::OVER, state::REFUSED]);
     let node = one_in(random, &image, state);
     image.owners[node] = owner;
-    encode(&image)
+    image
 }
 
 /// An owner of this state with serial 0, or with stamp 0, or with both.
-fn emptied(random: &mut Random, mut image: Image, state: u8, serial: bool, stamp: bool) -> Vec<u8> {
+fn emptied(random: &mut Random, mut image: Image, state: u8, serial: bool, stamp: bool) -> Image {
     let node = one_in(random, &image, state);
     let owner = &mut image.owners[node];
     owner.serial = if serial { 0 } else { some_serial(random) };
     owner.stamp = if stamp { 0 } else { some_serial(random) };
-    encode(&image)
+    image
 }
 
 /// An owner whom copies name, in another state.
-fn left(random: &mut Random, mut image: Image, from: u8) -> Vec<u8> {
+fn left(random: &mut Random, mut image: Image, from: u8) -> Image {
     let node = one_in(random, &image, from);
     let other = (from + 1 + random.below(3) as u8) % 4;
     for copy in &mut image.copies[..4] {
@@ -100,12 +123,22 @@ fn left(random: &mut Random, mut image: Image, from: u8) -> Vec<u8> {
         }
     }
     image.owners[node].state = other;
-    encode(&image)
+    image
+}
+
+/// A copy with this author.
+fn written_by(random: &mut Random, mut image: Image, owner: u8, serial: u32) -> Image {
+    image.copies[place(random)].author = Author { owner, serial };
+    image
+}
+
+/// A serial with no byte but one.
+fn some_lone_byte(random: &mut Random) -> u32 {
+    (1 + random.below(255) as u32) << (8 * random.below(4))
 }
 
 /// Another byte in place of a count.
-fn miscounted(random: &mut Random, image: &Image, at: usize) -> Vec<u8> {
-    let mut bytes = encode(image);
+fn miscounted(random: &mut Random, mut bytes: Vec<u8>, at: usize) -> Vec<u8> {
     let any = 1 + random.below(255) as u8;
     let change = *random.pick(&[1, 255, 128, any]);
     bytes[at] = bytes[at].wrapping_add(change);
@@ -152,6 +185,28 @@ pub const DAMAGES: &[Damage] = &[
     damage("both 0, listed", Rule::UnusedOver, |r, i| emptied(r, i, state::LISTED, true, true)),
     damage("both 0, held", Rule::UnusedOver, |r, i| emptied(r, i, state::HELD, true, true)),
     damage("both 0, refused", Rule::UnusedOver, |r, i| emptied(r, i, state::REFUSED, true, true)),
-    Damage { name: "another count of copies", breaks: Breaks::Count, make: |r, i| miscounted(r, &i, 0) },
-    Damage { name: "another count of owners", breaks: Breaks::Count, make: |r, i| miscounted(r, &i, 1089) },
+    damage("author 13", Rule::Authors, |r, i| {
+        let serial = some_serial(r);
+        written_by(r, i, 13, serial)
+    }),
+    damage("author 253", Rule::Authors, |r, i| written_by(r, i, 253, 0)),
+    damage("author between", Rule::Authors, |r, i| {
+        let (owner, serial) = (14 + r.below(239) as u8, some_lone_byte(r) * r.below(2) as u32);
+        written_by(r, i, owner, serial)
+    }),
+    damage("an author with serial 0", Rule::AuthorSerials, |r, i| {
+        let owner = r.below(13) as u8;
+        written_by(r, i, owner, 0)
+    }),
+    damage("author 12 with serial 0", Rule::AuthorSerials, |r, i| written_by(r, i, 12, 0)),
+    damage("nobody with a serial", Rule::NoAuthorSerials, |r, i| {
+        let serial = some_lone_byte(r);
+        written_by(r, i, 255, serial)
+    }),
+    damage("unknown with a serial", Rule::NoAuthorSerials, |r, i| {
+        let serial = some_lone_byte(r);
+        written_by(r, i, 254, serial)
+    }),
+    Damage { name: "another count of copies", breaks: Breaks::CopyCount, make: |_, i| i },
+    Damage { name: "another count of owners", breaks: Breaks::OwnerCount, make: |_, i| i },
 ];

@@ -1,7 +1,7 @@
 //! Images to try: valid ones with all that an image can have, and records changed in a few fields.
 
 use crate::checks::message::records::{some_serial, some_value, some_version};
-use crate::model::image::{blank, state, Image, ObjectCopy, Owner, NOBODY};
+use crate::model::image::{blank, state, Author, Image, ObjectCopy, Owner, NOBODY};
 use crate::model::quorum::{only, NODES};
 use crate::random::Random;
 
@@ -23,11 +23,20 @@ fn some_owner(random: &mut Random, state: u8) -> Owner {
     Owner { serial: some_serial(random), state, stamp: some_serial(random) }
 }
 
+/// An author: a transaction, nobody or unknown. Nothing ties it to the rest of the copy.
+pub fn some_author(random: &mut Random) -> Author {
+    match random.below(6) {
+        0 => Author::NOBODY,
+        1 => Author::UNKNOWN,
+        _ => Author { owner: random.below(NODES) as u8, serial: some_serial(random) },
+    }
+}
+
 /// A copy that one of the held owners may hold and some of the listed ones may want.
 fn some_copy(random: &mut Random, held: &[usize], listed: &[usize]) -> ObjectCopy {
     let holder = if random.once_in(3) || held.is_empty() { NOBODY } else { *random.pick(held) as u8 };
     let (readers, writers) = (some_of(random, listed), some_of(random, listed));
-    ObjectCopy { value: some_value(random), version: some_version(random), holder, readers, writers }
+    ObjectCopy { value: some_value(random), version: some_version(random), holder, readers, writers, author: some_author(random) }
 }
 
 /// A valid image with these states.
@@ -70,7 +79,7 @@ fn some_mask(random: &mut Random) -> u16 {
 pub fn change(random: &mut Random, image: &mut Image) {
     let copy = &mut image.copies[random.below(64)];
     let owner = &mut image.owners[random.below(NODES)];
-    match random.below(9) {
+    match random.below(12) {
         0 => copy.holder = *random.pick(&[0, 1, 6, 11, 12, 13, 14, 254, 255]),
         1 => copy.holder = NOBODY,
         2 => copy.readers = some_mask(random),
@@ -79,6 +88,9 @@ pub fn change(random: &mut Random, image: &mut Image) {
         5 => copy.version = some_version(random),
         6 => owner.state = *random.pick(&[0, 1, 2, 3, 4, 255]),
         7 => owner.serial = some_version(random),
+        8 => copy.author.owner = *random.pick(&[0, 1, 6, 11, 12, 13, 14, 253, 254, 255]),
+        9 => copy.author.serial = some_version(random),
+        10 => copy.author = some_author(random),
         _ => owner.stamp = some_version(random),
     }
 }

@@ -1,5 +1,6 @@
 //! Images and messages that meet: few serials, stamps and versions, so that they are often equal, and often one apart.
 
+use crate::checks::image::records::some_author;
 use crate::checks::message::records::{other_node, some_entries, some_node, some_serial, some_value};
 use crate::model::image::{blank, state, Image, ObjectCopy, Owner, NOBODY};
 use crate::model::message::{self, Entry, Message, Rival, Transaction, ABORT, COMMIT, ENTRIES, LAST, WRITE, YES};
@@ -45,7 +46,8 @@ pub fn some_image(random: &mut Random) -> Image {
         let holder = if free == 0 || held.is_empty() || !random.once_in(10) { NOBODY } else { *random.pick(&held) };
         let readers = some_in(random, &image, state::LISTED, alone);
         let writers = some_in(random, &image, state::LISTED, alone);
-        image.copies[object] = ObjectCopy { value: some_value(random), version: some_near(random), holder, readers, writers };
+        let (value, version, author) = (some_value(random), some_near(random), some_author(random));
+        image.copies[object] = ObjectCopy { value, version, holder, readers, writers, author };
     }
     image
 }

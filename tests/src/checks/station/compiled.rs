@@ -3,10 +3,12 @@
 
 use super::ends::answered;
 use super::scenario::{next_step, some_style};
+use crate::ffi;
 use crate::ffi::coordinator as lone;
 use crate::ffi::station as library;
 use crate::model::buffers::{self, Buffers, IMAGES, OWN, RECORDS, SLOTS};
 use crate::model::classes::CLASSES;
+use crate::model::image::{Image, IMAGE};
 use crate::model::quorum::ALL;
 use crate::model::settings::{self, STATION_SETTINGS};
 use crate::model::station::{blank, Event, Station, Step, Told};
@@ -68,6 +70,14 @@ impl Compiled {
         ensure!(is.own == expected.own, "mask");
         ensure!(is.settings == expected.settings, "settings");
         Ok(())
+    }
+
+    /// The library takes a node's older image in, to the node's part of its images, which then has this one.
+    pub fn take_in(&mut self, node: usize, old: &[u8], image: &Image) -> Result<(), String> {
+        let number = ffi::take_in(old, &mut self.is.images[node * IMAGE..(node + 1) * IMAGE]);
+        ensure!(number == number::OK, "the library does not take node {node}'s older image in: {number}");
+        self.expected.put_image(node, image);
+        self.same().map_err(|name| format!("node {node}'s older image is taken in: the library's {name} are other bytes"))
     }
 
     /// The event as the library's station tells it.

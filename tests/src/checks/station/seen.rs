@@ -1,5 +1,6 @@
 //! What the scenarios met: each step's number, and what became of transactions and why.
 
+use super::authors::Authors;
 use crate::model::classes::CLASSES;
 use crate::model::coordinator::{misfits, Brought, Call};
 use crate::model::image::Image;
@@ -168,6 +169,8 @@ pub struct Seen {
     reasons: BTreeMap<(u8, u32, u8), Case>,
     /// The weights of a node's last batch, as they were lent.
     batches: BTreeMap<u8, Vec<u8>>,
+    /// Who wrote last.
+    pub authors: Authors,
 }
 
 impl Seen {

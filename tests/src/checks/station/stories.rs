@@ -1,6 +1,7 @@
 //! Short scenarios whose every number and message is written out here, from document 01's sentences.
 
 use crate::model::coordinator::{Brought, Call};
+use crate::model::image::Author;
 use crate::model::message::{self, Entry, Message, Rival, Transaction, ABORT, COMMIT, LAST, NO, READ, WRITE, YES};
 use crate::model::record::{decided, phase};
 use crate::model::station::{blank, Station, Step, Told, POOL};
@@ -109,8 +110,9 @@ fn conflict_ends(it: &mut Station, wrote: Vec<Entry>) -> Result<(), String> {
         let brought = if node == 8 { Brought::Finished } else { Brought::Nothing };
         ensure!(back(it) == Ok(brought as i64), "node {node}'s done brings about another thing");
     }
-    let copies = it.images.iter().map(|image| (image.copies[7].version, image.copies[7].value)).collect::<Vec<_>>();
-    let expected: Vec<(u32, i64)> = (0..13).map(|node| if PARTY.contains(&node) { (1, 4) } else { (0, 0) }).collect();
+    let copies = it.images.iter().map(|image| (image.copies[7].version, image.copies[7].value, image.copies[7].author)).collect::<Vec<_>>();
+    let (new, old) = ((1, 4, Author { owner: 4, serial: 1 }), (0, 0, Author { owner: 255, serial: 0 }));
+    let expected: Vec<(u32, i64, Author)> = (0..13).map(|node| if PARTY.contains(&node) { new } else { old }).collect();
     ensure!(it.at_rest() && it.pool.is_empty() && copies == expected, "the copies are {copies:?}");
     Ok(())
 }

@@ -3,8 +3,9 @@
 use super::seen::Seen;
 use super::{Run, SETUP};
 use crate::model::coordinator::Call;
+use crate::model::image::Author;
 use crate::model::message::{READ, WRITE};
-use crate::model::quorum::ALL;
+use crate::model::quorum::{ALL, NODES};
 use crate::model::station::Step;
 use crate::random::Random;
 use crate::runner::{ensure, Verdict};
@@ -55,6 +56,7 @@ pub fn tampering(random: &mut Random) -> Verdict {
         fails("(c)", run.check())?;
         run.station.images[node].copies[7].value = 70;
     }
+    authors(&mut run)?;
     // Node 5 finds 70. That it found what nobody wrote is seen at once; that it found the value before is seen when it has committed.
     open(&mut run, 5, READ)?;
     let found = Step::Host { node: 5, call: Call::Found { object: OBJECT } };
@@ -71,7 +73,27 @@ pub fn tampering(random: &mut Random) -> Verdict {
     run.check()?;
     run.close(random)?;
     fails("(a)", run.check())?;
-    Ok(String::from("(0), (a), (b) and (c)"))
+    Ok(String::from("(0), (a), (b), (c) and who wrote last"))
+}
+
+/// At rest, after node 3's first transaction wrote the object: each participant's copy must name it, and no copy of another object anybody.
+fn authors(run: &mut Run) -> Result<(), String> {
+    let wrote = Author { owner: 3, serial: 1 };
+    for node in PARTY.map(usize::from) {
+        for other in [Author::NOBODY, Author::UNKNOWN, Author { owner: 4, ..wrote }, Author { serial: 2, ..wrote }] {
+            run.station.images[node].copies[7].author = other;
+            fails("(author)", run.check())?;
+        }
+        run.station.images[node].copies[7].author = wrote;
+    }
+    for node in 0..NODES {
+        for other in [Author::UNKNOWN, wrote] {
+            run.station.images[node].copies[8].author = other;
+            fails("(author)", run.check())?;
+        }
+        run.station.images[node].copies[8].author = Author::NOBODY;
+    }
+    run.check()
 }
 
 /// A batch of node 3, up to its last vote but one; the steps that are left.
