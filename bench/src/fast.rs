@@ -15,7 +15,7 @@ mod replica;
 mod station;
 mod writers;
 
-use crate::library::{BeginWith, Chosen, Entries, Entry, Lent, Library, Serials, Told, Transaction, Written};
+use crate::library::{Author, BeginWith, Chosen, Entries, Entry, Lent, Library, Serials, Told, Transaction, Written};
 
 /// The numbers of a refusal.
 pub mod number {
@@ -111,6 +111,8 @@ passed_on! {
 
     fn check_image(image: &[u8]) -> u8 = image::check(image);
     fn blank_image(image: &mut [u8]) -> u8 = image::blank(image);
+    fn take_in(image: &mut [u8], old: &[u8]) -> u8 = image::take_in(old, image);
+    fn image_author(image: &[u8], object: u8) -> Author = image::author_call(image, object);
     fn replica_receive(image: &mut [u8], me: u8, message: &[u8], answer: &mut [u8]) -> Written =
         written(replica::receive(image, me, message, answer));
     fn replica_answers(image: &[u8], me: u8, message: &[u8]) -> u8 = u8::from(replica::answers(image, me, message));

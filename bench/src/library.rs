@@ -3,7 +3,8 @@
 /// Bytes of each buffer, as the header names them.
 pub const NODES: usize = 13;
 pub const MESSAGE_MAX: usize = 128;
-pub const IMAGE: usize = 1207;
+pub const IMAGE: usize = 1527;
+pub const OLDER_IMAGE: usize = 1207;
 pub const RECORD: usize = 301;
 pub const WAITING: usize = 128;
 pub const SLOT: usize = 1 + MESSAGE_MAX;
@@ -39,6 +40,15 @@ pub struct Told {
 pub struct Written {
     pub number: u8,
     pub length: u8,
+}
+
+/// `senna_author`.
+#[repr(C)]
+#[derive(Clone, Copy, Debug, PartialEq, Eq)]
+pub struct Author {
+    pub number: u8,
+    pub owner: u8,
+    pub serial: u32,
 }
 
 /// `senna_entry`.
@@ -111,6 +121,8 @@ pub trait Library {
 
     fn check_image(image: &[u8]) -> u8;
     fn blank_image(image: &mut [u8]) -> u8;
+    fn take_in(image: &mut [u8], old: &[u8]) -> u8;
+    fn image_author(image: &[u8], object: u8) -> Author;
     fn replica_receive(image: &mut [u8], me: u8, message: &[u8], answer: &mut [u8]) -> Written;
     fn replica_answers(image: &[u8], me: u8, message: &[u8]) -> u8;
 

@@ -1,7 +1,7 @@
 //! The operations that are measured, each with the buffers it starts from. An operation is written once and compiled for both libraries.
 
 use crate::fast::Fast;
-use crate::library::{BeginWith, Chosen, Entries, Library, Told, Written, ALL};
+use crate::library::{Author, BeginWith, Chosen, Entries, Library, Told, Written, ALL};
 use crate::product::Product;
 use crate::scenes::{self, Scene};
 use crate::stage::Stage;
@@ -52,6 +52,12 @@ impl Seen for Chosen {
 impl Seen for Told {
     fn seen(self) -> u64 {
         u64::from(self.number) << 56 ^ self.answer
+    }
+}
+
+impl Seen for Author {
+    fn seen(self) -> u64 {
+        u64::from(self.number) << 56 | u64::from(self.owner) << 32 | u64::from(self.serial)
     }
 }
 
@@ -116,6 +122,8 @@ fn messages(list: &mut Vec<Op>) {
 fn replicas(list: &mut Vec<Op>) {
     op!(list, "image", "check", scenes::stage(Scene::Held), |s| L::check_image(&s.image));
     op!(list, "image", "blank", scenes::stage(Scene::Held), |s| L::blank_image(&mut s.image));
+    op!(list, "image", "author", scenes::stage(Scene::Held), |s| L::image_author(&s.image, black_box(5)));
+    op!(list, "image", "take in", scenes::with_message(scenes::older_image()), |s| L::take_in(&mut s.image, &s.message));
     for (name, stage) in scenes::replica() {
         op!(list, "replica receive", name, stage, |s| L::replica_receive(&mut s.image, black_box(1), &s.message, &mut s.out));
     }

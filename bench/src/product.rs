@@ -1,6 +1,6 @@
 //! The compiled library, called through the functions of `include/senna.h`. A slice is passed as a pointer and a length.
 
-use crate::library::{BeginWith, Chosen, Entries, Entry, Lent, Library, Serials, Told, Transaction, Written};
+use crate::library::{Author, BeginWith, Chosen, Entries, Entry, Lent, Library, Serials, Told, Transaction, Written};
 
 extern "C" {
     fn senna_is_read_quorum(mask: u16) -> u8;
@@ -35,6 +35,8 @@ extern "C" {
     fn senna_write_yield(out: *mut u8, out_length: usize, owner: u8, serial: u32, stamp: u32, rival: u8, rival_serial: u32) -> Written;
     fn senna_check_image(image: *const u8, image_length: usize) -> u8;
     fn senna_blank_image(image: *mut u8, image_length: usize) -> u8;
+    fn senna_take_in(old: *const u8, old_length: usize, image: *mut u8, image_length: usize) -> u8;
+    fn senna_image_author(image: *const u8, image_length: usize, object: u8) -> Author;
     fn senna_replica_receive(
         image: *mut u8,
         image_length: usize,
@@ -348,6 +350,14 @@ impl Library for Product {
     #[inline(always)]
     fn blank_image(image: &mut [u8]) -> u8 {
         unsafe { senna_blank_image(image.as_mut_ptr(), image.len()) }
+    }
+    #[inline(always)]
+    fn take_in(image: &mut [u8], old: &[u8]) -> u8 {
+        unsafe { senna_take_in(old.as_ptr(), old.len(), image.as_mut_ptr(), image.len()) }
+    }
+    #[inline(always)]
+    fn image_author(image: &[u8], object: u8) -> Author {
+        unsafe { senna_image_author(image.as_ptr(), image.len(), object) }
     }
     #[inline(always)]
     fn replica_receive(image: &mut [u8], me: u8, message: &[u8], answer: &mut [u8]) -> Written {

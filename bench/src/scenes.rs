@@ -133,6 +133,20 @@ pub fn batch_ready() -> Stage {
     stage
 }
 
+/// An image of the first release in which every object has been written: copies of 17 bytes, without authors.
+pub fn older_image() -> Vec<u8> {
+    let image = stage(Scene::Held).image;
+    let (copies, owners) = image.split_at(1 + 22 * 64);
+    let mut old = copies[..1].to_vec();
+    for copy in copies[1..].chunks(22) {
+        old.extend(&copy[..17]);
+        let version = old.len() - 9;
+        old[version] = 1;
+    }
+    old.extend(owners);
+    old
+}
+
 pub fn with_message(message: Vec<u8>) -> Stage {
     Stage { message, ..stage(Scene::Idle) }
 }

@@ -3,7 +3,7 @@
 
 use super::{same, Counts, Verdict};
 use crate::fast::Fast;
-use crate::library::{Entries, Entry, Library, Serials, Transaction, Written};
+use crate::library::{Entries, Entry, Library, Serials, Transaction, Written, IMAGE, OLDER_IMAGE};
 use crate::product::Product;
 use crate::random::Random;
 use crate::station::Station;
@@ -12,6 +12,11 @@ use crate::station::Station;
 const MASKS: [usize; 6] = [10, 38, 40, 243, 245, 247];
 const OBJECTS: usize = 43;
 const RIVALS: usize = 249;
+
+/// An image's copies, and its owners.
+const COPIES: usize = 1;
+const COPY: usize = 22;
+const OWNERS: usize = COPIES + COPY * 64 + 1;
 
 fn number(bytes: &[u8], place: usize) -> u32 {
     u32::from_le_bytes([bytes[place], bytes[place + 1], bytes[place + 2], bytes[place + 3]])
@@ -37,13 +42,15 @@ fn tweak_record(random: &mut Random, record: &mut [u8]) {
 
 /// One field of an image becomes another that could be meant.
 fn tweak_image(random: &mut Random, image: &mut [u8]) {
-    let (copy, owner) = (1 + 17 * random.below(64), 1090 + 9 * random.below(13));
-    match random.below(6) {
+    let (copy, owner) = (COPIES + COPY * random.below(64), OWNERS + 9 * random.below(13));
+    match random.below(8) {
         0 => image[owner + 4] = random.below(5) as u8,
         1 => image[owner] ^= 1,
         2 => image[owner + 5] = random.below(4) as u8,
         3 => image[copy + 12] = if random.once_in(2) { random.below(14) as u8 } else { 255 },
         4 => image[copy + 13 + random.below(4)] ^= 1 << random.below(8),
+        5 => image[copy + 17] = *random.pick(&[0, 5, 12, 13, 200, 253, 254, 255]),
+        6 => image[copy + 18 + random.below(4)] = random.below(2) as u8,
         _ => image[copy + 8] = random.below(4) as u8,
     }
 }
@@ -91,13 +98,13 @@ fn answer_to(random: &mut Random, record: &[u8], me: u8) -> Vec<u8> {
 /// A fetch, ask or outcome that nearly fits the image of a node.
 fn order_to(random: &mut Random, image: &[u8], me: u8) -> Vec<u8> {
     let owner = random.below(13) as u8;
-    let last = 1090 + 9 * usize::from(owner);
+    let last = OWNERS + 9 * usize::from(owner);
     let serial = number(image, last).wrapping_add([0, 0, 0, 1, u32::MAX][random.below(5)]);
     let of = Transaction { owner, serial, stamp: if random.once_in(4) { 1 } else { number(image, last + 5) } };
     let mut object = random.below(6) as u8;
     let mut entry = |random: &mut Random| {
         let mode = random.below(2) as u8;
-        let version = number(image, 1 + 17 * usize::from(object & 63) + 8);
+        let version = number(image, COPIES + COPY * usize::from(object & 63) + 8);
         let version = if random.once_in(4) { version ^ 1 } else { version };
         let entry = Entry { object, mode, version, value: if mode == 0 { 0 } else { random.next() as i64 } };
         object += 1 + random.below(6) as u8;
@@ -144,7 +151,25 @@ pub fn at_coordinator(random: &mut Random, station: &Station, counts: &mut Count
     Ok(())
 }
 
-/// An image of the station, nearly in order: its check, and four orders, one after the other.
+/// An image without its authors, as an older one was, with a length now and then that is another.
+fn older(random: &mut Random, image: &[u8]) -> Vec<u8> {
+    let mut old = image[..1].to_vec();
+    image[COPIES..OWNERS - 1].chunks(COPY).for_each(|copy| old.extend(&copy[..17]));
+    old.extend(&image[OWNERS - 1..]);
+    old.resize(random.mostly(OLDER_IMAGE, OLDER_IMAGE - 1), 0);
+    old
+}
+
+/// An older image taken in, to a buffer that now and then has another length.
+fn taking_in(random: &mut Random, image: &[u8]) -> Verdict {
+    let old = older(random, image);
+    let size = random.mostly(IMAGE, OLDER_IMAGE);
+    let (mut one, mut other) = (vec![7; size], vec![7; size]);
+    same("take_in", Product::take_in(&mut one, &old), Fast::take_in(&mut other, &old))?;
+    same("take_in: bytes", one, other)
+}
+
+/// An image of the station, nearly in order: its check, what it tells and becomes, and four orders, one after the other.
 pub fn at_replica(random: &mut Random, station: &Station, counts: &mut Counts) -> Verdict {
     let me = random.below(13) as u8;
     let mut image = station.image(usize::from(me)).to_vec();
@@ -152,6 +177,9 @@ pub fn at_replica(random: &mut Random, station: &Station, counts: &mut Counts) -
         tweak_image(random, &mut image);
     }
     same("check_image", Product::check_image(&image), Fast::check_image(&image))?;
+    let object = random.below(66) as u8;
+    same("image_author", Product::image_author(&image, object), Fast::image_author(&image, object))?;
+    taking_in(random, &image)?;
     for _ in 0..4 {
         let message = order_to(random, &image, me);
         let message = bend(random, message);
@@ -162,6 +190,6 @@ pub fn at_replica(random: &mut Random, station: &Station, counts: &mut Counts) -
         same("replica_receive: image", &image, &other)?;
         same("replica_receive: answer", out, out2)?;
     }
-    counts.calls += 9;
+    counts.calls += 11;
     Ok(())
 }

@@ -2,15 +2,19 @@
 
 use super::bytes::{get_u16, get_u32, get_u64, put_u32};
 use super::number;
-use crate::library::{IMAGE, NODES};
+use crate::library::{Author, IMAGE, NODES, OLDER_IMAGE};
 
 pub type Image = [u8; IMAGE];
 
-/// Sizes and places: a copy (value 8, version 4, holder 1, readers 2, writers 2), the owners' count, an owner (serial 4, state 1, stamp 4).
-const COPY: usize = 17;
+/// Sizes and places: a copy (value 8, version 4, holder 1, readers 2, writers 2, author's owner 1 and serial 4), the owners' count, an owner (serial 4,
+/// state 1, stamp 4). A copy of an older image is without its author.
+const COPY: usize = 22;
 const OWNER_COUNT: usize = 1 + 64 * COPY;
 const OWNER: usize = 9;
+const OLDER_COPY: usize = 17;
+const OLDER_OWNER_COUNT: usize = 1 + 64 * OLDER_COPY;
 pub const NOBODY: u8 = 255;
+const UNKNOWN: u8 = 254;
 
 /// States of an owner.
 pub const OVER: u8 = 0;
@@ -65,9 +69,18 @@ pub fn writers(copy: &[u8; COPY]) -> u16 {
     get_u16(copy, 15)
 }
 
-/// The places of a copy's holder and of its two lists, which are read and changed as one number.
+/// The places of a copy's holder, of its two lists, which are read and changed as one number, and of its author.
 pub const HOLDER: usize = 12;
 pub const LISTS: usize = 13;
+const AUTHOR: usize = 17;
+const AUTHOR_SERIAL: usize = 18;
+
+/// A transaction wrote the copy last.
+#[inline(always)]
+pub fn set_author(copy: &mut [u8; COPY], owner: u8, serial: u32) {
+    copy[AUTHOR] = owner;
+    put_u32(copy, AUTHOR_SERIAL, serial);
+}
 
 /// Where an owner stands; owners are below 13.
 #[inline(always)]
@@ -140,18 +153,28 @@ fn owners_in_order(image: &Image) -> Option<(u16, u16)> {
     Some(((by_state >> 16) as u16, (by_state >> 32) as u16))
 }
 
-/// Every list within the listed owners, every holder nobody or a held owner. The lists are gathered and looked at once.
+/// Whether an author breaks a rule: it is an owner with a serial, or nobody or unknown without one. Counted from unknown on, these two are 0 and 1, the
+/// owners 2 to 14.
+#[inline(always)]
+fn author_broken(copy: &[u8; COPY]) -> bool {
+    let (kind, serial) = (copy[AUTHOR].wrapping_sub(UNKNOWN), get_u32(copy, AUTHOR_SERIAL));
+    (kind > 14) | ((kind > 1) ^ (serial != 0))
+}
+
+/// Every list within the listed owners, every holder nobody or a held owner, every author in order. Lists and authors are gathered and looked at once.
 #[inline(always)]
 fn copies_in_order(image: &Image, listed: u16, held: u16) -> bool {
     let mut lists = 0u32;
+    let mut broken = false;
     for copy in copies(image) {
         lists |= get_u32(copy, LISTS);
+        broken |= author_broken(copy);
         let holder = copy[HOLDER];
         if holder != NOBODY && (holder > 12 || held >> holder & 1 == 0) {
             return false;
         }
     }
-    (lists | lists >> 16) as u16 & !listed == 0
+    !broken && (lists | lists >> 16) as u16 & !listed == 0
 }
 
 /// Whether every rule of the image is kept.
@@ -179,7 +202,7 @@ pub fn make_blank(image: &mut Image) {
     image[0] = 64;
     image[OWNER_COUNT] = 13;
     for copy in copies_mut(image) {
-        copy[HOLDER] = NOBODY;
+        (copy[HOLDER], copy[AUTHOR]) = (NOBODY, NOBODY);
     }
 }
 
@@ -187,4 +210,39 @@ pub fn blank(image: &mut [u8]) -> u8 {
     let Ok(image) = image.try_into() else { return number::LENGTH };
     make_blank(image);
     0
+}
+
+/// An older image as one of the present length: each copy gets an author, unknown above version 0. Its rules are those of what it becomes.
+fn longer(old: &[u8; OLDER_IMAGE]) -> Image {
+    let mut image = [0; IMAGE];
+    (image[0], image[OWNER_COUNT]) = (old[0], old[OLDER_OWNER_COUNT]);
+    let older: &[[u8; OLDER_COPY]] = old[1..OLDER_OWNER_COUNT].as_chunks().0;
+    for (copy, older) in copies_mut(&mut image).iter_mut().zip(older) {
+        copy[..OLDER_COPY].copy_from_slice(older);
+        copy[AUTHOR] = if get_u32(older, 8) == 0 { NOBODY } else { UNKNOWN };
+    }
+    image[OWNER_COUNT + 1..].copy_from_slice(&old[OLDER_OWNER_COUNT + 1..]);
+    image
+}
+
+/// Takes an older image in; its number, 0, 1 or 2.
+pub fn take_in(old: &[u8], image: &mut [u8]) -> u8 {
+    let (Ok(old), Ok(image)) = (old.try_into(), <&mut Image>::try_from(image)) else { return number::LENGTH };
+    let taken = longer(old);
+    if !is_valid(&taken) {
+        return number::DAMAGED;
+    }
+    *image = taken;
+    0
+}
+
+/// Who wrote an object's copy last, or why it is not told.
+pub fn author_call(image: &[u8], object: u8) -> Author {
+    let refused = |number| Author { number, owner: 0, serial: 0 };
+    let Ok(image) = <&Image>::try_from(image) else { return refused(number::LENGTH) };
+    match copies(image).get(usize::from(object)) {
+        _ if !is_valid(image) => refused(number::DAMAGED),
+        None => refused(number::NO_SUCH_OBJECT),
+        Some(copy) => Author { number: 0, owner: copy[AUTHOR], serial: get_u32(copy, AUTHOR_SERIAL) },
+    }
 }

@@ -149,6 +149,7 @@ fn settle(image: &mut Image, of: Transaction, commits: bool, message: &[u8]) -> 
                 let copy = image::copy_mut(image, entry[0]);
                 put_u64(copy, 0, get_u64(entry, 6));
                 put_u32(copy, 8, get_u32(entry, 2) + 1);
+                image::set_author(copy, of.owner, of.serial);
             }
         }
     }
