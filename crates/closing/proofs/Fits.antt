@@ -1,4 +1,4 @@
--- The end of a scenario has at most 9,438 bytes, whatever the buffers are: an object's line has at most 110, and there are 64 of them; a node's line of tenths
+-- The end of a scenario has at most 12,318 bytes, whatever the buffers are: an object's line has at most 155, and there are 64 of them; a node's line of tenths
 -- has at most 182.
 use mathlib.Core.Path.{_≡_, refl, sym, subst}
 use mathlib.Core.Bool.{Bool, true, false, cond, _&&_}
@@ -14,7 +14,7 @@ use Rattle.record.specs.declared.Called.{Called}
 use Rattle.buffers.specs.Buffers.{imagesSize, recordsSize, recordAt}
 use Rattle.frontend.specs.Tell.{waitingOf}
 use Rattle.service_calls.specs.Lent.{allSettings, settingsAt}
-use Rattle.numbers.specs.Sizes.{nodes, objects}
+use Rattle.numbers.specs.Sizes.{nodes, objects, nobody, unknown}
 use Rattle.mask.specs.Mask.{only}
 use Rattle.mask.proofs.Laws.{only-small}
 use Rattle.decimal.specs.Decimal.{decimal, putAt}
@@ -25,11 +25,11 @@ use Rattle.report.specs.Each.{eachFrom}
 use Rattle.report.specs.Texts.{Text, spaceText, numberTexts, valueTexts, versionText, valueText}
 use Rattle.report.proofs.Long.{long, long-append, number-as, number-long, value-long, each-long}
 use Rattle.closing.specs.declared.Best.{Best}
-use Rattle.closing.specs.Copies.{copyAt, newerOf, newestOf, newest}
+use Rattle.closing.specs.Copies.{noCopy, copyAt, newerOf, newestOf, newest}
 use Rattle.closing.specs.State.{atRest, settled}
 use Rattle.closing.specs.Texts.{endText, objectText, nodesText, replayText, lineEnd, restText, settledText, yesText, noText, copyTexts, objectTexts}
 use Rattle.closing.specs.Texts.{nthObjectTexts, objectsTexts, waitingText, classTexts, nthClassTexts, nodeTexts, nthNodeTexts, waitingTexts}
-use Rattle.closing.specs.Texts.{answerTexts, closingTexts, closed}
+use Rattle.closing.specs.Texts.{byText, byNobodyText, byUnknownText, slashText, authorTexts, answerTexts, closingTexts, closed}
 use Rattle.closing.proofs.Newest.{Newer, second, both, first, newer}
 
 -- ---- the nodes are a mask of thirteen
@@ -51,7 +51,7 @@ nodes-lt : (l : List ℕ) (t : ℕ) → newest l t .nodes < 2 ^ nodes
 unfolding newest
 nodes-lt l t = by (eqb (length l) imagesSize)
   where
-    by : (b : Bool) → cond b (newestOf l t nodes) (record { version = 0; value = 0; nodes = 0 }) .nodes < 2 ^ nodes
+    by : (b : Bool) → cond b (newestOf l t nodes) noCopy .nodes < 2 ^ nodes
     by true = nodes-of l t nodes (omega arith)
     by false = omega arith
 
@@ -74,16 +74,34 @@ copy-long t b h g =
     let brief : length (decimal (b .nodes)) ≤ 5 = decimal-short 5 (b .nodes) (omega arith) (omega arith) in
     omega arith
 
-object-long : (t : ℕ) (b : Best) (v : ℕ) → t < objects → b .nodes < 2 ^ nodes → long (objectTexts t b v) ≤ 110
+author-long : (owner serial : ℕ) → long (authorTexts owner serial) ≤ 45
+unfolding authorTexts joined
+author-long owner serial = by (eqb owner nobody) (eqb owner unknown)
+  where
+    by : (x y : Bool)
+        → long (cond x (byNobodyText ∷ []) (cond y (byUnknownText ∷ []) (numberTexts byText owner ++ numberTexts slashText serial))) ≤ 45
+    by true y = omega arith
+    by false true = omega arith
+    by false false =
+        let e = long-append (numberTexts byText owner) (numberTexts slashText serial) in
+        let p = number-long byText owner in
+        let q = number-long slashText serial in
+        omega arith
+
+object-long : (t : ℕ) (b : Best) (v : ℕ) → t < objects → b .nodes < 2 ^ nodes → long (objectTexts t b v) ≤ 155
 unfolding objectTexts joined
 object-long t b v h g = by (eqb (b .version) 0 && eqb v 0)
   where
-    by : (x : Bool) → long (cond x [] (copyTexts t b ++ valueTexts replayText v ++ (lineEnd ∷ []))) ≤ 110
+    by : (x : Bool) → long (cond x [] (copyTexts t b ++ authorTexts (b .author) (b .serial) ++ valueTexts replayText v ++ (lineEnd ∷ []))) ≤ 155
     by true = omega arith
     by false =
-        let e = long-append (copyTexts t b ++ valueTexts replayText v) (lineEnd ∷ []) in
-        let f = long-append (copyTexts t b) (valueTexts replayText v) in
+        let one = copyTexts t b in
+        let two = authorTexts (b .author) (b .serial) in
+        let e = long-append (one ++ two ++ valueTexts replayText v) (lineEnd ∷ []) in
+        let f = long-append (one ++ two) (valueTexts replayText v) in
+        let k = long-append one two in
         let p = copy-long t b h g in
+        let a = author-long (b .author) (b .serial) in
         let q = value-long replayText v in
         omega arith
 
@@ -127,7 +145,7 @@ waiting-long records settings = by (eqb (length records) recordsSize && eqb (len
     by false = omega arith
 
 -- THEOREM
-pub closing-long : (images records settings sheet : List ℕ) → long (closingTexts images records settings sheet) ≤ 9438
+pub closing-long : (images records settings sheet : List ℕ) → long (closingTexts images records settings sheet) ≤ 12318
 unfolding closingTexts objectsTexts joined
 closing-long images records settings sheet =
     let lines = objectsTexts images sheet in
@@ -139,14 +157,14 @@ closing-long images records settings sheet =
     let k = long-append ((endText ∷ []) ++ lines) tenths in
     let g = long-append (endText ∷ []) lines in
     let t = waiting-long records settings in
-    let p : long lines ≤ 110 * objects = each-long (nthObjectTexts images sheet) 110 objects 0
+    let p : long lines ≤ 155 * objects = each-long (nthObjectTexts images sheet) 155 objects 0
     (λ t h. object-long t (newest images t) (valueOf sheet t) (omega arith) (nodes-lt images t)) in
     let q = answer-long restText (atRest records) refl in
     let r = answer-long settledText (settled images records) refl in
     omega arith
 
 -- so in a buffer with that much room all of it is put, and nothing else is changed
-pub closing-fits : (images records settings sheet out : List ℕ) (at : ℕ) → at + 9438 ≤ length out → closed (page out at) images records settings sheet
+pub closing-fits : (images records settings sheet out : List ℕ) (at : ℕ) → at + 12318 ≤ length out → closed (page out at) images records settings sheet
     ≡ page (putAt out at (joined (closingTexts images records settings sheet))) (at + long (closingTexts images records settings sheet))
 closing-fits images records settings sheet out at h =
     inks-fit (closingTexts images records settings sheet) out at (let k = closing-long images records settings sheet in omega arith)

@@ -17,12 +17,12 @@ use Rattle.image.proofs.Each.{lt-or-le}
 use Rattle.image.proofs.Marks.{contains-none}
 use Rattle.buffers.specs.Buffers.{imageAt}
 use Rattle.closing.specs.declared.Best.{Best}
-use Rattle.closing.specs.Copies.{copyAt, newerOf, newestOf}
+use Rattle.closing.specs.Copies.{copyAt, withNodes, newerOf, newestOf}
 
 -- of two copies: the second is newer, or both are as new, or the first is newer
 pub data Newer (a b : Best) : Type 0 where
   second : a .version < b .version → newerOf a b ≡ b → Newer a b
-  both : b .version ≡ a .version → newerOf a b ≡ record { version = a .version; value = a .value; nodes = joined (a .nodes) (b .nodes) } → Newer a b
+  both : b .version ≡ a .version → newerOf a b ≡ withNodes a (joined (a .nodes) (b .nodes)) → Newer a b
   first : b .version < a .version → newerOf a b ≡ a → Newer a b
 
 pub newer : (a b : Best) → Newer a b

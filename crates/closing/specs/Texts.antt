@@ -5,7 +5,7 @@ use mathlib.Core.List.{List, [], _∷_, _++_}
 use Prim.Native.Nat.{ℕ}
 use lib.Dec.{eqb}
 use lib.ListN.{length}
-use Rattle.numbers.specs.Sizes.{nodes, objects}
+use Rattle.numbers.specs.Sizes.{nodes, objects, nobody, unknown}
 use Rattle.classes.specs.Classes.{mostClasses}
 use Rattle.record.specs.declared.Called.{Called}
 use Rattle.buffers.specs.Buffers.{recordsSize, recordAt}
@@ -30,6 +30,19 @@ objectText = 32 ∷ 32 ∷ 111 ∷ 98 ∷ 106 ∷ 101 ∷ 99 ∷ 116 ∷ 32 ∷ 
 -- ` nodes `
 abbrev pub nodesText : Text
 nodesText = 32 ∷ 110 ∷ 111 ∷ 100 ∷ 101 ∷ 115 ∷ 32 ∷ []
+
+-- ` by `, ` by -`, ` by ?`, `/`
+abbrev pub byText : Text
+byText = 32 ∷ 98 ∷ 121 ∷ 32 ∷ []
+
+abbrev pub byNobodyText : Text
+byNobodyText = 32 ∷ 98 ∷ 121 ∷ 32 ∷ 45 ∷ []
+
+abbrev pub byUnknownText : Text
+byUnknownText = 32 ∷ 98 ∷ 121 ∷ 32 ∷ 63 ∷ []
+
+abbrev pub slashText : Text
+slashText = 47 ∷ []
 
 -- ` replay `
 abbrev pub replayText : Text
@@ -59,14 +72,21 @@ yesText = 32 ∷ 121 ∷ 101 ∷ 115 ∷ 10 ∷ []
 abbrev pub noText : Text
 noText = 32 ∷ 110 ∷ 111 ∷ 10 ∷ []
 
--- ---- `  object 7 version 1 value 5 nodes 8191 replay 5`; none where no node has a version above 0 and replay's value is 0
+-- ---- `  object 7 version 1 value 5 nodes 8191 by 4/1 replay 5`; none where no node has a version above 0 and replay's value is 0
 unfoldable pub copyTexts : ℕ → Best → List Text
 copyTexts t b =
     numberTexts objectText t ++ numberTexts versionText (b .version) ++ valueTexts valueText (b .value) ++ numberTexts nodesText (b .nodes)
 
+-- who wrote it last: ` by 4/1`, transaction 1 of owner 4; ` by -`, nobody; ` by ?`, unknown
+unfoldable pub authorTexts : ℕ → ℕ → List Text
+authorTexts owner serial =
+    cond (eqb owner nobody) (byNobodyText ∷ [])
+    (cond (eqb owner unknown) (byUnknownText ∷ []) (numberTexts byText owner ++ numberTexts slashText serial))
+
 unfoldable pub objectTexts : ℕ → Best → ℕ → List Text
 objectTexts t b replayed =
-    cond (eqb (b .version) 0 && eqb replayed 0) [] (copyTexts t b ++ valueTexts replayText replayed ++ (lineEnd ∷ []))
+    cond (eqb (b .version) 0 && eqb replayed 0) []
+    (copyTexts t b ++ authorTexts (b .author) (b .serial) ++ valueTexts replayText replayed ++ (lineEnd ∷ []))
 
 -- all objects
 abbrev pub nthObjectTexts : List ℕ → List ℕ → ℕ → List Text

@@ -6,11 +6,13 @@ ghost use Rattle.buffers.specs.Buffers.{imagesSize};
 ghost use Rattle.numbers.specs.Sizes.{nodes};
 ghost use Rattle.report.specs.Page.{page, inks};
 ghost use Rattle.closing.specs.Copies.{noCopy, copyAt, newerOf, newestOf, newest};
-ghost use Rattle.closing.specs.Texts.{copyTexts, objectTexts, objectsTexts};
+ghost use Rattle.closing.specs.Texts.{copyTexts, authorTexts, objectTexts, objectsTexts};
 use crate::Best;
 use crate::wide;
+use numbers::NOBODY;
 use numbers::NODES_END;
 use numbers::OBJECTS_END;
+use numbers::UNKNOWN;
 use numbers::both;
 
 // No copy.
@@ -21,6 +23,8 @@ fn none() -> Best
         version: 0,
         value: 0,
         nodes: 0,
+        author: NOBODY,
+        serial: 0,
     }
 }
 
@@ -34,10 +38,14 @@ fn copy_at(images: &[u8], object: u8, node: u8) -> Best
     let version = image::version(&images[start..end], object);
     let value = image::value(&images[start..end], object);
     let nodes = mask::single(node);
+    let author = image::author(&images[start..end], object);
+    let serial = image::author_serial(&images[start..end], object);
     Best {
         version,
         value,
         nodes,
+        author,
+        serial,
     }
 }
 
@@ -54,6 +62,8 @@ fn newer(a: Best, b: Best) -> Best
             version: a.version,
             value: a.value,
             nodes,
+            author: a.author,
+            serial: a.serial,
         };
     }
     a
@@ -95,6 +105,20 @@ fn copy(out: &mut [u8], at: usize, t: u8, b: Best) -> usize
     report::number(out, e, b" nodes ", b.nodes as u64)
 }
 
+// Who wrote it last, in words. Ruled out: an owner printed where nobody is; the serial before the owner.
+fn by(out: &mut [u8], at: usize, owner: u8, serial: u32) -> usize
+    ensures { λ r. ⌜ page (now (out .exit)) r ≡ inks (page (now (out .entry)) at) (authorTexts owner serial) ⌝ }
+{
+    if owner == NOBODY {
+        return report::text(out, at, b" by -");
+    }
+    if owner == UNKNOWN {
+        return report::text(out, at, b" by ?");
+    }
+    let c = report::number(out, at, b" by ", owner as u64);
+    report::number(out, c, b"/", serial as u64)
+}
+
 // The line of an object; none where no node has a version above 0 and replay's value is 0.
 fn object(out: &mut [u8], at: usize, t: u8, b: Best, replayed: u64) -> usize
     ensures { λ r. ⌜ page (now (out .exit)) r ≡ inks (page (now (out .entry)) at) (objectTexts t b replayed) ⌝ }
@@ -103,7 +127,8 @@ fn object(out: &mut [u8], at: usize, t: u8, b: Best, replayed: u64) -> usize
         return at;
     }
     let c = copy(out, at, t, b);
-    let d = report::value(out, c, b" replay ", replayed);
+    let w = by(out, c, b.author, b.serial);
+    let d = report::value(out, w, b" replay ", replayed);
     report::text(out, d, b"\n")
 }
 

@@ -1,5 +1,5 @@
 // The end of a scenario as text: for each object with a version above 0 or a value in replay its newest version and value, the nodes that have
-// it and replay's value; for each node with a table of classes the tenths that wait; and whether the station is at rest and settled.
+// it, its author and replay's value; for each node with a table of classes the tenths that wait; and whether the station is at rest and settled.
 mod copies;
 mod state;
 mod tenths;
@@ -12,11 +12,13 @@ use state::at_rest;
 use state::settled;
 use tenths::waiting;
 
-// The newest copy of an object, and the nodes that have it.
+// The newest copy of an object, the nodes that have it, and its author at the first of them: owner and serial.
 pub struct Best {
     pub version: u32,
     pub value: u64,
     pub nodes: u16,
+    pub author: u8,
+    pub serial: u32,
 }
 
 // A byte as a count.

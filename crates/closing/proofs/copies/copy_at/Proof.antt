@@ -6,7 +6,7 @@ use native.Mathlib.Omega.{arith}
 use denote.Ref.{now}
 use lib.ListN.{take, drop}
 use Rattle.parts.specs.Parts.{part}
-use Rattle.image.specs.Layout.{version, value, imageSize, shape}
+use Rattle.image.specs.Layout.{version, value, author, authorSerial, imageSize, shape}
 use Rattle.buffers.specs.Buffers.{imageAt}
 use Rattle.closing.specs.declared.Best.{Best}
 use Rattle.closing.specs.Copies.{copyAt}
@@ -50,19 +50,46 @@ value-requires c κs = search needs
 single-requires : tie.Need-single-requires
 single-requires c κs = search needs
 
+sub-author : tie.Need-sub-author
+sub-author c = search needs
+
+part-author-start : tie.Need-part-author-start
+part-author-start c = search needs
+
+part-author-end : tie.Need-part-author-end
+part-author-end c = search needs
+
+author-requires : tie.Need-author-requires
+author-requires c κs = search needs
+
+sub-serial : tie.Need-sub-serial
+sub-serial c = search needs
+
+part-serial-start : tie.Need-part-serial-start
+part-serial-start c = search needs
+
+part-serial-end : tie.Need-part-serial-end
+part-serial-end c = search needs
+
+author-serial-requires : tie.Need-author-serial-requires
+author-serial-requires c κs = search needs
+
 returns : tie.Need-returns
 unfolding copyAt imageAt part
 returns c =
-    let w = c .before .before .before .before .before .wide in
-    let x = c .before .before .before .before .before .before .before .args in
+    let s = c .before .before .before .before in
+    let w = s .before .before .before .before .before .wide in
+    let x = s .before .before .before .before .before .before .before .args in
     let l = now (x .images) in
     let e : imageSize shape * w .result + imageSize shape - imageSize shape * w .result ≡ imageSize shape = omega arith in
     let k : take (imageSize shape * w .result + imageSize shape - imageSize shape * w .result) (drop (imageSize shape * w .result) l) ≡
     take (imageSize shape) (drop (imageSize shape * x .node) l) =
     ap₂ (λ (m n : ℕ). take m (drop (imageSize shape * n) l)) e (w .ensures) in
-    let f = c .before .before .before .version .ensures ∙ ap (λ (m : List ℕ). version m (x .object)) k in
-    let g = c .before .value .ensures ∙ ap (λ (m : List ℕ). value m (x .object)) k in
-    λ i. record { version = f i; value = g i; nodes = c .single .ensures i }
+    let f = s .before .before .before .version .ensures ∙ ap (λ (m : List ℕ). version m (x .object)) k in
+    let g = s .before .value .ensures ∙ ap (λ (m : List ℕ). value m (x .object)) k in
+    let a = c .before .before .author .ensures ∙ ap (λ (m : List ℕ). author m (x .object)) k in
+    let n = c .author-serial .ensures ∙ ap (λ (m : List ℕ). authorSerial m (x .object)) k in
+    λ i. record { version = f i; value = g i; nodes = s .single .ensures i; author = a i; serial = n i }
 
 pub copy-at-spec : {M : Type 1} → statement M
 copy-at-spec =
@@ -80,4 +107,12 @@ copy-at-spec =
     part-value-end
     value-requires
     single-requires
+    sub-author
+    part-author-start
+    part-author-end
+    author-requires
+    sub-serial
+    part-serial-start
+    part-serial-end
+    author-serial-requires
     returns)

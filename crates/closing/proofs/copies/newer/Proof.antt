@@ -1,6 +1,6 @@
 -- `closing::copies::newer`: each way through the tests computes the definition.
 use borrow.Author.Tests.{lt-ltb, le-ltb, eq-eqb, ne-eqb}
-use Rattle.closing.specs.Copies.{newerOf}
+use Rattle.closing.specs.Copies.{withNodes, newerOf}
 use borrow.Author.Needs.{needs}
 use Rattle.closing.proofs.copies.newer.Statement.{statement}
 use Rattle.closing.proofs.copies.newer.Tie as tie
@@ -17,7 +17,7 @@ unfolding newerOf
 returns-2 c =
     let x = c .before .before .before .before .before .before .before .args in
     simp (le-ltb _ _ (c .before .before .before .before .if1 .left), eq-eqb _ _ (c .before .if2 .taken))
-    (λ i. record { version = x .a .version; value = x .a .value; nodes = c .join .ensures i })
+    (λ i. withNodes (x .a) (c .join .ensures i))
 
 returns-3 : tie.Need-returns-3
 unfolding newerOf

@@ -8,13 +8,13 @@ use denote.Ref.{now}
 use Rattle.report.specs.Page.{Page, page, inks, behind}
 use Rattle.report.specs.Texts.{Text, valueTexts}
 use Rattle.closing.specs.declared.Best.{Best}
-use Rattle.closing.specs.Texts.{replayText, lineEnd, copyTexts, objectTexts}
+use Rattle.closing.specs.Texts.{replayText, lineEnd, copyTexts, authorTexts, objectTexts}
 use borrow.Author.Needs.{needs}
 use Rattle.closing.proofs.copies.object.Statement.{statement}
 use Rattle.closing.proofs.copies.object.Tie as tie
 
 abbrev whole : ℕ → Best → ℕ → List Text
-whole t b v = copyTexts t b ++ valueTexts replayText v ++ (lineEnd ∷ [])
+whole t b v = copyTexts t b ++ authorTexts (b .author) (b .serial) ++ valueTexts replayText v ++ (lineEnd ∷ [])
 
 never-written : (p : Page) (t : ℕ) (b : Best) (v : ℕ) → (eqb (b .version) 0 && eqb v 0) ≡ true → p ≡ inks p (objectTexts t b v)
 unfolding objectTexts inks
@@ -35,6 +35,9 @@ returns c =
 copy-requires : tie.Need-copy-requires
 copy-requires c κs = search needs
 
+by-requires : tie.Need-by-requires
+by-requires c κs = search needs
+
 slice-aggregate-value : tie.Need-slice-aggregate-value
 slice-aggregate-value c = search needs
 
@@ -54,17 +57,22 @@ returns-2 : tie.Need-returns-2
 unfolding inks
 returns-2 c =
     let w = c .before .before .before .before .before .before .before in
-    let v = w .before .before .before .before .before in
+    let u = w .before .before .before .before .before in
+    let v = u .before .before .before .before in
     let x = v .before .before .before .before .before .before .args in
     let d = v .copy in
+    let y = u .by in
     let e = w .value in
     let f = c .before .before .text in
     let p = page (now (x .out)) (x .at) in
-    let q = page (e .last .0) (e .result) in
+    let q = page (y .last .0) (y .result) in
+    let r = page (e .last .0) (e .result) in
     let one = copyTexts (x .t) (x .b) in
-    let two = valueTexts replayText (x .replayed) in
-    let a : q ≡ inks p (one ++ two) = behind p (page (d .last .0) (d .result)) q one two (d .ensures) (e .ensures) in
-    behind p q (page (f .last .0) (f .result)) (one ++ two) (lineEnd ∷ []) a (f .ensures)
+    let two = authorTexts (x .b .author) (x .b .serial) in
+    let three = valueTexts replayText (x .replayed) in
+    let a : q ≡ inks p (one ++ two) = behind p (page (d .last .0) (d .result)) q one two (d .ensures) (y .ensures) in
+    let b : r ≡ inks p (one ++ two ++ three) = behind p q r (one ++ two) three a (e .ensures) in
+    behind p r (page (f .last .0) (f .result)) (one ++ two ++ three) (lineEnd ∷ []) b (f .ensures)
     ∙ ap (inks p) (sym (its-line (x .t) (x .b) (x .replayed) (sym (v .before .before .before .both .ensures) ∙ v .before .before .if1 .left)))
 
 pub object-spec : {M : Type 1} → statement M
@@ -74,6 +82,7 @@ object-spec =
     both-requires
     returns
     copy-requires
+    by-requires
     slice-aggregate-value
     value-requires
     slice-aggregate-text
