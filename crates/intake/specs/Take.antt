@@ -1,0 +1,108 @@
+-- Document 02, 2.5: an image of an older length is written as one of today's. What its copies have is kept; the rest is as in the blank image.
+-- An author that they do not have is nobody (255 and 0) at version 0, where none wrote, and unknown (254 and 0) above.
+use mathlib.Core.Bool.{Bool, false, true, cond, not, _||_}
+use mathlib.Core.List.{List, [], _∷_}
+use mathlib.Core.Option.{Option, none, some}
+use Prim.Native.Nat.{ℕ, zero, suc}
+use lib.Dec.{eqb}
+use lib.ListN.{length}
+use Rattle.numbers.specs.Sizes.{nodes, nobody, unknown}
+use Rattle.numbers.specs.Numbers.{wrongLength, damaged}
+use Rattle.numbers.specs.Refusal.{Refusal, refuse, firstOf}
+use Rattle.image.specs.declared.Copy.{Copy}
+use Rattle.image.specs.declared.Owner.{Owner}
+use Rattle.image.specs.Field.{fieldOf}
+use Rattle.image.specs.Layout.{Shape, shape, shape1207, hasAuthor, imageSize, valueField, versionField, holderField, readersField, writersField}
+use Rattle.image.specs.Layout.{authorField, authorSerialField, serialField, stateField, stampField}
+use Rattle.image.specs.Valid.{valid}
+use Rattle.image.specs.Blank.{blankAs}
+use Rattle.image.specs.Change.{withValue, withVersion, withHolder, withReaders, withWriters, withAuthor, withOwner}
+
+-- ---- which lengths
+-- the older shapes
+abbrev pub olderShapes : List Shape
+olderShapes = shape1207 ∷ []
+
+-- the first of some shapes whose images have n bytes
+abbrev pub shapeFor : List Shape → ℕ → Option Shape
+shapeFor [] n = none
+shapeFor (s ∷ ss) n = cond (eqb n (imageSize s)) (some s) (shapeFor ss n)
+
+-- the older shape of n bytes; today's is none
+unfoldable pub olderOf : ℕ → Option Shape
+olderOf n = shapeFor olderShapes n
+
+-- ---- what older bytes of a shape have
+-- whom a copy without an author gets for one, by its version
+abbrev pub authorAt : ℕ → ℕ
+authorAt version = cond (eqb version 0) nobody unknown
+
+-- object t's copy
+unfoldable pub copyAs : Shape → List ℕ → ℕ → Copy
+copyAs s l t =
+    record {
+      value = fieldOf (valueField s) l t;
+      version = fieldOf (versionField s) l t;
+      holder = fieldOf (holderField s) l t;
+      readers = fieldOf (readersField s) l t;
+      writers = fieldOf (writersField s) l t;
+      author = cond (hasAuthor s) (fieldOf (authorField s) l t) (authorAt (fieldOf (versionField s) l t));
+      serial = cond (hasAuthor s) (fieldOf (authorSerialField s) l t) 0;
+    }
+
+-- what is kept of owner o
+unfoldable pub ownerAs : Shape → List ℕ → ℕ → Owner
+ownerAs s l o = record { serial = fieldOf (serialField s) l o; state = fieldOf (stateField s) l o; stamp = fieldOf (stampField s) l o }
+
+-- ---- as an image of today
+-- l with c as the copy of object t, and with w as what is kept of owner o
+abbrev pub withCopy : List ℕ → ℕ → Copy → List ℕ
+withCopy l t c =
+    withAuthor
+    (withWriters (withReaders (withHolder (withVersion (withValue l t (c .value)) t (c .version)) t (c .holder)) t (c .readers)) t (c .writers))
+    t
+    (c .author)
+    (c .serial)
+
+abbrev pub withKept : List ℕ → ℕ → Owner → List ℕ
+withKept l o w = withOwner l o (w .serial) (w .state) (w .stamp)
+
+-- l with the copies of the first n objects, and with the first n owners
+unfoldable pub withCopies : (ℕ → Copy) → ℕ → List ℕ → List ℕ
+withCopies copies zero l = l
+withCopies copies (suc n) l = withCopy (withCopies copies n l) n (copies n)
+
+unfoldable pub withOwners : (ℕ → Owner) → ℕ → List ℕ → List ℕ
+withOwners owners zero l = l
+withOwners owners (suc n) l = withKept (withOwners owners n l) n (owners n)
+
+-- older bytes of a shape as an image of today: the blank one with every copy and every owner that they have
+unfoldable pub takenIn : Shape → List ℕ → List ℕ
+takenIn s l = withOwners (ownerAs s l) nodes (withCopies (copyAs s l) (s .objects) (blankAs shape))
+
+-- ---- the call
+abbrev pub isOlder : Option Shape → Bool
+isOlder none = false
+isOlder (some s) = true
+
+abbrev pub wasValid : Option Shape → List ℕ → Bool
+wasValid none old = false
+wasValid (some s) old = valid s old
+
+abbrev pub taken : Option Shape → List ℕ → List ℕ → List ℕ
+taken none old image = image
+taken (some s) old image = takenIn s old
+
+-- 1: `old` has no older length, or `image` has not today's; 2: `old` is no valid image of its shape
+unfoldable pub takeRefusals : List ℕ → List ℕ → List Refusal
+takeRefusals old image =
+    refuse wrongLength (not (isOlder (olderOf (length old))) || not (eqb (length image) (imageSize shape)))
+    ∷ refuse damaged (not (wasValid (olderOf (length old)) old))
+    ∷ []
+
+unfoldable pub takeNumber : List ℕ → List ℕ → ℕ
+takeNumber old image = firstOf (takeRefusals old image)
+
+-- what `image` is afterwards; a refusal leaves it
+unfoldable pub takeAfter : List ℕ → List ℕ → List ℕ
+takeAfter old image = cond (eqb (takeNumber old image) 0) (taken (olderOf (length old)) old image) image
