@@ -62,14 +62,14 @@ part-author-end c = search needs
 author-requires : tie.Need-author-requires
 author-requires c κs = search needs
 
-sub-serial : tie.Need-sub-serial
-sub-serial c = search needs
+sub-author-serial : tie.Need-sub-author-serial
+sub-author-serial c = search needs
 
-part-serial-start : tie.Need-part-serial-start
-part-serial-start c = search needs
+part-author-serial-start : tie.Need-part-author-serial-start
+part-author-serial-start c = search needs
 
-part-serial-end : tie.Need-part-serial-end
-part-serial-end c = search needs
+part-author-serial-end : tie.Need-part-author-serial-end
+part-author-serial-end c = search needs
 
 author-serial-requires : tie.Need-author-serial-requires
 author-serial-requires c κs = search needs
@@ -111,8 +111,8 @@ copy-at-spec =
     part-author-start
     part-author-end
     author-requires
-    sub-serial
-    part-serial-start
-    part-serial-end
+    sub-author-serial
+    part-author-serial-start
+    part-author-serial-end
     author-serial-requires
     returns)
