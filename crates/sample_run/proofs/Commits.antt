@@ -7,9 +7,9 @@ use native.Mathlib.Decide.{ℕ-discrete}
 use native.Mathlib.Omega.{arith}
 use lib.Dec.{lit<}
 use lib.ListN.{getD, replicate}
-use Rattle.numbers.specs.Sizes.{nodes, everyNode}
+use Rattle.numbers.specs.Sizes.{nodes, everyNode, nobody}
 use Rattle.mask.specs.Mask.{contains}
-use Rattle.image.specs.Layout.{value, version}
+use Rattle.image.specs.Layout.{value, version, author, authorSerial}
 use Rattle.steps.specs.Station.{Station}
 use Rattle.steps.specs.Step.{begin, openRead, openWrite, setValue, found, requestCommit, send}
 use Rattle.steps.proofs.Nodes.{node-on}
@@ -59,9 +59,15 @@ computed-commits = record {
   settled = settled;
   found-nothing = ap (λ (s : Seen). s .given) is-seen;
   last = ap (λ (s : Seen). s .last) is-seen;
+  writer = ap (λ (s : Seen). s .writer) is-seen;
   copies = λ n h. let k = node-on mask n (omega arith) h in (
-    listed-same (λ i. value (atLast .station .images i) 7) (if-one 500) nodes (ap (λ (s : Seen). s .values) is-seen) n k ∙ simp h,
-    listed-same (λ i. version (atLast .station .images i) 7) (if-one 1) nodes (ap (λ (s : Seen). s .versions) is-seen) n k ∙ simp h,
+    listed-same (λ i. value (atLast .station .images i) 7) (if-one 500 0) nodes (ap (λ (s : Seen). s .values) is-seen) n k ∙ simp h,
+    listed-same (λ i. version (atLast .station .images i) 7) (if-one 1 0) nodes (ap (λ (s : Seen). s .versions) is-seen) n k ∙ simp h,
+  );
+  authors = λ n h. let k = node-on mask n (omega arith) h in (
+    lit< tt,
+    listed-same (λ i. author (atLast .station .images i) 7) (if-one 4 nobody) nodes (ap (λ (s : Seen). s .authors) is-seen) n k ∙ simp h,
+    listed-same (λ i. authorSerial (atLast .station .images i) 7) (if-one 1 0) nodes (ap (λ (s : Seen). s .serials) is-seen) n k ∙ simp h,
   );
   at-rest = listed-same (λ i. atLast .station .records i .phase) (λ i. 0) nodes (ap (λ (s : Seen). s .phases) is-seen);
 }
@@ -70,8 +76,8 @@ computed-commits = record {
     L = atLast .ledger
 
     -- where a node is a participant
-    if-one : ℕ → ℕ → ℕ
-    if-one v i = cond (contains mask i) v 0
+    if-one : ℕ → ℕ → ℕ → ℕ
+    if-one v w i = cond (contains mask i) v w
 
     -- a participant of the one committed transaction
     of-it : (x : Tx) → x ≡ transaction → (n : ℕ) → contains (L .participants x) n ≡ true → L .dones x n ≡ true

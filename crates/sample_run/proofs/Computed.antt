@@ -2,14 +2,15 @@
 use mathlib.Core.Path.{_≡_, refl}
 use mathlib.Core.Bool.{Bool, cond}
 use mathlib.Core.List.{List, [], _∷_}
+use mathlib.Core.Option.{Option, some}
 use Prim.Native.Nat.{ℕ}
 use native.Mathlib.Decide.{ℕ-discrete}
-use Rattle.numbers.specs.Sizes.{nodes}
+use Rattle.numbers.specs.Sizes.{nodes, nobody}
 use Rattle.mask.specs.Mask.{contains}
-use Rattle.image.specs.Layout.{value, version}
+use Rattle.image.specs.Layout.{value, version, author, authorSerial}
 use Rattle.steps.specs.Step.{begin, openRead, openWrite, setValue, found, requestCommit, send}
 use Rattle.protocol.specs.State.{Tx}
-use Rattle.history.specs.Ledger.{Ledger, givenTo, lastValue}
+use Rattle.history.specs.Ledger.{Ledger, givenTo, lastValue, lastWriter}
 use Rattle.sample_run.specs.Sample.{beginning, participants, mask, blank, transaction, Shown}
 use Rattle.sample_run.proofs.Listed.{listed}
 use Rattle.sample_run.proofs.Quick.{accepted}
@@ -34,8 +35,11 @@ pub record Seen : Type 0 where
   pub dones : List Bool
   pub given : ℕ
   pub last : ℕ
+  pub writer : Option Tx
   pub values : List ℕ
   pub versions : List ℕ
+  pub authors : List ℕ
+  pub serials : List ℕ
   pub phases : List ℕ
 
 unfoldable pub seen : Both → Seen
@@ -46,8 +50,11 @@ seen b = record {
   dones = listed (b .ledger .dones transaction) nodes;
   given = givenTo (b .ledger) transaction 7;
   last = lastValue (b .ledger) 7;
+  writer = lastWriter (b .ledger) 7;
   values = listed (λ n. value (b .station .images n) 7) nodes;
   versions = listed (λ n. version (b .station .images n) 7) nodes;
+  authors = listed (λ n. author (b .station .images n) 7) nodes;
+  serials = listed (λ n. authorSerial (b .station .images n) 7) nodes;
   phases = listed (λ n. b .station .records n .phase) nodes;
 }
 
@@ -59,8 +66,11 @@ pub is-seen : seen atLast
       dones = listed (contains mask) nodes;
       given = 0;
       last = 500;
+      writer = some transaction;
       values = listed (λ n. cond (contains mask n) 500 0) nodes;
       versions = listed (λ n. cond (contains mask n) 1 0) nodes;
+      authors = listed (λ n. cond (contains mask n) 4 nobody) nodes;
+      serials = listed (λ n. cond (contains mask n) 1 0) nodes;
       phases = listed (λ n. 0) nodes;
     }
 unfolding computed ℕ-discrete accepted atFirst noted stepped oldest delivered bothExchanged whenReady whenAsked atLast seen

@@ -7,7 +7,7 @@ use Rattle.wire.specs.Encode.{encodeEntry, together, encode}
 use Rattle.wire.specs.Formed.{countsOk, ascend, entryOk, rivalOk, entriesOk, rivalsOk, wellFormed}
 use Rattle.wire.specs.Run.{run}
 use Rattle.letters.specs.Write.{rivalsBy}
-use Rattle.image.specs.Blank.{counted, unheld, blankAs}
+use Rattle.image.specs.Blank.{counted, unheld, unwritten, blankAs}
 use Rattle.image.specs.Change.{free, leave, unlist}
 use Rattle.image.specs.Field.{fieldOf, withField, changedAll}
 use Rattle.judge.specs.Judge.{some, someBelow, heldByAnother, newerHere, gathered, rivalsOf, olderAmong, votesNo, namedBelow, serialsOf}
@@ -25,18 +25,18 @@ use Rattle.due.specs.Kind.{openDue, votingDue, finishingDue, dueKind, dueRefusa
 use Rattle.steps.specs.Station.{putAt}
 use Rattle.steps.specs.Step.{hosted, sendNumber, sendOf, answered, atCoordinator}
 use Rattle.steps.specs.Step.{step as step·steps}
-use Rattle.history.specs.Ledger.{noted, note, givenTo, lastValue}
+use Rattle.history.specs.Ledger.{noted, note, givenTo, lastValue, lastWriter}
 use Rattle.protocol.specs.State.{Tx-discrete}
 use Rattle.protocol.specs.Table.{pick, both, put2}
 use Rattle.protocol.specs.Table.{put as put·protocol}
 
 unfoldable pub computed : Type 0
 unfolding isQuorum smallest get put le entryAt itemsFrom decode accepted checkOf encodeEntry together encode countsOk ascend entryOk rivalOk entriesOk
-    rivalsOk wellFormed run rivalsBy counted unheld blankAs free leave unlist fieldOf withField changedAll some someBelow heldByAnother newerHere
+    rivalsOk wellFormed run rivalsBy counted unheld unwritten blankAs free leave unlist fieldOf withField changedAll some someBelow heldByAnother newerHere
     gathered rivalsOf olderAmong votesNo namedBelow serialsOf aboveOf standing active entered step fetchImage copyHere fetchAnswer holding leaves
     judgedImage judgedAnswer askImage askAnswer applied decided released outcomeImage beginRefusals begun beginOf openRefusals opened openOf
     setRefusals withNew setOf foundRefusals foundOf requestCommitRefusals requested requestCommitOf idleAfter placeIn allSettled anyUsedUp stepOf
     withCopy copyFits copyTaken raiseFrom withYes voteTaken withDone doneTaken delivered receiveRefusals receiveOf withNext entriesBelow entriesOf
     messageDue openDue votingDue finishingDue dueKind dueRefusals putAt hosted sendNumber sendOf answered atCoordinator step·steps noted note givenTo
-    lastValue Tx-discrete pick both put·protocol put2
+    lastValue lastWriter Tx-discrete pick both put·protocol put2
 computed = Unit {0}

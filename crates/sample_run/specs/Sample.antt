@@ -3,6 +3,7 @@
 use mathlib.Core.Path.{_≡_}
 use mathlib.Core.Bool.{true, false}
 use mathlib.Core.List.{List, [], _∷_}
+use mathlib.Core.Option.{some}
 use Prim.Native.Nat.{ℕ}
 use lib.ListN.{replicate}
 use Rattle.numbers.specs.Sizes.{nodes, everyNode}
@@ -12,8 +13,8 @@ use Rattle.coordinator.specs.declared.BeginWith.{BeginWith}
 use Rattle.steps.specs.Station.{Station, Quiescent}
 use Rattle.steps.specs.Step.{Call, begin, openRead, openWrite, setValue, found, requestCommit, send, delivery, step}
 use Rattle.protocol.specs.State.{Tx}
-use Rattle.history.specs.Ledger.{Ledger, givenTo, lastValue}
-use Rattle.history.specs.Origin.{Origin, blankOrigin, originOf}
+use Rattle.history.specs.Ledger.{Ledger, givenTo, lastValue, lastWriter}
+use Rattle.history.specs.Origin.{Origin, AuthorIs, blankOrigin, originOf}
 use Rattle.history.specs.Claims.{Settled, reached, told}
 
 -- every node is on and live, at distance 1; so the nearest read quorum is node 0
@@ -59,8 +60,8 @@ leftReady = reached blank ready
 abbrev pub transaction : Tx
 transaction = record { owner = 4; serial = 1 }
 
--- The transaction alone is committed, and it is settled: so no claim of demand 3 is about nothing. It found 0, replay's last value is the new one,
--- every participant's copy has that, and all is at rest.
+-- The transaction alone is committed, and it is settled: so no claim of demand 3 is about nothing. It found 0, replay's last value is the new one and its
+-- last writer the transaction, every participant's copy has both, and all is at rest.
 pub record Commits (L : Ledger) (st : Station) : Type 0 where
   pub committed : L .committed ≡ transaction ∷ []
   pub logged : L .log ≡ transaction ∷ []
@@ -68,7 +69,9 @@ pub record Commits (L : Ledger) (st : Station) : Type 0 where
   pub settled : Settled L
   pub found-nothing : givenTo L transaction 7 ≡ 0
   pub last : lastValue L 7 ≡ 500
+  pub writer : lastWriter L 7 ≡ some transaction
   pub copies : (n : ℕ) → contains mask n ≡ true → (value (st .images n) 7 ≡ 500) × (version (st .images n) 7 ≡ 1)
+  pub authors : (n : ℕ) → contains mask n ≡ true → AuthorIs (st .images n) 7 (some transaction)
   pub at-rest : Quiescent st
 
 -- what it leaves is an origin; from there node 5 reads the object
