@@ -31,6 +31,14 @@ pub struct Chosen {
     pub sum: u32,
 }
 
+// Who wrote a copy last: owner and serial of the transaction, or the number of a refusal.
+#[repr(C)]
+pub struct Author {
+    pub number: u8,
+    pub owner: u8,
+    pub serial: u32,
+}
+
 // Thirteen distances of two bytes each, node 0 first.
 fn distances_of(bytes: &[u8]) -> [u16; NODES]
     ensures { λ r. ⌜ r ≡ distancesOf (now (bytes .entry)) ⌝ }
