@@ -1,5 +1,5 @@
--- The end of a scenario has at most 12,318 bytes, whatever the buffers are: an object's line has at most 155, and there are 64 of them; a node's line of tenths
--- has at most 182.
+-- The end of a scenario has at most 12,318 bytes, whatever the buffers are: an object's line has at most 155, and there are 64 of them; a node's line of
+-- tenths has at most 182.
 use mathlib.Core.Path.{_≡_, refl, sym, subst}
 use mathlib.Core.Bool.{Bool, true, false, cond, _&&_}
 use mathlib.Core.List.{List, [], _∷_, _++_}

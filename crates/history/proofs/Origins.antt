@@ -285,9 +285,12 @@ module _ (o : Origin) where
             subst (AuthoredBy before t v) (sym (author-none (st .images n) t (b .0))) (no-author t v (z .0)))
             (λ z. let x = z .0 in let b : AuthorIs (st .images n) t (some x) = subst (AuthorIs (st .images n) t) (z .5) a in
             subst (AuthoredBy before t v) (sym (author-by (st .images n) t (x .owner) (x .serial) h (b .0) (b .1) (b .2)))
-            (record { no-version = λ f. absurd (clash (cc)); its-version = λ y f. subst
-                (λ (u : Tx). (before .phase u ≡ committed) × (before .contents u .mode t ≡ write) × (v ≡ suc (before .contents u .version t)))
-                (one-author f) (wrote-it t v x (z .1) (z .2) (z .3) (z .4)) })))
+            (record {
+              no-version = λ f. absurd (clash (cc));
+              its-version = λ y f. subst
+                  (λ (u : Tx). (before .phase u ≡ committed) × (before .contents u .mode t ≡ write) × (v ≡ suc (before .contents u .version t)))
+                  (one-author f) (wrote-it t v x (z .1) (z .2) (z .3) (z .4));
+            })))
             (λ e. subst (AuthoredBy before t v) (sym (author-lost (st .images n) t h e))
             (record { no-version = λ f. absurd (clash (cc)); its-version = λ y f. absurd (clash (cc)) }))
 

@@ -302,7 +302,8 @@ module _ (st : Station) (L : Ledger) (F : Past) (g : Good st L F) (t : InTurn st
   authored : (n u : ℕ) → u < objects
       → AuthorIs (st .images n) u (writerAfter k u (version (st .images n) u)) ⊎ (author (st .images n) u ≡ unknown)
   authored n u small = on (author-cases (st .images n) u small (w .valid .images n .0 .authors u small))
-      (λ z. let e = w .sim .authored n u .no-version (z .0) in inl (subst (AuthorIs (st .images n) u) (sym (none-of (sym (w .sim .reads .r-version n u) ∙ e))) (z .1, z .2)))
+      (λ z. let e = sym (w .sim .reads .r-version n u) ∙ w .sim .authored n u .no-version (z .0) in
+      inl (subst (AuthorIs (st .images n) u) (sym (none-of e)) (z .1, z .2)))
       (λ y. on y inr (λ z. inl (subst (AuthorIs (st .images n) u) (sym (names-as u (version (st .images n) u)
       ∙ ap (namesOf (wrote (σ .history)) (fed σ (w .log)) u) (sym (w .sim .reads .r-version n u))
       ∙ author-named R (top (w .sane)) σ (w .log) (w .sim .kept .inv) (w .sim .kept .log) (authors st) (w .sim .authored) n u _ (z .0))) (z .1, refl, refl))))

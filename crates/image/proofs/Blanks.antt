@@ -79,32 +79,39 @@ bytes-blank =
     (bytes-with (ownerCount shape) first 0 nodes (bytes-with objectCount zeros 0 (shape .objects)
     (λ j. subst (λ (n : ℕ). n < 256) (sym (getD-zeros (imageSize shape) j)) (lit< tt)))))
 
+-- a field that is neither is as the counts left it
+before-marks : (g : Field) (i : ℕ) → T (apart (authorField shape) g) → T (apart (holderField shape) g) → fieldOf g (blankAs shape) i ≡ fieldOf g both i
+unfolding blankAs unwritten unheld counted zeros
+before-marks g i a b =
+    all-apart (authorField shape) (λ h. nobody) g (shape .objects) free i a ∙ all-apart (holderField shape) (λ h. nobody) g (shape .objects) both i b
+
 -- every field but the counts, the holders and the authors is 0
 pub blank-zero : (g : Field) (i : ℕ) → T (apart (authorField shape) g) → T (apart (holderField shape) g) → T (apart (ownerCount shape) g)
     → T (apart objectCount g) → fieldOf g (blankAs shape) i ≡ 0
-unfolding blankAs unwritten unheld counted zeros
+unfolding zeros
 blank-zero g i d a b c =
-    all-apart (authorField shape) (λ h. nobody) g (shape .objects) free i d ∙ all-apart (holderField shape) (λ h. nobody) g (shape .objects) both i a ∙ of-with-apart (ownerCount shape) g first 0 i nodes b
-    ∙ of-with-apart objectCount g zeros 0 i (shape .objects) c ∙ of-zeros g i
+    before-marks g i d a ∙ of-with-apart (ownerCount shape) g first 0 i nodes b ∙ of-with-apart objectCount g zeros 0 i (shape .objects) c ∙ of-zeros g i
 
 pub blank-holder : (t : ℕ) → t < shape .objects → holder (blankAs shape) t ≡ nobody
 unfolding blankAs unwritten unheld counted zeros
-blank-holder t k = all-apart (authorField shape) (λ a. nobody) (holderField shape) (shape .objects) free t tt ∙ all-here (holderField shape) (λ h. nobody) (shape .objects) both t tt (omega (arith, length-both)) k k (lit< tt)
+blank-holder t k =
+    all-apart (authorField shape) (λ a. nobody) (holderField shape) (shape .objects) free t tt
+    ∙ all-here (holderField shape) (λ h. nobody) (shape .objects) both t tt (omega (arith, length-both)) k k (lit< tt)
 
 pub blank-author : (t : ℕ) → t < shape .objects → author (blankAs shape) t ≡ nobody
 unfolding blankAs unwritten counted zeros
 blank-author t k = all-here (authorField shape) (λ a. nobody) (shape .objects) free t tt (omega (arith, length-free)) k k (lit< tt)
 
 blank-first : fieldOf objectCount (blankAs shape) 0 ≡ shape .objects
-unfolding blankAs unwritten unheld counted zeros
+unfolding zeros
 blank-first =
-    all-apart (authorField shape) (λ a. nobody) objectCount (shape .objects) free 0 tt ∙ all-apart (holderField shape) (λ h. nobody) objectCount (shape .objects) both 0 tt ∙ of-with-apart (ownerCount shape) objectCount first 0 0 nodes tt
+    before-marks objectCount 0 tt tt ∙ of-with-apart (ownerCount shape) objectCount first 0 0 nodes tt
     ∙ of-with objectCount zeros 0 (shape .objects) tt (omega (arith, length-zeros)) (lit< tt) (lit< tt)
 
 blank-second : fieldOf (ownerCount shape) (blankAs shape) 0 ≡ nodes
-unfolding blankAs unwritten unheld counted zeros
+unfolding zeros
 blank-second =
-    all-apart (authorField shape) (λ a. nobody) (ownerCount shape) (shape .objects) free 0 tt ∙ all-apart (holderField shape) (λ h. nobody) (ownerCount shape) (shape .objects) both 0 tt
+    before-marks (ownerCount shape) 0 tt tt
     ∙ of-with (ownerCount shape) first 0 nodes tt (omega (arith, length-with objectCount zeros 0 (shape .objects), length-zeros)) (lit< tt) (lit< tt)
 
 pub blank-sound : Sound (blankAs shape)

@@ -151,7 +151,8 @@ owner-other l o n st sp =
     let a = withSerial l o n in
     let b = withState a o st in
     other-then o l b (withOwner l o n st sp)
-    (other-then o l a b (with-other (serialField shape) l o n tt tt tt tt tt tt tt tt tt tt) (with-other (stateField shape) a o st tt tt tt tt tt tt tt tt tt tt))
+    (other-then o l a b (with-other (serialField shape) l o n tt tt tt tt tt tt tt tt tt tt)
+    (with-other (stateField shape) a o st tt tt tt tt tt tt tt tt tt tt))
     (with-other (stampField shape) b o sp tt tt tt tt tt tt tt tt tt tt)
 
 -- an owner that was in no list is in none once its serial, state and stamp are new

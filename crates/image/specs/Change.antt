@@ -7,7 +7,8 @@ use Rattle.numbers.specs.Sizes.{nobody}
 use Rattle.mask.specs.Mask.{only, joined, minus}
 use Rattle.image.specs.declared.Field.{Field}
 use Rattle.image.specs.Field.{withField, changed, changedAll}
-use Rattle.image.specs.Layout.{shape, valueField, versionField, holderField, readersField, writersField, authorField, authorSerialField, serialField, stateField, stampField}
+use Rattle.image.specs.Layout.{shape, valueField, versionField, holderField, readersField, writersField, authorField, authorSerialField}
+use Rattle.image.specs.Layout.{serialField, stateField, stampField}
 
 -- ---- one field of object t, or of owner o
 abbrev pub withValue : List ℕ → ℕ → ℕ → List ℕ

@@ -1,6 +1,6 @@
--- Document 01, 'Message and image': count 64 and the objects' copies (value 8, version 4, holder 1, readers 2, writers 2; by document 02, 2.5, then the author,
--- who wrote last: owner 1, serial 4), then count 13 and the owners (last serial 4, state 1, stamp 4). An image has a shape, the number of objects and the
--- width of a copy; an older one has fewer fields in a copy, and more may follow.
+-- Document 01, 'Message and image': count 64 and the objects' copies (value 8, version 4, holder 1, readers 2, writers 2; by document 02, 2.5, then the
+-- author, who wrote last: owner 1, serial 4), then count 13 and the owners (last serial 4, state 1, stamp 4). An image has a shape, the number of objects
+-- and the width of a copy; an older one has fewer fields in a copy, and more may follow.
 use mathlib.Core.Bool.{Bool}
 use mathlib.Core.List.{List}
 use Prim.Native.Nat.{ℕ, _+_, _*_}

@@ -122,7 +122,8 @@ module _ (l : List ℕ) (m : Message) (k : Taken l m) (t : ℕ) (small : t < sha
   decided-holder : holder (decided l m) t ≡ holder l t
   unfolding decided
   decided-holder =
-      either-way (λ (x : List ℕ). holder x t ≡ holder l t) (eqb (wordOf m) 1) _ _ (applied-apart (holderField shape) t tt tt tt tt l o (m .serial) (m .entries)) refl
+      either-way (λ (x : List ℕ). holder x t ≡ holder l t) (eqb (wordOf m) 1) _ _
+      (applied-apart (holderField shape) t tt tt tt tt l o (m .serial) (m .entries)) refl
 
   here-holder : 1 ≤ standing l m → standing l m ≤ 3 → holder (outcomeImage l m) t ≡ freeing o (holder l t)
   unfolding copyOf

@@ -36,10 +36,11 @@ unfolding step standing aboveOf active entered fieldOf withField changedAll get 
 fetched = refl
 
 pub voted : step second 7 (askOf 7 4 2 9 (written ∷ []) 1) ≡ gives third (says (voteOf 7 4 2 9 noSerials 1))
-unfolding step standing aboveOf active entered fieldOf withField changedAll get put blankAs counted unheld unwritten unlist leave some someBelow heldByAnother newerHere
-    gathered rivalsOf olderAmong votesNo namedBelow serialsOf holding leaves judgedImage judgedAnswer askImage askAnswer rivalsBy
+unfolding step standing aboveOf active entered fieldOf withField changedAll get put blankAs counted unheld unwritten unlist leave some someBelow heldByAnother
+    newerHere gathered rivalsOf olderAmong votesNo namedBelow serialsOf holding leaves judgedImage judgedAnswer askImage askAnswer rivalsBy
 voted = refl
 
 pub committed : step third 7 (outcomeOf 7 4 2 9 (written ∷ []) 1 1) ≡ gives fourth (says (doneOf 7 4 2 9))
-unfolding step standing aboveOf fieldOf withField changedAll get put blankAs counted unheld unwritten free unlist leave leaves applied decided released outcomeImage
+unfolding step standing aboveOf fieldOf withField changedAll get put blankAs counted unheld unwritten free unlist leave leaves applied decided released
+    outcomeImage
 committed = refl

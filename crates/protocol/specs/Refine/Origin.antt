@@ -90,12 +90,15 @@ module _ {A : Type 0} (w : Tx → Object → Bool) (new : Tx → Object → A) (
   -- what a writer wrote stands behind those before it
   pub values-at : (x : Tx) (m l : List Tx) (o : Object) → Suffix (x ∷ m) l → w x o ≡ true → valuesOf w new z l o (suc (count w m o)) ≡ new x o
   unfolding valuesOf
-  values-at x m l o q v = values-end (x ∷ m) l o (suc (count w m o)) q (let c = ap (λ (t : Bool). cond t (suc (count w m o)) (count w m o)) v in omega (arith, c))
+  values-at x m l o q v = values-end (x ∷ m) l o (suc (count w m o)) q one-more
       ∙ ap (λ (t : Bool). cond t (pick (ℕ-discrete (suc (count w m o)) (suc (count w m o))) (new x o) rest) rest) v
       ∙ on (pick-cases (ℕ-discrete (suc (count w m o)) (suc (count w m o))) (new x o) rest) (λ y. y .1) (λ y. absurd (y .0 refl))
     where
       rest : A
       rest = valuesOf w new z m o (suc (count w m o))
+
+      one-more : suc (count w m o) ≤ count w (x ∷ m) o
+      one-more = let c = ap (λ (t : Bool). cond t (suc (count w m o)) (count w m o)) v in omega (arith, c)
 
   -- the last of them is what is held after all turns
   pub values-last : (l : List Tx) (o : Object) → valuesOf w new z l o (count w l o) ≡ replay z (λ x t a. cond (w x t) (new x t) a) l o

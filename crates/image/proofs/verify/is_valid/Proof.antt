@@ -38,7 +38,8 @@ returns c =
     let c6 = c5 .before in
     let l = now (c6 .before .before .args .image) in
     let w = c6 .walk in
-    let clauses : c2 .both2 .result ≡ formed shape l = rw (c2 .both2 .ensures, c2 .before .before .both .ensures, c5 .counts-ok .ensures, w .ensures .each-fits, c2 .before .copies-ok .ensures)
+    let clauses : c2 .both2 .result ≡ formed shape l =
+    rw (c2 .both2 .ensures, c2 .before .before .both .ensures, c5 .counts-ok .ensures, w .ensures .each-fits, c2 .before .copies-ok .ensures)
     (passes l (w .result .listed) (w .result .held) (w .ensures .in-listed) (w .ensures .in-held)) in
     c .both3 .ensures ∙ ap₂ _&&_ clauses (c .before .authors-ok .ensures)
 
