@@ -41,7 +41,7 @@ use Rattle.protocol.specs.Proof.Lists.{in-suffix, suffix-tail, suffix-whole, in
 use Rattle.protocol.specs.Refine.Origin.{heldIn, Brought, values-ext}
 use Rattle.protocol.specs.Refine.Rest.{earlier, same-contents, same-wrote, rest-brought}
 use Rattle.protocol.specs.Refine.Authors.{unwritten, by, namesOf, lastName, names-cases, author-named, newest-by, newest-unwritten}
-use Rattle.history.specs.Ledger.{Ledger, in?, fed as fedBy, turn, givenTo, lastValue, lastWriter, isDone}
+use Rattle.history.specs.Ledger.{Ledger, in?, fed as fedBy, turn, givenTo, lastValue, signing, lastWriter, isDone}
 use Rattle.history.specs.Ballots.{isYes}
 use Rattle.history.specs.Origin.{Origin, Carried, ledgerOf, isWriting, writes, writersOf, heldAfter, writerAfter, AuthorIs, Spent, Rested, originOf}
 use Rattle.history.specs.Claims.{AllTyped, Settled, Newest, Known, LastWriters, reached, told, account}
@@ -115,8 +115,8 @@ module _ (st : Station) (L : Ledger) (F : Past) (g : Good st L F) where
   -- in replay as the events tell it and in the abstract state the last writer is the same
   writer-as : (t : ℕ) → lastWriter L t ≡ lastName W fedThere t
   unfolding lastWriter
-  writer-as t = ap (λ (m : List Tx). replay none (λ x u a. after (L .mode x u) (some x) a) m t) (fed-as st L F g)
-      ∙ replay-ext none (λ x u a. cond (W x u) (some x) a) (λ x u a. after (L .mode x u) (some x) a) fedThere t
+  writer-as t = ap (λ (m : List Tx). replay none (signing L) m t) (fed-as st L F g)
+      ∙ replay-ext none (λ x u a. cond (W x u) (some x) a) (signing L) fedThere t
       (λ x i a. signs (L .mode x t) (some x) a
       ∙ ap (λ (b : Bool). cond b (some x) a) (told-writes x t (in-select (committed? (D .state .history)) (D .log) x i .1)))
     where

@@ -217,5 +217,8 @@ unfoldable pub lastValue : Ledger → ℕ → ℕ
 lastValue L t = replay 0 (turn L) (fed L) t
 
 -- its last writer of an object (document 02, 2.5), none at first: each transaction in its turn signs what it writes
+abbrev pub signing : Ledger → Tx → ℕ → Option Tx → Option Tx
+signing L x t a = after (L .mode x t) (some x) a
+
 unfoldable pub lastWriter : Ledger → ℕ → Option Tx
-lastWriter L t = replay none (λ x u a. after (L .mode x u) (some x) a) (fed L) t
+lastWriter L t = replay none (signing L) (fed L) t
