@@ -52,7 +52,7 @@ fn author_number(image: &[u8], object: u8) -> u8
     }
 }
 
-// Who wrote an object's copy last. Ruled out: the author of the object behind it; an owner told of a damaged image.
+// Who wrote an object's copy last. Ruled out: the author of object 0 told for every object; an owner told of a damaged image.
 #[no_mangle]
 pub extern "C" fn senna_image_author(image: &[u8], object: u8) -> Author
     ensures { λ r. ⌜ r ≡ authorAnswer (now (image .entry)) object ⌝ }

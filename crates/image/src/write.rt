@@ -47,7 +47,7 @@ pub fn set_writers(image: &mut [u8], t: u8, m: u16)
     put_u16(image, WRITERS, t, m);
 }
 
-// The author of object t's copy. Ruled out: the writers' last byte altered; the serial of the author before kept.
+// The author of object t's copy. Ruled out: the holder set in its place; the version written for its serial.
 pub fn set_author(image: &mut [u8], t: u8, o: u8, n: u32)
     ensures { λ r. ⌜ now (image .exit) ≡ withAuthor (now (image .entry)) t o n ⌝ }
 {
