@@ -7,7 +7,7 @@ use lib.ListN.{length, replicate}
 use Rattle.numbers.specs.Sizes.{nodes, nobody}
 use Rattle.numbers.specs.Numbers.{wrongLength}
 use Rattle.image.specs.Field.{withField, changedAll}
-use Rattle.image.specs.Layout.{Shape, shape, imageSize, objectCount, ownerCount, holderField, authorField}
+use Rattle.image.specs.Layout.{Shape, shape, hasAuthor, imageSize, objectCount, ownerCount, holderField, authorField}
 
 -- l with the counts of a shape
 unfoldable pub counted : Shape → List ℕ → List ℕ
@@ -17,9 +17,9 @@ counted s l = withField (ownerCount s) (withField objectCount l 0 (s .objects)) 
 unfoldable pub unheld : Shape → List ℕ → List ℕ
 unheld s l = changedAll (holderField s) (λ h. nobody) (s .objects) l
 
--- l with every author nobody
+-- l with every author nobody, where copies have one
 unfoldable pub unwritten : Shape → List ℕ → List ℕ
-unwritten s l = changedAll (authorField s) (λ a. nobody) (s .objects) l
+unwritten s l = cond (hasAuthor s) (changedAll (authorField s) (λ a. nobody) (s .objects) l) l
 
 -- the blank image of a shape
 unfoldable pub blankAs : Shape → List ℕ
