@@ -1,4 +1,4 @@
--- The end of a scenario has at most 12,318 bytes, whatever the buffers are: an object's line has at most 155, and there are 64 of them; a node's line of
+-- The end of a scenario has at most 22,366 bytes, whatever the buffers are: an object's line has at most 156, and there are 128 of them; a node's line of
 -- tenths has at most 182.
 use mathlib.Core.Path.{_≡_, refl, sym, subst}
 use mathlib.Core.Bool.{Bool, true, false, cond, _&&_}
@@ -56,7 +56,7 @@ nodes-lt l t = by (eqb (length l) imagesSize)
     by false = omega arith
 
 -- ---- a line
-copy-long : (t : ℕ) (b : Best) → t < objects → b .nodes < 2 ^ nodes → long (copyTexts t b) ≤ 80
+copy-long : (t : ℕ) (b : Best) → t < objects → b .nodes < 2 ^ nodes → long (copyTexts t b) ≤ 81
 unfolding copyTexts
 copy-long t b h g =
     let one = numberTexts objectText t in
@@ -67,7 +67,7 @@ copy-long t b h g =
     let f = long-append (one ++ two) three in
     let k = long-append one two in
     let p = number-as objectText t in
-    let short : length (decimal t) ≤ 2 = decimal-short 2 t (omega arith) (omega arith) in
+    let short : length (decimal t) ≤ 3 = decimal-short 3 t (omega arith) (omega arith) in
     let q = number-long versionText (b .version) in
     let r = value-long valueText (b .value) in
     let s = number-as nodesText (b .nodes) in
@@ -88,11 +88,11 @@ author-long owner serial = by (eqb owner nobody) (eqb owner unknown)
         let q = number-long slashText serial in
         omega arith
 
-object-long : (t : ℕ) (b : Best) (v : ℕ) → t < objects → b .nodes < 2 ^ nodes → long (objectTexts t b v) ≤ 155
+object-long : (t : ℕ) (b : Best) (v : ℕ) → t < objects → b .nodes < 2 ^ nodes → long (objectTexts t b v) ≤ 156
 unfolding objectTexts joined
 object-long t b v h g = by (eqb (b .version) 0 && eqb v 0)
   where
-    by : (x : Bool) → long (cond x [] (copyTexts t b ++ authorTexts (b .author) (b .serial) ++ valueTexts replayText v ++ (lineEnd ∷ []))) ≤ 155
+    by : (x : Bool) → long (cond x [] (copyTexts t b ++ authorTexts (b .author) (b .serial) ++ valueTexts replayText v ++ (lineEnd ∷ []))) ≤ 156
     by true = omega arith
     by false =
         let one = copyTexts t b in
@@ -145,7 +145,7 @@ waiting-long records settings = by (eqb (length records) recordsSize && eqb (len
     by false = omega arith
 
 -- THEOREM
-pub closing-long : (images records settings sheet : List ℕ) → long (closingTexts images records settings sheet) ≤ 12318
+pub closing-long : (images records settings sheet : List ℕ) → long (closingTexts images records settings sheet) ≤ 22366
 unfolding closingTexts objectsTexts joined
 closing-long images records settings sheet =
     let lines = objectsTexts images sheet in
@@ -157,14 +157,14 @@ closing-long images records settings sheet =
     let k = long-append ((endText ∷ []) ++ lines) tenths in
     let g = long-append (endText ∷ []) lines in
     let t = waiting-long records settings in
-    let p : long lines ≤ 155 * objects = each-long (nthObjectTexts images sheet) 155 objects 0
+    let p : long lines ≤ 156 * objects = each-long (nthObjectTexts images sheet) 156 objects 0
     (λ t h. object-long t (newest images t) (valueOf sheet t) (omega arith) (nodes-lt images t)) in
     let q = answer-long restText (atRest records) refl in
     let r = answer-long settledText (settled images records) refl in
     omega arith
 
 -- so in a buffer with that much room all of it is put, and nothing else is changed
-pub closing-fits : (images records settings sheet out : List ℕ) (at : ℕ) → at + 12318 ≤ length out → closed (page out at) images records settings sheet
+pub closing-fits : (images records settings sheet out : List ℕ) (at : ℕ) → at + 22366 ≤ length out → closed (page out at) images records settings sheet
     ≡ page (putAt out at (joined (closingTexts images records settings sheet))) (at + long (closingTexts images records settings sheet))
 closing-fits images records settings sheet out at h =
     inks-fit (closingTexts images records settings sheet) out at (let k = closing-long images records settings sheet in omega arith)

@@ -75,7 +75,7 @@ pub marks-whole : (places : List ℕ) (objects : List Object) (count : ℕ) → 
 unfolding placeIn
 marks-whole places objects count m n h = m n h
 
--- an object below the count and below 64 is marked, another is not looked for
+-- an object below the count that is there is marked, another is not looked for
 put-test : (a : Bool) (o n : ℕ) → (a && ltb o objectsEnd) ≡ true → (a && eqb o n) ≡ eqb o n
 put-test true o n t = refl
 put-test false o n t = absurd (let z : _≡_ {A = ℕ} 0 1 = cc in let w : ⊥ = omega arith in w)

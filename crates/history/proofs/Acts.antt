@@ -378,7 +378,7 @@ module _ {s : System} {sane : Sane s} (st : Station) (σ : State ℕ) (log : Lis
       yes-view j e = copies-of (askImage l m) j e (λ t p.
           ap contentOf (yes-copy l m (k .sound) (k .owner) (k .serial) (k .stamp) (k .fits) a v t p))
 
-      -- the holder of an object below 64
+      -- the holder of an object that is there
       held-holder : (j : List ℕ) → j ≡ i₁ → (t : ℕ) → t < objects → holder (askImage l m) t ≡ markIn o (m .entries) t (holder j t)
       unfolding copyOf
       held-holder j e t p =

@@ -23,7 +23,7 @@ halves : (l : List ℕ) (t : ℕ) → t < shape .objects → authorSerial l t �
 unfolding fieldOf
 halves l t h =
     let e : 1 + 22 * t + 18 + 2 ≡ 1 + 22 * t + 20 = omega arith in
-    simp (lt-ltb t 64 h) (get-four l (1 + 22 * t + 18) ∙ ap (λ (p : ℕ). get 2 l (1 + 22 * t + 18) + 65536 * get 2 l p) e)
+    simp (lt-ltb t (shape .objects) h) (get-four l (1 + 22 * t + 18) ∙ ap (λ (p : ℕ). get 2 l (1 + 22 * t + 18) + 65536 * get 2 l p) e)
 
 none-by-halves : (x y : ℕ) → eqb (x + 65536 * y) 0 ≡ (eqb x 0 && eqb y 0)
 none-by-halves zero zero = refl

@@ -12,7 +12,7 @@ use Rattle.mask.specs.Mask.{contains}
 use Rattle.octets.proofs.Laws.{get-ext, get-out, Bytes}
 use Rattle.image.specs.declared.Field.{Field}
 use Rattle.image.specs.Field.{place, fieldOf, withField}
-use Rattle.image.specs.Layout.{shape, shape1207, imageSize, objectCount, ownerCount, holderField, readersField, writersField}
+use Rattle.image.specs.Layout.{shape, shape1527, shape1207, imageSize, objectCount, ownerCount, holderField, readersField, writersField}
 use Rattle.image.specs.Layout.{authorField, authorSerialField, serialField, stateField, stampField, holder, author}
 use Rattle.image.specs.Valid.{check}
 use Rattle.image.specs.Blank.{counted, unheld, unwritten, blankAs, blank}
@@ -60,12 +60,15 @@ length-free : length free ≡ imageSize shape
 unfolding unheld
 length-free = length-all (holderField shape) (λ h. nobody) (shape .objects) both ∙ length-both
 
--- document 02's 1,527 bytes, and document 01's 1,207
-pub image-size : imageSize shape ≡ 1527
+-- 2,935 bytes since there are 128 objects (document 02, 2.6), 1,527 before (2.5), and document 01's 1,207
+pub image-size : imageSize shape ≡ 2935
 image-size = refl
 
-pub image-size-before : imageSize shape1207 ≡ 1207
-image-size-before = refl
+pub image-size-1527 : imageSize shape1527 ≡ 1527
+image-size-1527 = refl
+
+pub image-size-1207 : imageSize shape1207 ≡ 1207
+image-size-1207 = refl
 
 pub length-blank : length (blankAs shape) ≡ imageSize shape
 unfolding blankAs unwritten counted zeros

@@ -1,4 +1,4 @@
--- Document 01, 'Message and image': count 64 and the objects' copies (value 8, version 4, holder 1, readers 2, writers 2; by document 02, 2.5, then the
+-- Document 01, 'Message and image': a count and the objects' copies (value 8, version 4, holder 1, readers 2, writers 2; by document 02, 2.5, then the
 -- author, who wrote last: owner 1, serial 4), then count 13 and the owners (last serial 4, state 1, stamp 4). An image has a shape, the number of objects
 -- and the width of a copy; an older one has fewer fields in a copy, and more may follow.
 use mathlib.Core.Bool.{Bool}
@@ -15,9 +15,12 @@ pub record Shape : Type 0 where
   pub objects : ℕ
   pub copySize : ℕ
 
--- the shape of the images here: 64 objects (document 01: tallies), 22 bytes each; and the one before authors were kept
+-- the shape of the images here: 128 objects (document 02, 2.6: tallies), 22 bytes each; the one of 64 objects; and the one before authors were kept
 abbrev pub shape : Shape
 shape = record { objects = objects; copySize = 22 }
+
+abbrev pub shape1527 : Shape
+shape1527 = record { objects = 64; copySize = 22 }
 
 abbrev pub shape1207 : Shape
 shape1207 = record { objects = 64; copySize = 17 }

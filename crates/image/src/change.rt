@@ -73,7 +73,7 @@ fn unwrite(image: &mut [u8])
     }
 }
 
-// Makes 1,527 bytes the blank image; 1 and nothing altered for another length.
+// Makes 2,935 bytes the blank image; 1 and nothing altered for another length.
 // Ruled out: holders left 0, which is node 0; a byte of the old image kept.
 pub fn blank(image: &mut [u8]) -> u8
     ensures number { λ r. ⌜ r ≡ blankNumber (now (image .entry)) ⌝ }

@@ -1,4 +1,4 @@
-// The fields of an image, read in place. An object above 63 or an owner above 12 reads as 0, as do bytes that are not there.
+// The fields of an image, read in place. An object above 127 or an owner above 12 reads as 0, as do bytes that are not there.
 ghost use mathlib.Core.Path.{_≡_};
 ghost use Rattle.image.specs.Layout.{ownerOf};
 ghost use Rattle.image.specs.Layout.{value, version, holder, readers, writers, author, authorSerial, serial, state, stamp};

@@ -31,7 +31,7 @@ use numbers::UNKNOWN;
 use numbers::both;
 use numbers::either;
 
-// The two counts are 64 and 13.
+// The two counts are 128 and 13.
 fn counts_ok(image: &[u8]) -> bool
     ensures { λ r. ⌜ r ≡ countsOk shape (now (image .entry)) ⌝ }
 {

@@ -1,4 +1,4 @@
-// The fields of an image, set in place. An object above 63 or an owner above 12 is not there: setting it does nothing.
+// The fields of an image, set in place. An object above 127 or an owner above 12 is not there: setting it does nothing.
 ghost use mathlib.Core.Path.{_≡_};
 ghost use Rattle.image.specs.Change.{withValue, withVersion, withHolder, withReaders, withWriters, withAuthor, withSerial, withState, withStamp};
 use crate::AUTHOR;

@@ -1,4 +1,4 @@
--- Document 02, 2.5: an image of an older length is written as one of today's. What its copies have is kept; the rest is as in the blank image.
+-- Document 02, 2.5 and 2.6: an image of an older length is written as one of today's. What its copies have is kept; the rest is as in the blank image.
 -- An author that they do not have is nobody (255 and 0) at version 0, where none wrote, and unknown (254 and 0) above.
 use mathlib.Core.Bool.{Bool, false, true, cond, not, _||_}
 use mathlib.Core.List.{List, [], _∷_}
@@ -12,16 +12,16 @@ use Rattle.numbers.specs.Refusal.{Refusal, refuse, firstOf}
 use Rattle.image.specs.declared.Copy.{Copy}
 use Rattle.image.specs.declared.Owner.{Owner}
 use Rattle.image.specs.Field.{fieldOf}
-use Rattle.image.specs.Layout.{Shape, shape, shape1207, hasAuthor, imageSize, valueField, versionField, holderField, readersField, writersField}
-use Rattle.image.specs.Layout.{authorField, authorSerialField, serialField, stateField, stampField}
+use Rattle.image.specs.Layout.{Shape, shape, shape1527, shape1207, hasAuthor, imageSize, valueField, versionField, holderField, readersField}
+use Rattle.image.specs.Layout.{writersField, authorField, authorSerialField, serialField, stateField, stampField}
 use Rattle.image.specs.Valid.{valid}
 use Rattle.image.specs.Blank.{blankAs}
 use Rattle.image.specs.Change.{withValue, withVersion, withHolder, withReaders, withWriters, withAuthor, withOwner}
 
 -- ---- which lengths
--- the older shapes
+-- the older shapes: of 64 objects, and of these without their authors
 abbrev pub olderShapes : List Shape
-olderShapes = shape1207 ∷ []
+olderShapes = shape1527 ∷ shape1207 ∷ []
 
 -- the first of some shapes whose images have n bytes
 abbrev pub shapeFor : List Shape → ℕ → Option Shape

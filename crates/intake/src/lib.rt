@@ -24,6 +24,14 @@ struct Older {
     width: usize,
 }
 
+// The shape of 64 objects, and the size of its images.
+const OF_64_OBJECTS: Older = Older {
+    objects: 64,
+    width: 22,
+};
+
+const SIZE_OF_64_OBJECTS: usize = 1527;
+
 // The shape before authors were kept, and the size of its images.
 const BEFORE_AUTHORS: Older = Older {
     objects: 64,
@@ -37,6 +45,9 @@ fn older_of(len: usize) -> Older
     ensures { λ r. ⌜ olderOf len ≡ found r ⌝ }
     ensures { λ r. ⌜ Fits r ⌝ }
 {
+    if len == SIZE_OF_64_OBJECTS {
+        return OF_64_OBJECTS;
+    }
     if len == SIZE_BEFORE_AUTHORS {
         return BEFORE_AUTHORS;
     }
@@ -112,7 +123,8 @@ fn is_valid(old: &[u8], s: Older, image: &[u8]) -> bool
 }
 
 // Takes in `old`, an image of an older length: writes it into `image`, as one of today's. 1 where `old` has no older length or `image` not
-// today's, 2 where `old` is damaged; then nothing is altered. Ruled out: an author unknown where no copy was written; a damaged image taken in.
+// today's, 2 where `old` is damaged; then nothing is altered. Ruled out: an author unknown where no copy was written; a copy more than the older bytes have;
+// a damaged image taken in.
 pub fn take_in(old: &[u8], image: &mut [u8]) -> u8
     ensures number { λ r. ⌜ r ≡ takeNumber (now (old .entry)) (now (image .entry)) ⌝ }
     ensures image { λ r. ⌜ now (image .exit) ≡ takeAfter (now (old .entry)) (now (image .entry)) ⌝ }

@@ -16,9 +16,9 @@ nobody = 255
 abbrev pub unknown : ℕ
 unknown = 254
 
--- "Tallies are 0 to 63"
+-- tallies are "numbered 0 to 127"
 abbrev pub objects : ℕ
-objects = 64
+objects = 128
 
 -- how many objects one transaction may open: a ninth is refused
 abbrev pub mostOpen : ℕ

@@ -13,8 +13,8 @@ pub const NOBODY: u8 = 255;
 // Stands where an author could stand whom an older image did not keep.
 pub const UNKNOWN: u8 = 254;
 
-// The objects (document 01: tallies 0 to 63), and the same as the first number that names none.
-pub const OBJECTS: usize = 64;
+// The objects (document 02, 2.6: tallies 0 to 127), and the same as the first number that names none.
+pub const OBJECTS: usize = 128;
 
 pub const OBJECTS_END: u8 = OBJECTS as u8;
 

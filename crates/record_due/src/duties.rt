@@ -152,7 +152,7 @@ fn due_in(bytes: &[u8], me: u8, node: u8, object: u8) -> Duty
     }
 }
 
-// The least number of an open object from `lo` on; 64 where there is none.
+// The least number of an open object from `lo` on; 128 where there is none.
 fn next_open(bytes: &[u8], lo: u8) -> u8
     requires { ⌜ check (now bytes) ≡ 0 ⌝ }
     requires { ⌜ lo ≤ objects ⌝ }

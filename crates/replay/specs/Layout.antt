@@ -1,5 +1,5 @@
 -- A sheet: a digest in one slice of 64-bit numbers. First the count of places, then by owner its serial and its place, then by object the place and
--- the value of its last writer, then for each owner a row: its 64 marks of what it writes, and its 64 new values.
+-- the value of its last writer, then for each owner a row: a mark for each object that it writes, and the new value of each.
 use mathlib.Core.List.{List}
 use Prim.Native.Nat.{ℕ, _+_, _*_}
 use lib.ListN.{getD}

@@ -256,7 +256,7 @@ pub fn committed(sheet: &mut [u64], owner: u8) -> u8
     0
 }
 
-// The last value of an object, 64 bits of a signed number; 0 for a slice of another length and for an object above 63.
+// The last value of an object, 64 bits of a signed number; 0 for a slice of another length and for an object above 127.
 // Ruled out: the place of its last writer; the value of the object beside it.
 pub fn value(sheet: &[u64], object: u8) -> u64
     ensures { λ r. ⌜ r ≡ valueOf (now (sheet .entry)) object ⌝ }

@@ -1,4 +1,4 @@
--- A delivery that is accepted, without the checks that found nothing wrong: reading all 1,527 bytes of an image each time is most of what a run costs.
+-- A delivery that is accepted, without the checks that found nothing wrong: reading all 2,935 bytes of an image each time is most of what a run costs.
 use mathlib.Core.Path.{_≡_, refl, ap}
 use mathlib.Core.Bool.{Bool, true, false, cond}
 use mathlib.Core.List.{List, []}

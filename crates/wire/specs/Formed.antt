@@ -50,7 +50,7 @@ contentOk kind e =
     cond (eqb kind fetch) (eqb (e .version) 0 && eqb (e .value) 0)
     (eqb kind copy || cond (eqb (e .mode) 0) (eqb (e .value) 0) (ltb (e .version) highest))
 
--- objects are 0 to 63, the mode is 0 to read or 1 to write
+-- objects are 0 to 127, the mode is 0 to read or 1 to write
 unfoldable pub entryOk : ℕ → Entry → Bool
 entryOk kind e = ltb (e .object) objects && (ltb (e .mode) 2 && contentOk kind e)
 

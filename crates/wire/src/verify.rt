@@ -109,7 +109,7 @@ fn content_ok(kind: u8, e: Entry) -> bool
 }
 
 // An entry is well formed.
-// Ruled out: object 64; a fetch that names a version; an ask that reads with a value.
+// Ruled out: object 128; a fetch that names a version; an ask that reads with a value.
 pub fn entry_ok(kind: u8, e: Entry) -> bool
     ensures { λ r. ⌜ r ≡ entryOk kind e ⌝ }
 {
