@@ -16,9 +16,10 @@ use Rattle.image.specs.declared.Owner.{Owner}
 use Rattle.image.specs.Field.{fieldOf}
 use Rattle.image.specs.Layout.{Shape, shape, hasAuthor, imageSize, valueField, versionField, holderField, readersField, writersField}
 use Rattle.image.specs.Layout.{authorField, authorSerialField, serialField, stateField, stampField}
-use Rattle.image.specs.Layout.{value, version, holder, readers, writers, author, authorSerial, serial, state, stamp}
+use Rattle.image.specs.Layout.{value, version, holder, readers, writers, author, authorSerial, serial, state, stamp, copyOf}
 use Rattle.image.specs.Blank.{blankAs}
 use Rattle.image.proofs.Each.{lt-or-le}
+use Rattle.image.proofs.Made.{made-copy}
 use Rattle.image.proofs.Lens.{inside, ends, of-out, of-small}
 use Rattle.image.proofs.Blanks.{length-blank, bytes-blank}
 use Rattle.intake.specs.Take.{authorAt, copyAs, ownerAs, withCopy, withKept, withCopies, withOwners, takenIn}
@@ -98,6 +99,19 @@ module _ (s : Shape) (l : List ℕ) where
       → fieldOf g (takenIn s l) t ≡ fieldOf g (blankAs shape) t
   taken-beyond g t a b h =
       ap (λ (m : List ℕ). fieldOf g m t) taken-columns ∙ items-apart kept g nodes half t b ∙ items-beyond copied g (s .objects) (blankAs shape) t a h
+
+  -- THEOREM. An object that the older image does not have is blank.
+  pub taken-blank : (t : ℕ) → s .objects ≤ t → copyOf (takenIn s l) t ≡ copyOf (blankAs shape) t
+  unfolding copyOf
+  taken-blank t h =
+      made-copy
+      (taken-beyond (valueField shape) t tt tt h)
+      (taken-beyond (versionField shape) t tt tt h)
+      (taken-beyond (holderField shape) t tt tt h)
+      (taken-beyond (readersField shape) t tt tt h)
+      (taken-beyond (writersField shape) t tt tt h)
+      (taken-beyond (authorField shape) t tt tt h)
+      (taken-beyond (authorSerialField shape) t tt tt h)
 
   -- ---- each field, of older bytes
   module _ (room : s .objects ≤ shape .objects) (bytes : Bytes l) where

@@ -24,17 +24,20 @@ struct Older {
     width: usize,
 }
 
-// The shape of 64 objects, and the size of its images.
-const OF_64_OBJECTS: Older = Older {
-    objects: 64,
+// How many objects every older shape has.
+const OLDER_OBJECTS: u8 = 64;
+
+// The shape with authors, and the size of its images.
+const WITH_AUTHORS: Older = Older {
+    objects: OLDER_OBJECTS,
     width: 22,
 };
 
-const SIZE_OF_64_OBJECTS: usize = 1527;
+const SIZE_WITH_AUTHORS: usize = 1527;
 
 // The shape before authors were kept, and the size of its images.
 const BEFORE_AUTHORS: Older = Older {
-    objects: 64,
+    objects: OLDER_OBJECTS,
     width: 17,
 };
 
@@ -45,8 +48,8 @@ fn older_of(len: usize) -> Older
     ensures { λ r. ⌜ olderOf len ≡ found r ⌝ }
     ensures { λ r. ⌜ Fits r ⌝ }
 {
-    if len == SIZE_OF_64_OBJECTS {
-        return OF_64_OBJECTS;
+    if len == SIZE_WITH_AUTHORS {
+        return WITH_AUTHORS;
     }
     if len == SIZE_BEFORE_AUTHORS {
         return BEFORE_AUTHORS;

@@ -66,7 +66,7 @@ fn store(sheet: &mut [u64], at: usize, n: u64)
 
 // Stores n zeros from a cell on.
 fn zero(sheet: &mut [u64], at: usize, n: usize)
-    requires { ⌜ (at ≤ 65535) × (n ≤ 65535) ⌝ }
+    requires { ⌜ (at ≤ 131071) × (n ≤ 65535) ⌝ }
     ensures { λ r. ⌜ now (sheet .exit) ≡ zeroed n (now (sheet .entry)) at ⌝ }
 {
     let mut i = at;

@@ -5,6 +5,9 @@ use libc::STDOUT_FILENO;
 use numbers::EVERY_NODE;
 use reading::Reader;
 
+// How many bytes are written at once: room for the longest end of a scenario, 22,366 bytes, and for the line behind it.
+const OUT: usize = 32768;
+
 // The reader, and whether to go on.
 struct Went {
     reader: Reader,
@@ -130,7 +133,7 @@ fn main() {
     let mut settings = [0u8; service_calls::SETTINGS];
     let mut list = [0u64; lists::MOST];
     let mut sheet = [0u64; replay::SIZE];
-    let mut out = [0u8; 16384];
+    let mut out = [0u8; OUT];
     runs::start(
         &mut images,
         &mut records,
