@@ -26,7 +26,7 @@ use Rattle.sample_run.specs.Sample.{beginning, ready, participants, mask
 use Rattle.sample_run.specs.Sample.{Shown}
 use Rattle.sample_run.proofs.Listed.{listed-same}
 use Rattle.sample_run.proofs.Both.{Both, atFirst, Agrees, first-agrees, stepped-agrees, delivered-agrees, exchanged-agrees}
-use Rattle.sample_run.proofs.Computed.{whenReady, whenAsked, atLast, Seen, seen, is-seen, is-shown, whenRead, is-read}
+use Rattle.sample_run.proofs.Computed.{start, is-start, whenReady, whenAsked, atLast, Seen, seen, is-seen, is-shown, whenRead, is-read}
 
 -- ---- the passes are those of the lists
 ones : (n i : ℕ) → getD (replicate n 1) i 0 < 2 ^ 16
@@ -37,11 +37,14 @@ ones (suc n) (suc i) = ones n i
 abbrev β : Rested blank
 β = blank-rested everyNode
 
+start-agrees : Agrees blank β [] start
+start-agrees = subst (Agrees blank β []) is-start (first-agrees blank β)
+
 ready-agrees : Agrees blank β ready whenReady
 unfolding whenReady
 ready-agrees =
     delivered-agrees blank β _ _ (delivered-agrees blank β _ _ (stepped-agrees blank β _ _ (send 4 0 7) tt (stepped-agrees blank β _ _ (openWrite 4 7) tt
-    (stepped-agrees blank β _ _ (begin 4 beginning) (lit< tt, (refl, ones nodes)) (first-agrees blank β)))))
+    (stepped-agrees blank β _ _ (begin 4 beginning) (lit< tt, (refl, ones nodes)) start-agrees))))
 
 last-agrees : Agrees blank β sample atLast
 unfolding whenAsked atLast
