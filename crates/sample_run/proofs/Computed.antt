@@ -1,5 +1,5 @@
 -- The sample run, computed.
-use mathlib.Core.Path.{_≡_, refl, ap, _∙_}
+use mathlib.Core.Path.{_≡_, refl, ap}
 use mathlib.Core.Bool.{Bool, cond}
 use mathlib.Core.List.{List, [], _∷_}
 use mathlib.Core.Option.{Option, some}
@@ -7,9 +7,7 @@ use Prim.Native.Nat.{ℕ}
 use native.Mathlib.Decide.{ℕ-discrete}
 use Rattle.numbers.specs.Sizes.{nodes, nobody}
 use Rattle.mask.specs.Mask.{contains}
-use lib.ListN.{replicate}
-use Rattle.image.specs.Layout.{shape, imageSize, holderField, authorField, value, version, author, authorSerial}
-use Rattle.image.specs.Blank.{counted, unheld, unwritten, blankAs}
+use Rattle.image.specs.Layout.{value, version, author, authorSerial}
 use Rattle.steps.specs.Station.{Station}
 use Rattle.steps.specs.Step.{begin, openRead, openWrite, setValue, found, requestCommit, send}
 use Rattle.protocol.specs.State.{Tx}
@@ -17,21 +15,12 @@ use Rattle.history.specs.Origin.{ledgerOf}
 use Rattle.history.specs.Ledger.{Ledger, givenTo, lastValue, lastWriter}
 use Rattle.sample_run.specs.Sample.{beginning, participants, mask, blank, transaction, Shown}
 use Rattle.sample_run.proofs.Listed.{listed}
-use Rattle.sample_run.proofs.Swift.{behind, walk, swept, sweeps}
-use Rattle.sample_run.proofs.Quick.{quickStep, accepted}
+use Rattle.worked.proofs.Quick.{quickBlank, blank-quick}
+use Rattle.sample_run.proofs.Quick.{accepted}
 use Rattle.sample_run.proofs.Both.{Both, atFirst, noted, stepped, oldest, delivered, bothExchanged}
 use Rattle.sample_run.proofs.Opened.{computed}
 
--- the blank image in few walks, and what the run starts from with it
-unfoldable pub quickBlank : List ℕ
-quickBlank = swept (authorField shape) (λ a. nobody) (swept (holderField shape) (λ h. nobody) (counted shape (replicate (imageSize shape) 0)))
-
-blank-quick : blankAs shape ≡ quickBlank
-unfolding quickBlank blankAs unwritten unheld
-blank-quick =
-    sweeps (authorField shape) (λ a. nobody) (unheld shape (counted shape (replicate (imageSize shape) 0)))
-    ∙ ap (swept (authorField shape) (λ a. nobody)) (sweeps (holderField shape) (λ h. nobody) (counted shape (replicate (imageSize shape) 0)))
-
+-- what the run starts from, with the blank image in few walks
 abbrev startFrom : List ℕ → Both
 startFrom l = record { ledger = ledgerOf blank; station = record { images = λ n. l; records = st .records; pool = st .pool; own = st .own } }
   where
@@ -101,11 +90,11 @@ pub is-seen : seen atLast
       serials = listed (λ n. cond (contains mask n) 1 0) nodes;
       phases = listed (λ n. 0) nodes;
     }
-unfolding computed ℕ-discrete behind walk swept quickStep quickBlank start accepted noted stepped oldest delivered bothExchanged whenReady whenAsked atLast seen
+unfolding computed ℕ-discrete start accepted noted stepped oldest delivered bothExchanged whenReady whenAsked atLast seen
 is-seen = refl
 
 pub is-shown : Shown (whenReady .station) 4 0
-unfolding computed ℕ-discrete behind walk swept quickStep quickBlank start accepted noted stepped oldest delivered whenReady
+unfolding computed ℕ-discrete start accepted noted stepped oldest delivered whenReady
 is-shown = record { number = refl; answer = refl }
 
 -- ---- from an origin with that station
@@ -113,5 +102,5 @@ unfoldable pub whenRead : Both → Both
 whenRead b = delivered (delivered (stepped (stepped (stepped b (begin 5 beginning)) (openRead 5 7)) (send 5 0 7)))
 
 pub is-read : (L : Ledger) → Shown (whenRead (record { ledger = L; station = atLast .station }) .station) 5 500
-unfolding computed ℕ-discrete behind walk swept quickStep quickBlank start accepted noted stepped oldest delivered bothExchanged whenReady whenAsked atLast whenRead
+unfolding computed ℕ-discrete start accepted noted stepped oldest delivered bothExchanged whenReady whenAsked atLast whenRead
 is-read L = record { number = refl; answer = refl }

@@ -1,7 +1,6 @@
 -- One pass over a run (Both), with its deliveries as accepted (Quick); the sample run computed by it (Opened, Computed); what that says (Listed, Commits).
 pub mod Opened
 pub mod Listed
-pub mod Swift
 pub mod Quick
 pub mod Both
 pub mod Computed

@@ -50,9 +50,8 @@ unfolding put
 put-none zero q v = refl
 put-none (suc w) q v = put-none w (q + 1) (v / 256)
 
-module _ (w s : ℕ) (g : ℕ → ℕ) where
-  at-cons : (q x : ℕ) (l : List ℕ) → changedAt w g (suc q) (x ∷ l) ≡ x ∷ changedAt w g q l
-  at-cons q x l = ap (λ (v : ℕ). put w (x ∷ l) (suc q) (g v)) (get-cons w q x l) ∙ put-cons w q (g (get w l q)) x l
+at-cons : (w : ℕ) (g : ℕ → ℕ) (q x : ℕ) (l : List ℕ) → changedAt w g (suc q) (x ∷ l) ≡ x ∷ changedAt w g q l
+at-cons w g q x l = ap (λ (v : ℕ). put w (x ∷ l) (suc q) (g v)) (get-cons w q x l) ∙ put-cons w q (g (get w l q)) x l
 
 -- ---- one after the other, the first at p
 unfoldable eachAt : ℕ → ℕ → (ℕ → ℕ) → ℕ → ℕ → List ℕ → List ℕ
@@ -67,7 +66,7 @@ module _ (w s : ℕ) (g : ℕ → ℕ) where
       let e : suc p + s * n ≡ suc (p + s * n) = omega arith in
       ap (changedAt w g (suc p + s * n)) (each-cons p n x l)
       ∙ ap (λ (q : ℕ). changedAt w g q (x ∷ eachAt w s g p n l)) e
-      ∙ at-cons w s g (p + s * n) x (eachAt w s g p n l)
+      ∙ at-cons w g (p + s * n) x (eachAt w s g p n l)
 
   each-none : (p n : ℕ) → eachAt w s g p n [] ≡ []
   unfolding eachAt
