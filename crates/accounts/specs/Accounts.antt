@@ -6,6 +6,7 @@ use mathlib.Core.List.{List, [], _∷_, _++_}
 use Prim.Native.Nat.{ℕ, _+_, _*_, _<_}
 use lib.Dec.{eqb}
 use lib.ListN.{getD}
+use Rattle.image.specs.Layout.{Shape, shape}
 use Rattle.classes.specs.Classes.{tallyCount}
 use Rattle.settings.specs.Settings.{classesIn, tenths, blankSettings, settingsNumber}
 use Rattle.frontend.specs.Plan.{begin, batch, edit, request, loadClasses}
@@ -20,7 +21,7 @@ use Rattle.protocol.specs.State.{Tx, Tx-discrete}
 use Rattle.protocol.specs.Replay.{after as afterMode, replay, given}
 use Rattle.history.specs.Ledger.{Ledger, current, fed}
 use Rattle.history.specs.Ballots.{Ballots}
-use Rattle.history.specs.Origin.{Origin as Machine, Rested as MachineRested, blankOrigin as blankMachine}
+use Rattle.history.specs.Origin.{Origin as Machine, RestedAs as MachineRestedAs, blankOrigin as blankMachine}
 use Rattle.history.specs.Claims.{Account}
 use Rattle.history.specs.Claims.{Typed as StepTyped, told as machineTold, votes as machineVotes}
 
@@ -31,12 +32,17 @@ pub record Origin : Type 0 where
   pub booked : ℕ → ℕ → ℕ
   pub weighed : ℕ → ℕ → ℕ
 
--- it is at rest, the settings are sound, and "ten times the grams booked plus the tenths waiting is the sum of all weights, class by class"
-pub record Rested (o : Origin) : Type 0 where
-  pub machine : MachineRested (o .machine)
+-- with images of a shape it is at rest, the settings are sound, and "ten times the grams booked plus the tenths waiting is the sum of all weights, class by
+-- class"
+pub record RestedAs (s : Shape) (o : Origin) : Type 0 where
+  pub machine : MachineRestedAs s (o .machine)
   pub settings : (n : ℕ) → settingsNumber (o .settings n) ≡ 0
   pub weighs : (n i : ℕ) → i < tallyCount (classesIn (o .settings n))
       → 10 * o .booked n i + getD (tenths (o .machine .station .records n) (o .settings n)) i 0 ≡ o .weighed n i
+
+-- with images of today's shape
+abbrev pub Rested : Origin → Type 0
+Rested o = RestedAs shape o
 
 abbrev pub blankOrigin : ℕ → Origin
 blankOrigin on = record { machine = blankMachine on; settings = λ n. blankSettings; booked = λ n i. 0; weighed = λ n i. 0 }

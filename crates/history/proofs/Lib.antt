@@ -33,6 +33,7 @@
 --   Room, Numbered    the pool has at most 128 messages; the number of every delivery
 --   Spare             only a begin ends idleness and opens; the record of what is no node stays idle
 --   Resting           at rest every newest copy has replay's last value and last writer, and what is at rest is an origin again
+--   First             whatever follows an origin, replay is fed what it carries first
 -- Replay's last values in bounded memory:
 --   Ranks             places in a list; what one more commit makes of the values held
 --   Tracked, Running  what a digest keeps of a ledger; every list of steps, as a digest and as a sheet
@@ -76,6 +77,7 @@ pub mod Origins
 pub mod Claimed
 pub mod Numbered
 pub mod Resting
+pub mod First
 pub mod Ranks
 pub mod Tracked
 pub mod Running

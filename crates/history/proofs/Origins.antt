@@ -280,7 +280,7 @@ module _ (o : Origin) where
         v = version (st .images n) t
 
         here : t < objects → AuthoredBy before t v (authorOf (st .images n) t)
-        here h = on (r .authors n t h) (λ a. on (names-cases (writes k) l t v (r .written n t))
+        here h = on (r .authors refl n t h) (λ a. on (names-cases (writes k) l t v (r .written n t))
             (λ z. let b : AuthorIs (st .images n) t none = subst (AuthorIs (st .images n) t) (z .1) a in
             subst (AuthoredBy before t v) (sym (author-none (st .images n) t (b .0))) (no-author t v (z .0)))
             (λ z. let x = z .0 in let b : AuthorIs (st .images n) t (some x) = subst (AuthorIs (st .images n) t) (z .5) a in
@@ -452,7 +452,7 @@ blank-rested up = record {
   stored = λ x m n t s. absurd (cons≢nil s);
   written = λ n t. subst (λ (s : ℕ). s ≤ 0) (sym (blank-zero (versionField shape) t tt tt tt tt)) (omega arith);
   copies = λ n t. blank-zero (valueField shape) t tt tt tt tt;
-  authors = λ n t h. inl (blank-author t h, blank-zero (authorSerialField shape) t tt tt tt tt);
+  authors = λ e n t h. inl (blank-author t h, blank-zero (authorSerialField shape) t tt tt tt tt);
   waits = λ b i. absurd i;
   room = omega arith;
 }

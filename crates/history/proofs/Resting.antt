@@ -330,7 +330,7 @@ module _ (st : Station) (L : Ledger) (F : Past) (g : Good st L F) (t : InTurn st
     stored = stored;
     written = written;
     copies = copies;
-    authors = authored;
+    authors = λ e. authored;
     waits = spent;
     room = room;
   }

@@ -16,7 +16,8 @@ use Rattle.wire.specs.declared.Entry.{Entry}
 use Rattle.wire.specs.Message.{ask, outcome}
 use Rattle.wire.specs.Decode.{kindOf, decode}
 use Rattle.wire.specs.Items.{wordOf}
-use Rattle.image.specs.Layout.{value, version, author}
+use Rattle.image.specs.Field.{fieldOf}
+use Rattle.image.specs.Layout.{Shape, shape, authorField, value, version, author}
 use Rattle.coordinator.specs.declared.Coordinator.{Coordinator}
 use Rattle.coordinator.specs.State.{idlePhase, committed, objectAt, isOpen, ready}
 use Rattle.coordinator.specs.System.{System}
@@ -84,9 +85,12 @@ abbrev pub NewestAtRest : Station → (List ℕ → ℕ → Type 0) → Type 0
 NewestAtRest st P = Quiescent st → (q : ℕ) → system st .isRead q ≡ true → (n t : ℕ) → n < nodes → contains q n ≡ true → t < objects → Newest st q n t
     → P (st .images n) t
 
--- every copy's author is known
+-- every copy's author is known, in images of a shape; in today's
+abbrev pub KnownAs : Shape → Station → Type 0
+KnownAs s st = (n t : ℕ) → fieldOf (authorField s) (st .images n) t ≢ unknown
+
 abbrev pub Known : Station → Type 0
-Known st = (n t : ℕ) → author (st .images n) t ≢ unknown
+Known st = KnownAs shape st
 
 -- a transaction is ripe: votes were asked for it, a yes of it from every participant was delivered to its owner while on, and nothing spoilt it since
 pub record Ripe (L : Ledger) (B : Ballots) (x : Tx) : Type 0 where
