@@ -13,7 +13,8 @@ use Rattle.mask.specs.Mask.{contains}
 use Rattle.octets.proofs.Laws.{get-ext, get-out, Bytes}
 use Rattle.image.specs.declared.Field.{Field}
 use Rattle.image.specs.Field.{place, fieldOf, withField, changedAll}
-use Rattle.image.specs.Layout.{Shape, shape, shape1527, shape1207, hasAuthor, imageSize, objectCount, ownerCount, holderField, readersField, writersField}
+use Rattle.image.specs.Layout.{Shape, shape, shape1527, shape1207, hasAuthor, imageSize, objectCount, ownerCount, holderField, readersField}
+use Rattle.image.specs.Layout.{writersField}
 use Rattle.image.specs.Layout.{authorField, authorSerialField, serialField, stateField, stampField, holder, author}
 use Rattle.image.specs.Valid.{check}
 use Rattle.image.specs.Blank.{counted, unheld, unwritten, blankAs, blank}
