@@ -78,11 +78,11 @@ unfolding olderOf
 today-not-older = refl
 
 -- today's image has room for the objects of some shapes
-abbrev roomy : List Shape → Bool
+abbrev pub roomy : List Shape → Bool
 roomy [] = true
 roomy (s ∷ ss) = leb (s .objects) (shape .objects) && roomy ss
 
-shape-found : (ss : List Shape) (n : ℕ) (s : Shape) → T (roomy ss) → shapeFor ss n ≡ some s → (s .objects ≤ shape .objects) × (n ≡ imageSize s)
+pub shape-found : (ss : List Shape) (n : ℕ) (s : Shape) → T (roomy ss) → shapeFor ss n ≡ some s → (s .objects ≤ shape .objects) × (n ≡ imageSize s)
 shape-found [] n s r e = absurd (let z : _≡_ {A = ℕ} 0 1 = cc in let y : ⊥ = omega arith in y)
 shape-found (a ∷ ss) n s r e =
     by (eqb n (imageSize a)) refl e (shape-found ss n s (and-right (leb (a .objects) (shape .objects)) (roomy ss) r))

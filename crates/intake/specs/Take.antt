@@ -11,12 +11,11 @@ use Rattle.numbers.specs.Numbers.{wrongLength, damaged}
 use Rattle.numbers.specs.Refusal.{Refusal, refuse, firstOf}
 use Rattle.image.specs.declared.Copy.{Copy}
 use Rattle.image.specs.declared.Owner.{Owner}
-use Rattle.image.specs.Field.{fieldOf}
-use Rattle.image.specs.Layout.{Shape, shape, shape1527, shape1207, hasAuthor, imageSize, valueField, versionField, holderField, readersField}
-use Rattle.image.specs.Layout.{writersField, authorField, authorSerialField, serialField, stateField, stampField}
+use Rattle.image.specs.Field.{fieldOf, withField}
+use Rattle.image.specs.Layout.{Shape, shape, shape1207, hasAuthor, imageSize, valueField, versionField, holderField, readersField, writersField}
+use Rattle.image.specs.Layout.{authorField, authorSerialField, serialField, stateField, stampField}
 use Rattle.image.specs.Valid.{valid}
 use Rattle.image.specs.Blank.{blankAs}
-use Rattle.image.specs.Change.{withValue, withVersion, withHolder, withReaders, withWriters, withAuthor, withOwner}
 
 -- ---- which lengths
 -- the older shapes: of 64 objects, and of these without their authors
@@ -54,31 +53,49 @@ copyAs s l t =
 unfoldable pub ownerAs : Shape → List ℕ → ℕ → Owner
 ownerAs s l o = record { serial = fieldOf (serialField s) l o; state = fieldOf (stateField s) l o; stamp = fieldOf (stampField s) l o }
 
--- ---- as an image of today
--- l with c as the copy of object t, and with w as what is kept of owner o
-abbrev pub withCopy : List ℕ → ℕ → Copy → List ℕ
-withCopy l t c =
-    withAuthor
-    (withWriters (withReaders (withHolder (withVersion (withValue l t (c .value)) t (c .version)) t (c .holder)) t (c .readers)) t (c .writers))
-    t
-    (c .author)
-    (c .serial)
+-- ---- as an image of a later shape w, one with authors
+-- l with c as the copy of object t, and with k as what is kept of owner o
+abbrev pub withCopyAs : Shape → List ℕ → ℕ → Copy → List ℕ
+withCopyAs w l t c =
+    let value = withField (valueField w) l t (c .value) in
+    let version = withField (versionField w) value t (c .version) in
+    let holder = withField (holderField w) version t (c .holder) in
+    let readers = withField (readersField w) holder t (c .readers) in
+    let writers = withField (writersField w) readers t (c .writers) in
+    let author = withField (authorField w) writers t (c .author) in
+    withField (authorSerialField w) author t (c .serial)
 
-abbrev pub withKept : List ℕ → ℕ → Owner → List ℕ
-withKept l o w = withOwner l o (w .serial) (w .state) (w .stamp)
+abbrev pub withKeptAs : Shape → List ℕ → ℕ → Owner → List ℕ
+withKeptAs w l o k = withField (stampField w) (withField (stateField w) (withField (serialField w) l o (k .serial)) o (k .state)) o (k .stamp)
 
 -- l with the copies of the first n objects, and with the first n owners
-unfoldable pub withCopies : (ℕ → Copy) → ℕ → List ℕ → List ℕ
-withCopies copies zero l = l
-withCopies copies (suc n) l = withCopy (withCopies copies n l) n (copies n)
+unfoldable pub withCopiesAs : Shape → (ℕ → Copy) → ℕ → List ℕ → List ℕ
+withCopiesAs w copies zero l = l
+withCopiesAs w copies (suc n) l = withCopyAs w (withCopiesAs w copies n l) n (copies n)
 
-unfoldable pub withOwners : (ℕ → Owner) → ℕ → List ℕ → List ℕ
-withOwners owners zero l = l
-withOwners owners (suc n) l = withKept (withOwners owners n l) n (owners n)
+unfoldable pub withOwnersAs : Shape → (ℕ → Owner) → ℕ → List ℕ → List ℕ
+withOwnersAs w owners zero l = l
+withOwnersAs w owners (suc n) l = withKeptAs w (withOwnersAs w owners n l) n (owners n)
 
--- older bytes of a shape as an image of today: the blank one with every copy and every owner that they have
-unfoldable pub takenIn : Shape → List ℕ → List ℕ
-takenIn s l = withOwners (ownerAs s l) nodes (withCopies (copyAs s l) (s .objects) (blankAs shape))
+-- older bytes of a shape s as an image of w: the blank one with every copy and every owner that they have
+unfoldable pub takenInto : Shape → Shape → List ℕ → List ℕ
+takenInto w s l = withOwnersAs w (ownerAs s l) nodes (withCopiesAs w (copyAs s l) (s .objects) (blankAs w))
+
+-- ---- as an image of today
+abbrev pub withCopy : List ℕ → ℕ → Copy → List ℕ
+withCopy l t c = withCopyAs shape l t c
+
+abbrev pub withKept : List ℕ → ℕ → Owner → List ℕ
+withKept l o k = withKeptAs shape l o k
+
+abbrev pub withCopies : (ℕ → Copy) → ℕ → List ℕ → List ℕ
+withCopies copies n l = withCopiesAs shape copies n l
+
+abbrev pub withOwners : (ℕ → Owner) → ℕ → List ℕ → List ℕ
+withOwners owners n l = withOwnersAs shape owners n l
+
+abbrev pub takenIn : Shape → List ℕ → List ℕ
+takenIn s l = takenInto shape s l
 
 -- ---- the call
 abbrev pub isOlder : Option Shape → Bool

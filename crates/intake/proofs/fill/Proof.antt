@@ -1,7 +1,7 @@
 -- `intake::fill`: blank, then the copies, then the owners.
 use denote.Ref.{now}
 use Rattle.image.proofs.Blanks.{blank-made}
-use Rattle.intake.specs.Take.{takenIn}
+use Rattle.intake.specs.Take.{takenInto}
 use borrow.Author.Needs.{needs}
 use Rattle.intake.proofs.fill.Statement.{statement}
 use Rattle.intake.proofs.fill.Tie as tie
@@ -19,7 +19,7 @@ same-length : tie.Need-same-length
 same-length c = search needs
 
 returns : tie.Need-returns
-unfolding takenIn
+unfolding takenInto
 returns c =
     let c14 = c .before .before .before .before .before .before .before .before .before .before .before .before .before .before in
     rw (

@@ -4,7 +4,7 @@ use Prim.Native.Nat.{_-_, _≤_}
 use mathlib.Core.Path.{_≡_, refl, sym, _∙_}
 use lib.ListN.{length}
 use denote.Ref.{now}
-use Rattle.intake.specs.Take.{copyAs, withCopies}
+use Rattle.intake.specs.Take.{copyAs, withCopies, withCopiesAs}
 use Rattle.intake.specs.Pass.{shapeOf}
 use Rattle.intake.proofs.Taken.{copies-more}
 use borrow.Author.Needs.{needs}
@@ -19,7 +19,7 @@ abbrev μ-loop : tie.MeasureT-loop
 μ-loop old s image₀ t₀ image t = s .objects - t
 
 loop-holds : tie.Need-loop-holds Inv-loop μ-loop
-unfolding withCopies
+unfolding withCopiesAs
 loop-holds c = (omega arith, refl, refl)
 
 old-copy-requires : tie.Need-old-copy-requires Inv-loop μ-loop

@@ -5,7 +5,7 @@ use mathlib.Core.Path.{_≡_, refl, sym, _∙_}
 use lib.ListN.{length}
 use Rattle.numbers.specs.Sizes.{nodes}
 use denote.Ref.{now}
-use Rattle.intake.specs.Take.{ownerAs, withOwners}
+use Rattle.intake.specs.Take.{ownerAs, withOwners, withOwnersAs}
 use Rattle.intake.specs.Pass.{shapeOf}
 use Rattle.intake.proofs.Taken.{owners-more}
 use borrow.Author.Needs.{needs}
@@ -20,7 +20,7 @@ abbrev μ-loop : tie.MeasureT-loop
 μ-loop old s image₀ o₀ image o = nodes - o
 
 loop-holds : tie.Need-loop-holds Inv-loop μ-loop
-unfolding withOwners
+unfolding withOwnersAs
 loop-holds c = (omega arith, refl, refl)
 
 old-owner-requires : tie.Need-old-owner-requires Inv-loop μ-loop
