@@ -1,9 +1,10 @@
-// Stored images for C: checked, made blank, taken in from an older length, and who wrote a copy last. Each function states the same equation as what it
-// wraps.
+// Stored images for C: checked, made blank, taken in from an older length (one, or a station's thirteen), and who wrote a copy last. Each function states
+// the same equation as what it wraps.
 ghost use mathlib.Core.Path.{_≡_};
 ghost use Rattle.image.specs.Valid.{check};
 ghost use Rattle.image.specs.Blank.{blank, blankNumber};
 ghost use Rattle.intake.specs.Take.{takeNumber, takeAfter};
+ghost use Rattle.conversions.specs.Convert.{convertNumber, convertAfter};
 ghost use Rattle.host.specs.Images.{authorNumber, authorAnswer};
 use crate::Author;
 use numbers::OBJECTS_END;
@@ -32,6 +33,15 @@ pub extern "C" fn senna_take_in(old: &[u8], image: &mut [u8]) -> u8
     ensures { λ r. ⌜ now (image .exit) ≡ takeAfter (now (old .entry)) (now (image .entry)) ⌝ }
 {
     intake::take_in(old, image)
+}
+
+// Takes a station's thirteen images of an older length in. Ruled out: the images before a damaged one written; 2 for twelve images.
+#[no_mangle]
+pub extern "C" fn senna_station_take_in(old: &[u8], images: &mut [u8]) -> u8
+    ensures { λ r. ⌜ r ≡ convertNumber (now (old .entry)) (now (images .entry)) ⌝ }
+    ensures { λ r. ⌜ now (images .exit) ≡ convertAfter (now (old .entry)) (now (images .entry)) ⌝ }
+{
+    conversions::take_in_all(old, images)
 }
 
 // The number of asking who wrote an object's copy last.
