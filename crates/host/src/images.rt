@@ -4,7 +4,7 @@ ghost use mathlib.Core.Path.{_≡_};
 ghost use Rattle.image.specs.Valid.{check};
 ghost use Rattle.image.specs.Blank.{blank, blankNumber};
 ghost use Rattle.intake.specs.Take.{takeNumber, takeAfter};
-ghost use Rattle.conversions.specs.Convert.{convertNumber, convertAfter};
+ghost use Rattle.station_intake.specs.Convert.{convertNumber, convertAfter};
 ghost use Rattle.host.specs.Images.{authorNumber, authorAnswer};
 use crate::Author;
 use numbers::OBJECTS_END;
@@ -41,7 +41,7 @@ pub extern "C" fn senna_station_take_in(old: &[u8], images: &mut [u8]) -> u8
     ensures { λ r. ⌜ r ≡ convertNumber (now (old .entry)) (now (images .entry)) ⌝ }
     ensures { λ r. ⌜ now (images .exit) ≡ convertAfter (now (old .entry)) (now (images .entry)) ⌝ }
 {
-    conversions::take_in_all(old, images)
+    station_intake::take_in_all(old, images)
 }
 
 // The number of asking who wrote an object's copy last.

@@ -23,7 +23,7 @@ use Rattle.image.proofs.Lens.{inside, ends, apart, with-same}
 use Rattle.image.proofs.Blanks.{length-blank, bytes-blank, blank-zero, blank-holder, blank-author, blank-check}
 use Rattle.image.proofs.Blanks.{unsigned, length-blank-as, bytes-blank-as, blank-zero-as, blank-holder-as, blank-author-as, blank-objects-as, blank-owners-as}
 use Rattle.intake.proofs.Judged.{taken-valid, check-says}
-use Rattle.intake.specs.Take.{authorAt, copyAs, ownerAs, withCopy, withKept, withCopies, withOwners, takenIn}
+use Rattle.intake.specs.Take.{authorAt, copyAs, ownerAs, withCopy, withKept, withCopies, withOwners, withCopiesAs, withOwnersAs, takenInto, takenIn}
 
 -- ---- copies and owners written as they were
 module _ (l : List ℕ) (b : Bytes l) where
@@ -44,14 +44,14 @@ module _ (l : List ℕ) (b : Bytes l) where
   same-kept o = rw (with-same (serialField shape) l o b, with-same (stateField shape) l o b) (with-same (stampField shape) l o b)
 
   same-copies : (copies : ℕ → Copy) (n : ℕ) → ((t : ℕ) → t < n → copies t ≡ copyOf l t) → withCopies copies n l ≡ l
-  unfolding withCopies
+  unfolding withCopiesAs
   same-copies copies zero h = refl
   same-copies copies (suc n) h =
       ap (λ (m : List ℕ). withCopy m n (copies n)) (same-copies copies n (λ t k. h t (omega arith)))
       ∙ ap (withCopy l n) (h n (omega arith)) ∙ same-copy n
 
   same-owners : (owners : ℕ → Owner) (n : ℕ) → ((o : ℕ) → o < n → owners o ≡ ownerOf l o) → withOwners owners n l ≡ l
-  unfolding withOwners
+  unfolding withOwnersAs
   same-owners owners zero h = refl
   same-owners owners (suc n) h =
       ap (λ (m : List ℕ). withKept m n (owners n)) (same-owners owners n (λ o k. h o (omega arith)))
@@ -170,7 +170,7 @@ module _ (s : Shape) where
   has-room h = leb→le (s .objects) (shape .objects) (and-left (leb (s .objects) (shape .objects)) _ h)
 
   pub taken-blank : T (fitting s) → takenIn s (blankAs s) ≡ blankAs shape
-  unfolding takenIn
+  unfolding takenInto
   taken-blank h =
       let a = and-right (leb (s .objects) (shape .objects)) _ h in
       let b = and-right (clearCopies s) _ a in

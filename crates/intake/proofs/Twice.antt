@@ -12,7 +12,7 @@ use Rattle.image.specs.declared.Copy.{Copy}
 use Rattle.image.specs.declared.Field.{Field}
 use Rattle.image.specs.declared.Owner.{Owner}
 use Rattle.image.specs.Field.{fieldOf}
-use Rattle.image.specs.Layout.{Shape, shape, shape1207, hasAuthor, valueField, versionField, holderField, readersField, writersField}
+use Rattle.image.specs.Layout.{Shape, shape, shape1527, shape1207, hasAuthor, valueField, versionField, holderField, readersField, writersField}
 use Rattle.image.specs.Layout.{authorField, authorSerialField}
 use Rattle.image.specs.Blank.{blankAs}
 use Rattle.image.proofs.Each.{lt-or-le}
@@ -167,12 +167,6 @@ pub taken-twice : (b a : Shape) (l : List ℕ) → Later b → a .objects ≤ b 
     → takenIn b (takenInto b a l) ≡ takenIn a l
 taken-twice b a l to-b more room bytes = into-twice shape b a l (later shape tt) to-b more room bytes
 
--- ---- 1,207 bytes to 1,527 as in 2.5 and then to 2,935, or at once
-abbrev of1527 : Shape
-of1527 = record { objects = 64; copySize = 22 }
-
-abbrev of2935 : Shape
-of2935 = record { objects = 128; copySize = 22 }
-
-pub taken1207 : (l : List ℕ) → Bytes l → takenInto of2935 of1527 (takenInto of1527 shape1207 l) ≡ takenInto of2935 shape1207 l
-taken1207 l bytes = into-twice of2935 of1527 shape1207 l (later of2935 tt) (later of1527 tt) (omega arith) (omega arith) bytes
+-- 1,207 bytes to 1,527 as in 2.5 and then to today's, or at once
+pub taken1207 : (l : List ℕ) → Bytes l → takenIn shape1527 (takenInto shape1527 shape1207 l) ≡ takenIn shape1207 l
+taken1207 l bytes = taken-twice shape1527 shape1207 l (later shape1527 tt) (omega arith) (omega arith) bytes

@@ -12,8 +12,8 @@ use Rattle.numbers.specs.Refusal.{Refusal, refuse, firstOf}
 use Rattle.image.specs.declared.Copy.{Copy}
 use Rattle.image.specs.declared.Owner.{Owner}
 use Rattle.image.specs.Field.{fieldOf, withField}
-use Rattle.image.specs.Layout.{Shape, shape, shape1207, hasAuthor, imageSize, valueField, versionField, holderField, readersField, writersField}
-use Rattle.image.specs.Layout.{authorField, authorSerialField, serialField, stateField, stampField}
+use Rattle.image.specs.Layout.{Shape, shape, shape1527, shape1207, hasAuthor, imageSize, valueField, versionField, holderField, readersField}
+use Rattle.image.specs.Layout.{writersField, authorField, authorSerialField, serialField, stateField, stampField}
 use Rattle.image.specs.Valid.{valid}
 use Rattle.image.specs.Blank.{blankAs}
 

@@ -1,4 +1,4 @@
--- `conversions::take_each`: the parts passed are taken in.
+-- `station_intake::take_each`: the parts passed are taken in.
 use mathlib.Core.Path.{_≡_, refl, sym, ap, _∙_}
 use mathlib.Core.List.{List}
 use Prim.Native.Nat.{ℕ, _+_, _-_, _*_, _≤_}
@@ -11,12 +11,12 @@ use Rattle.parts.proofs.Laws.{lent, length-part, length-splice}
 use Rattle.image.specs.Layout.{shape, imageSize}
 use Rattle.intake.specs.Take.{takeAfter}
 use Rattle.buffers.specs.Buffers.{imagesSize, imageAt, withImageAt}
-use Rattle.conversions.specs.Convert.{partAt}
-use Rattle.conversions.specs.Pass.{afterParts}
-use Rattle.conversions.proofs.Taken.{part-ends, lent-part}
+use Rattle.station_intake.specs.Convert.{partAt}
+use Rattle.station_intake.specs.Pass.{afterParts}
+use Rattle.station_intake.proofs.Taken.{part-ends, lent-part}
 use borrow.Author.Needs.{needs}
-use Rattle.conversions.proofs.take_each.Statement.{statement}
-use Rattle.conversions.proofs.take_each.Tie as tie
+use Rattle.station_intake.proofs.take_each.Statement.{statement}
+use Rattle.station_intake.proofs.take_each.Tie as tie
 
 abbrev Inv-loop : tie.InvT-loop
 Inv-loop old size images₀ n₀ images n = (n ≤ nodes) × (length images ≡ imagesSize) × (images ≡ afterParts size old n images₀)

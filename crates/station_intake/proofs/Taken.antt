@@ -16,7 +16,7 @@ use Rattle.image.proofs.Each.{lt-or-le}
 use Rattle.intake.specs.Take.{takenIn}
 use Rattle.intake.proofs.Taken.{length-taken, bytes-taken}
 use Rattle.buffers.specs.Buffers.{imagesSize, imageAt, withImageAt}
-use Rattle.conversions.specs.Convert.{oldAt, takenOf, allTaken}
+use Rattle.station_intake.specs.Convert.{oldAt, takenOf, allTaken}
 
 -- a part ends where the next one starts, or before
 pub part-ends : (w i n : ℕ) → i < n → w * i + w ≤ w * n

@@ -7,7 +7,7 @@ use lib.ListN.{replicate}
 use Rattle.image.specs.Layout.{shape, imageSize}
 use Rattle.intake.specs.Take.{takeNumber, takeAfter}
 use Rattle.buffers.specs.Buffers.{imageAt, withImageAt}
-use Rattle.conversions.specs.Convert.{partAt}
+use Rattle.station_intake.specs.Convert.{partAt}
 
 -- the number of taking older bytes in to an image of today's length
 unfoldable pub numberOf : List ℕ → ℕ

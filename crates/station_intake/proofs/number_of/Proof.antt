@@ -1,8 +1,8 @@
--- `conversions::number_of`: as it is taken in.
+-- `station_intake::number_of`: as it is taken in.
 use borrow.Author.Needs.{needs}
-use Rattle.conversions.specs.Pass.{numberOf}
-use Rattle.conversions.proofs.number_of.Statement.{statement}
-use Rattle.conversions.proofs.number_of.Tie as tie
+use Rattle.station_intake.specs.Pass.{numberOf}
+use Rattle.station_intake.proofs.number_of.Statement.{statement}
+use Rattle.station_intake.proofs.number_of.Tie as tie
 
 slice-aggregate-take-in : tie.Need-slice-aggregate-take-in
 slice-aggregate-take-in c = search needs

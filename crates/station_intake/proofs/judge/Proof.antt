@@ -1,4 +1,4 @@
--- `conversions::judge`: the number of the parts passed.
+-- `station_intake::judge`: the number of the parts passed.
 use mathlib.Core.Path.{_≡_, refl, sym, ap, ap₂, _∙_}
 use mathlib.Core.Bool.{cond, not}
 use Prim.Native.Nat.{ℕ, _-_, _≤_}
@@ -7,11 +7,11 @@ use native.Mathlib.Numerals.{add-one}
 use denote.Ref.{now}
 use lib.Dec.{eqb}
 use Rattle.numbers.specs.Sizes.{nodes}
-use Rattle.conversions.specs.Pass.{numberOf, firstNumber}
-use Rattle.conversions.proofs.Taken.{part-ends, lent-part}
+use Rattle.station_intake.specs.Pass.{numberOf, firstNumber}
+use Rattle.station_intake.proofs.Taken.{part-ends, lent-part}
 use borrow.Author.Needs.{needs}
-use Rattle.conversions.proofs.judge.Statement.{statement}
-use Rattle.conversions.proofs.judge.Tie as tie
+use Rattle.station_intake.proofs.judge.Statement.{statement}
+use Rattle.station_intake.proofs.judge.Tie as tie
 
 abbrev Inv-loop : tie.InvT-loop
 Inv-loop old size number₀ node₀ number node = (node ≤ nodes) × (number ≡ firstNumber size old node)

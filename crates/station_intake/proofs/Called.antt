@@ -20,10 +20,10 @@ use Rattle.intake.specs.Take.{olderShapes, shapeFor, olderOf, isOlder, wasValid
 use Rattle.intake.proofs.Judged.{taken-sound}
 use Rattle.intake.proofs.Called.{shape-found}
 use Rattle.buffers.specs.Buffers.{imagesSize, imageAt, withImageAt, wrong}
-use Rattle.conversions.specs.Convert.{stationFor, olderStation, partAt, oldAt, takenOf, allTaken, allValid, wereValid, converted}
-use Rattle.conversions.specs.Convert.{convertRefusals, convertNumber, convertAfter}
-use Rattle.conversions.specs.Pass.{numberOf, firstNumber, afterParts}
-use Rattle.conversions.proofs.Taken.{part-ends, bytes-part, length-of, taken-at, next-taken}
+use Rattle.station_intake.specs.Convert.{stationFor, olderStation, partAt, oldAt, takenOf, allTaken, allValid, wereValid, converted}
+use Rattle.station_intake.specs.Convert.{convertRefusals, convertNumber, convertAfter}
+use Rattle.station_intake.specs.Pass.{numberOf, firstNumber, afterParts}
+use Rattle.station_intake.proofs.Taken.{part-ends, bytes-part, length-of, taken-at, next-taken}
 
 -- ---- which lengths
 -- thirteen images of k bytes are of the shape whose images have k bytes

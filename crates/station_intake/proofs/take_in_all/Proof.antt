@@ -1,11 +1,11 @@
--- `conversions::take_in_all`: the lengths, then the thirteen parts judged, then taken in.
+-- `station_intake::take_in_all`: the lengths, then the thirteen parts judged, then taken in.
 use mathlib.Core.Path.{sym, _∙_}
 use native.Mathlib.Omega.{arith}
 use denote.Ref.{now}
-use Rattle.conversions.proofs.Called.{refused, wrong-length, parted, long, judged, all-taken}
+use Rattle.station_intake.proofs.Called.{refused, wrong-length, parted, long, judged, all-taken}
 use borrow.Author.Needs.{needs}
-use Rattle.conversions.proofs.take_in_all.Statement.{statement}
-use Rattle.conversions.proofs.take_in_all.Tie as tie
+use Rattle.station_intake.proofs.take_in_all.Statement.{statement}
+use Rattle.station_intake.proofs.take_in_all.Tie as tie
 
 mul-either : tie.Need-mul-either
 mul-either c = search needs
