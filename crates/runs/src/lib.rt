@@ -7,7 +7,8 @@ ghost use Rattle.service_calls.specs.Lent.{lent, blankNumber, blankAfter};
 ghost use Rattle.accounts.specs.Accounts.{blankOrigin};
 ghost use Rattle.runs.specs.Order.{isHost, actOf, askOf, callOf};
 ghost use Rattle.runs.specs.Left.{toldOf, leftOf, hostTold, hostLeft, otherTold, otherLeft};
-ghost use Rattle.runs.specs.Held.{Holds, Claimed};
+ghost use Rattle.runs.specs.Held.{Holds, Claimed, GoesOn};
+ghost use Rattle.station_intake.specs.Convert.{convertNumber, convertAfter};
 use buffers::Answer;
 use buffers::refused;
 use frontend::Act;
@@ -32,6 +33,17 @@ pub fn start(
         (lent (now (images .exit)) (now (records .exit)) (now (pool .exit)) (now (own .exit)) (now (settings .exit)))) ⌝ }
 {
     service_calls::blank(images, records, pool, own, settings, on)
+}
+
+// Takes in all thirteen images of an older length; the other buffers are as they are. Where they held an origin at rest, the running goes on from it: every
+// step from there has demand 3, and what was committed before comes first, in its order. Ruled out: the images before a damaged one written; a node that
+// gets the image of the node behind it.
+pub fn take_in(old: &[u8], images: &mut [u8]) -> u8
+    ensures { λ r. ⌜ r ≡ convertNumber (now (old .entry)) (now (images .entry)) ⌝ }
+    ensures { λ r. ⌜ now (images .exit) ≡ convertAfter (now (old .entry)) (now (images .entry)) ⌝ }
+    ensures { λ r. ⌜ GoesOn (now (old .entry)) r (now (images .entry)) (now (images .exit)) ⌝ }
+{
+    station_intake::take_in_all(old, images)
 }
 
 // Whether a kind is a host's call at a node.
