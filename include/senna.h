@@ -15,7 +15,7 @@
  * together with write quorums of two. For a leaf both are the leaf. A set that contains a quorum is a quorum too. Every read quorum
  * meets every write quorum, and any two write quorums meet.
  *
- * Objects are 0 to 63. A transaction is named by its owner, which is a node, and a serial from 1, and carries a timestamp from 1, here
+ * Objects are 0 to 127. A transaction is named by its owner, which is a node, and a serial from 1, and carries a timestamp from 1, here
  * its stamp. Nodes exchange messages, each of which belongs to one transaction. What a node keeps as a replica is its image: a copy of
  * each object, and what it knows of each owner's last transaction. Messages and images are bytes; both formats are written below.
  *
@@ -42,15 +42,16 @@ extern "C" {
 #define SENNA_NODES 13        /* nodes of the tree */
 #define SENNA_DISTANCES 26    /* bytes of thirteen distances */
 #define SENNA_ALL 8191        /* the mask of all nodes, and the highest mask of nodes */
-#define SENNA_OBJECTS 64      /* objects */
+#define SENNA_OBJECTS 128     /* objects */
 #define SENNA_ENTRIES 8       /* entries of a message, at most */
 #define SENNA_MESSAGE_MIN 15  /* bytes of the shortest message */
 #define SENNA_MESSAGE_MAX 128 /* bytes of the longest message, and of the smallest buffer for one */
-#define SENNA_IMAGE 1527      /* bytes of a stored image */
-#define SENNA_IMAGE_1207 1207 /* bytes of a stored image of the first release, which senna_take_in reads */
+#define SENNA_IMAGE 2935      /* bytes of a stored image */
+#define SENNA_IMAGE_1207 1207 /* bytes of a stored image of the first release: 64 objects, no authors; senna_take_in reads it */
+#define SENNA_IMAGE_1527 1527 /* bytes of a stored image of 64 objects with authors; senna_take_in reads it */
 #define SENNA_RECORD 301      /* bytes of a coordinator's record */
 #define SENNA_WAITING 128     /* messages that wait in a station's pool, at most */
-#define SENNA_IMAGES 19851    /* bytes of a station's images: thirteen of SENNA_IMAGE, node 0 first */
+#define SENNA_IMAGES 38155    /* bytes of a station's images: thirteen of SENNA_IMAGE, node 0 first */
 #define SENNA_RECORDS 3913    /* bytes of a station's records: thirteen of SENNA_RECORD, node 0 first */
 #define SENNA_POOL 16513      /* bytes of a station's pool */
 #define SENNA_OWN 2           /* bytes of the mask of a station's nodes that are on */
@@ -73,7 +74,7 @@ extern "C" {
 #define SENNA_GARBLED 3        /* a message breaks a rule of its format, a minute is above 10,079, a weight above 1,999, or a batch too long */
 #define SENNA_STRANGER 4       /* a node above 12, a mask above 8191, or a message for another node */
 #define SENNA_OUT_OF_TURN 5    /* wrong phase or state, a timestamp not above the last, or a batch where a call or a table does not fit */
-#define SENNA_NO_SUCH_OBJECT 6 /* above 63, opened twice, not opened, or a value set on a read; a class that there is not */
+#define SENNA_NO_SUCH_OBJECT 6 /* above 127, opened twice, not opened, or a value set on a read; a class that there is not */
 #define SENNA_EIGHT_OPEN 7     /* a ninth object */
 #define SENNA_NO_QUORUM 8      /* the live nodes contain no quorum */
 #define SENNA_USED_UP 9        /* a serial or a version is at its last number, or a batch would take a value past 64 bits */
@@ -169,7 +170,7 @@ senna_choice senna_nearest_write(uint16_t live, const uint8_t *distances, size_t
  *   6 done     to the owner     0                             0                                   none
  *   7 yield    from the owner   0                             1, the receiver, not the owner      none
  *
- * Nodes are 0 to 12, objects 0 to 63, serials and stamps from 1. In an ask and an outcome a read's value is 0, and a write's version is
+ * Nodes are 0 to 12, objects 0 to 127, serials and stamps from 1. In an ask and an outcome a read's value is 0, and a write's version is
  * below 4294967295. A message that keeps all of this, with no byte missing or left over, is well formed.
  */
 
@@ -248,21 +249,21 @@ uint8_t senna_check_message(const uint8_t *message, size_t length);
 
 /*
  * A fetch from the owner to node `to`: one entry of this object and mode, with version and value 0.
- * SENNA_GARBLED also: object above 63, mode above 1.
+ * SENNA_GARBLED also: object above 127, mode above 1.
  */
 senna_written senna_write_fetch(uint8_t *out, size_t size, uint8_t to, uint8_t owner, uint32_t serial, uint32_t stamp,
                                 uint8_t object, uint8_t mode);
 
 /*
  * A copy from node `from` to the owner: this entry, of any version and value.
- * SENNA_GARBLED also: its object above 63, its mode above 1.
+ * SENNA_GARBLED also: its object above 127, its mode above 1.
  */
 senna_written senna_write_copy(uint8_t *out, size_t size, uint8_t from, uint8_t owner, uint32_t serial, uint32_t stamp,
                                senna_entry entry);
 
 /*
  * An ask from the owner to node `to`: these entries.
- * SENNA_GARBLED also: no entry, more than SENNA_ENTRIES, an object above 63, a mode above 1, objects that do not ascend strictly, a read
+ * SENNA_GARBLED also: no entry, more than SENNA_ENTRIES, an object above 127, a mode above 1, objects that do not ascend strictly, a read
  * with a value other than 0, a write with version 4294967295.
  */
 senna_written senna_write_ask(uint8_t *out, size_t size, uint8_t to, uint8_t owner, uint32_t serial, uint32_t stamp,
@@ -294,7 +295,7 @@ senna_written senna_write_yield(uint8_t *out, size_t size, uint8_t owner, uint32
 
 /*
  * Images. Numbers are little-endian. SENNA_IMAGE bytes:
- *   the count 64, then 64 copies: value 8 (signed), version 4, holder 1 (0 to 12, SENNA_NOBODY for none), readers 2, writers 2 (masks),
+ *   the count 128, then 128 copies: value 8 (signed), version 4, holder 1 (0 to 12, SENNA_NOBODY for none), readers 2, writers 2 (masks),
  *   author 5: owner 1, serial 4
  *   the count 13, then 13 owners: last serial 4, state 1 (0 over, 1 listed, 2 held, 3 refused), stamp 4
  *
@@ -305,9 +306,10 @@ senna_written senna_write_yield(uint8_t *out, size_t size, uint8_t owner, uint32
  *
  * Formats by length. An image is told by its length alone:
  *
- *   bytes                    written since              copies                          read by
- *   1207 (SENNA_IMAGE_1207)  the first release          64 of 17 bytes, without author  senna_take_in only
- *   1527 (SENNA_IMAGE)       authors are kept; present  64 of 22 bytes, as above        every call on images; senna_take_in writes it
+ *   bytes                    written since                    copies                          read by
+ *   1207 (SENNA_IMAGE_1207)  the first release                64 of 17 bytes, without author  senna_take_in only
+ *   1527 (SENNA_IMAGE_1527)  authors are kept                 64 of 22 bytes                  senna_take_in only
+ *   2935 (SENNA_IMAGE)       there are 128 objects; present   128 of 22 bytes, as above       every call on images; senna_take_in writes it
  *
  * A caller who holds images of an older length gets SENNA_LENGTH from every other call: take them in first.
  */
@@ -341,15 +343,16 @@ uint8_t senna_blank_image(uint8_t *image, size_t length);
 
 /*
  * Takes an image of an older length in: writes it as an image of the present length. Each copy and each owner stays as it was; what the older format
- * does not have is added. From SENNA_IMAGE_1207: the author is SENNA_UNKNOWN where the version is above 0, until the next commit of that object
- * writes the copy, and SENNA_NOBODY at version 0.
+ * does not have is added. From both older lengths: objects 64 to 127 are as in a blank image. From SENNA_IMAGE_1527: each author stays as it was.
+ * From SENNA_IMAGE_1207: the author is SENNA_UNKNOWN where the version is above 0, until the next commit of that object writes the copy, and
+ * SENNA_NOBODY at version 0.
  *
  * A program calls it once after an update, on each node's kept image, before any other call on it. It then keeps the new bytes in place of the old
  * ones. Records and settings stay as they are. A station's nodes are taken in together, and with the station at rest, that is with every record idle,
  * where what was booked before and what is booked after shall count as one running.
  *
  * old         the older image; only read
- * old_length  the bytes at old, SENNA_IMAGE_1207
+ * old_length  the bytes at old, SENNA_IMAGE_1207 or SENNA_IMAGE_1527
  * image       where the image goes; whatever stood there before is lost
  * length      the bytes at image, SENNA_IMAGE
  *
@@ -373,7 +376,7 @@ typedef struct senna_author {
  * length  the bytes at image
  * object  the object
  *
- * Numbers, the lowest that fits: SENNA_LENGTH (length is not SENNA_IMAGE), SENNA_DAMAGED, SENNA_NO_SUCH_OBJECT (object above 63).
+ * Numbers, the lowest that fits: SENNA_LENGTH (length is not SENNA_IMAGE), SENNA_DAMAGED, SENNA_NO_SUCH_OBJECT (object above 127).
  * Only reads the bytes at image; no heap; re-entrant.
  */
 senna_author senna_image_author(const uint8_t *image, size_t length, uint8_t object);
@@ -534,7 +537,7 @@ uint8_t senna_blank_record(uint8_t *record, size_t length);
  *   0            1      n: how many bounds, 0 to SENNA_BOUNDS_MAX
  *   1 + 2i       2      bound i, counted from 0: 1 to 1,999 tenths, each above the one before
  *   1 + 2n       1      k: how many classes, n + 1
- *   2 + 2n + j   1      the object of class j, counted from 0: 0 to 63, none twice
+ *   2 + 2n + j   1      the object of class j, counted from 0: 0 to 127, none twice
  * and no byte more: the table has 2 + 2n + k bytes, at most SENNA_CLASS_TABLE_MAX. Class 0 has the weights below bound 0, class j those from bound j - 1
  * on and below bound j, the last one all from the last bound on. Below 53.0 g to object 10, from 53.0 g to object 11, is the bytes
  *   1, 0x12, 0x02, 2, 10, 11
@@ -561,7 +564,7 @@ uint8_t senna_blank_record(uint8_t *record, size_t length);
  *   SENNA_DAMAGED        record, settings            record, settings                       record, settings
  *   SENNA_GARBLED        -                           a weight, too many, the minute         -
  *   SENNA_STRANGER       me                          me, live                               me
- *   SENNA_NO_SUCH_OBJECT an object above 63          -                                      -
+ *   SENNA_NO_SUCH_OBJECT an object above 127         -                                      -
  *   SENNA_BUSY           not idle                    not idle: before SENNA_OUT_OF_TURN     -
  *   SENNA_OUT_OF_TURN    -                           no table, the timestamp                not open
  *   SENNA_NOT_READY      -                           -                                      a value is not found yet: before SENNA_NO_QUORUM
@@ -618,7 +621,7 @@ uint8_t senna_load_hours(uint8_t *settings, size_t length, const uint8_t *list, 
  * size             the bytes at list
  *
  * Numbers, in this order: SENNA_LENGTH (of the record or the settings, or size is another than the table's two counts say, also 0), SENNA_DAMAGED (the
- * record or the settings), SENNA_STRANGER (me above 12), SENNA_NO_SUCH_OBJECT (an object above 63), SENNA_BUSY (the phase is not SENNA_IDLE: load after
+ * record or the settings), SENNA_STRANGER (me above 12), SENNA_NO_SUCH_OBJECT (an object above 127), SENNA_BUSY (the phase is not SENNA_IDLE: load after
  * the last done), SENNA_BOUNDS (bounds that do not rise strictly, one that is 0 or above 1,999, more than SENNA_BOUNDS_MAX, or not one fewer than the
  * objects), SENNA_TALLY_TWICE (an object twice).
  * Otherwise senna_check_settings answers 0 for the settings after. Only writes to settings, which must not overlap the others; no heap; re-entrant.
@@ -692,7 +695,7 @@ senna_called senna_coordinator_reselect(uint8_t *record, size_t length, uint8_t 
 
 /*
  * Opens an object, to read it or to write it; the present read quorum is contacted. The settings are only read. Answers 0.
- * Numbers: SENNA_OUT_OF_TURN (not SENNA_OPEN, or the transaction is a batch, which has its objects), SENNA_NO_SUCH_OBJECT (above 63, or opened
+ * Numbers: SENNA_OUT_OF_TURN (not SENNA_OPEN, or the transaction is a batch, which has its objects), SENNA_NO_SUCH_OBJECT (above 127, or opened
  * already), SENNA_EIGHT_OPEN.
  */
 senna_called senna_coordinator_open_read(uint8_t *record, size_t length, const uint8_t *settings, size_t settings_length, uint8_t me, uint8_t object);
@@ -760,7 +763,7 @@ senna_called senna_coordinator_receive(uint8_t *record, size_t length, uint8_t m
  * size    the bytes at out, at least SENNA_MESSAGE_MAX
  *
  * Numbers: SENNA_LENGTH (of either), SENNA_DAMAGED, SENNA_STRANGER (me or node above 12), SENNA_NO_SUCH_OBJECT (while SENNA_OPEN: above
- * 63, or not opened), SENNA_GARBLED (a record that no run from blank has: its message would not be well formed).
+ * 127, or not opened), SENNA_GARBLED (a record that no run from blank has: its message would not be well formed).
  */
 senna_written senna_coordinator_due(const uint8_t *record, size_t length, uint8_t me, uint8_t node, uint8_t object, uint8_t *out,
                                     size_t size);
@@ -866,7 +869,7 @@ senna_called senna_station_load_classes(const uint8_t *records, size_t records_l
  * Sends what is due from a node to a node, and while SENNA_OPEN for an object: what senna_coordinator_due would write goes to the pool's end.
  * Nothing due: SENNA_OK, and nothing is sent. Only the pool changes. Answers 0.
  *
- * Numbers: SENNA_STRANGER (node or to above 12), SENNA_OUT_OF_TURN (the node is off), SENNA_NO_SUCH_OBJECT (while SENNA_OPEN: above 63, or not
+ * Numbers: SENNA_STRANGER (node or to above 12), SENNA_OUT_OF_TURN (the node is off), SENNA_NO_SUCH_OBJECT (while SENNA_OPEN: above 127, or not
  * opened), SENNA_GARBLED (a record that no step leaves, whose message would not be well formed), SENNA_POOL_FULL (SENNA_WAITING messages wait
  * already, also where nothing is due).
  */

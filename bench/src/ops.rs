@@ -123,7 +123,8 @@ fn replicas(list: &mut Vec<Op>) {
     op!(list, "image", "check", scenes::stage(Scene::Held), |s| L::check_image(&s.image));
     op!(list, "image", "blank", scenes::stage(Scene::Held), |s| L::blank_image(&mut s.image));
     op!(list, "image", "author", scenes::stage(Scene::Held), |s| L::image_author(&s.image, black_box(5)));
-    op!(list, "image", "take in", scenes::with_message(scenes::older_image()), |s| L::take_in(&mut s.image, &s.message));
+    op!(list, "image", "take in", scenes::with_message(scenes::older_image(17)), |s| L::take_in(&mut s.image, &s.message));
+    op!(list, "image", "take in, with authors", scenes::with_message(scenes::older_image(22)), |s| L::take_in(&mut s.image, &s.message));
     for (name, stage) in scenes::replica() {
         op!(list, "replica receive", name, stage, |s| L::replica_receive(&mut s.image, black_box(1), &s.message, &mut s.out));
     }
@@ -173,7 +174,7 @@ fn coordinators(list: &mut Vec<Op>) {
     batches(list);
     op!(list, group, "open read", stage(Scene::Begun), |s| L::open_read(&mut s.record, &s.settings, OWNER, black_box(5)));
     op!(list, group, "open write", stage(Scene::Begun), |s| L::open_write(&mut s.record, &s.settings, OWNER, black_box(5)));
-    op!(list, group, "open the 8th", stage(Scene::Open7), |s| L::open_write(&mut s.record, &s.settings, OWNER, black_box(63)));
+    op!(list, group, "open the 8th", stage(Scene::Open7), |s| L::open_write(&mut s.record, &s.settings, OWNER, black_box(127)));
     op!(list, group, "set value", stage(Scene::Open), |s| L::set_value(&mut s.record, &s.settings, OWNER, black_box(0), 42));
     op!(list, group, "found", stage(Scene::Ready), |s| L::found(&mut s.record, OWNER, black_box(0)));
     op!(list, group, "reselect", stage(Scene::Open), |s| L::reselect(&mut s.record, OWNER, black_box(ALL & !2), &s.distances));

@@ -1,7 +1,7 @@
 //! The buffers that operations start from: moments of a transaction of node 4 at a station with all nodes on, after one that committed.
 
 use crate::fast::Fast;
-use crate::library::{BeginWith, Entries, Entry, Library, Serials, Transaction, ALL, MESSAGE_MAX, NODES, SETTINGS};
+use crate::library::{BeginWith, Entries, Entry, Library, Serials, Transaction, ALL, MESSAGE_MAX, NODES, OBJECTS, OLDER_OBJECTS, SETTINGS};
 use crate::stage::Stage;
 use crate::station::{longest_batch, longest_table, Station, Step, LONGEST_CLASSES};
 use crate::transaction::{self, nodes, DISTANCES_USED, OWNER, PARTICIPANTS};
@@ -133,14 +133,14 @@ pub fn batch_ready() -> Stage {
     stage
 }
 
-/// An image of the first release in which every object has been written: copies of 17 bytes, without authors.
-pub fn older_image() -> Vec<u8> {
+/// An image of an older release in which every object has been written: copies of 17 bytes, without authors, or of 22.
+pub fn older_image(width: usize) -> Vec<u8> {
     let image = stage(Scene::Held).image;
-    let (copies, owners) = image.split_at(1 + 22 * 64);
-    let mut old = copies[..1].to_vec();
-    for copy in copies[1..].chunks(22) {
-        old.extend(&copy[..17]);
-        let version = old.len() - 9;
+    let (copies, owners) = image.split_at(1 + 22 * OBJECTS);
+    let mut old = vec![OLDER_OBJECTS as u8];
+    for copy in copies[1..].chunks(22).take(OLDER_OBJECTS) {
+        let version = old.len() + 8;
+        old.extend(&copy[..width]);
         old[version] = 1;
     }
     old.extend(owners);

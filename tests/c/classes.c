@@ -209,7 +209,7 @@ static void on_a_batch(void)
     check(load(ME, one, sizeof one) == SENNA_OK && batch(1, first, sizeof first) == SENNA_OK, "a batch");
     remember();
     check(told(senna_coordinator_open_read(record, sizeof record, settings, sizeof settings, ME, 8)) == SENNA_OUT_OF_TURN, "an open to read");
-    check(told(senna_coordinator_open_write(record, sizeof record, settings, sizeof settings, ME, 64)) == SENNA_OUT_OF_TURN, "an open to write");
+    check(told(senna_coordinator_open_write(record, sizeof record, settings, sizeof settings, ME, 128)) == SENNA_OUT_OF_TURN, "an open to write");
     check(told(senna_coordinator_set_value(record, sizeof record, settings, sizeof settings, ME, 7, 1)) == SENNA_OUT_OF_TURN, "a value");
     check(told(senna_coordinator_set_value(record, sizeof record, settings, sizeof settings, 13, 7, 1)) == SENNA_STRANGER, "4 comes before 5");
     copy(7, UINT32_MAX, INT64_MAX);
@@ -234,14 +234,14 @@ static void on_a_batch(void)
 static void bad_lists(void)
 {
     static uint8_t list[2 + 2 * (SENNA_WEIGHTS_MAX + 1)];
-    static const uint8_t strange[] = {0, 1, 64}, twice[] = {1, 9, 0, 2, 5, 5}, both[] = {1, 0, 0, 2, 5, 5}, falls[] = {2, 9, 0, 8, 0, 3, 5, 6, 7};
-    static const uint8_t high[] = {1, 0xd0, 0x07, 2, 5, 6}, heavy[] = {1, 0, 0xd0, 0x07}, all_of_it[] = {1, 0xcf, 0x07, 2, 0, 63};
+    static const uint8_t strange[] = {0, 1, 128}, twice[] = {1, 9, 0, 2, 5, 5}, both[] = {1, 0, 0, 2, 5, 5}, falls[] = {2, 9, 0, 8, 0, 3, 5, 6, 7};
+    static const uint8_t high[] = {1, 0xd0, 0x07, 2, 5, 6}, heavy[] = {1, 0, 0xd0, 0x07}, all_of_it[] = {1, 0xcf, 0x07, 2, 0, 127};
     uint8_t eight[2 + 2 * 8 + 9];
     unsigned i;
     blank();
     check(load(ME, one, sizeof one) == SENNA_OK, "a table");
     check(load(ME, one, 0) == SENNA_LENGTH && load(ME, one, 2) == SENNA_LENGTH && load(13, two, sizeof two - 1) == SENNA_LENGTH, "a table cut short");
-    check(load(13, strange, sizeof strange) == SENNA_STRANGER && load(ME, strange, sizeof strange) == SENNA_NO_SUCH_OBJECT, "object 64; 4 before 6");
+    check(load(13, strange, sizeof strange) == SENNA_STRANGER && load(ME, strange, sizeof strange) == SENNA_NO_SUCH_OBJECT, "object 128; 4 before 6");
     check(load(ME, twice, sizeof twice) == SENNA_TALLY_TWICE && load(ME, both, sizeof both) == SENNA_BOUNDS, "an object twice; 14 before 15");
     check(load(ME, falls, sizeof falls) == SENNA_BOUNDS && load(ME, high, sizeof high) == SENNA_BOUNDS, "bounds that fall, and one of 2,000");
     check(load(ME, never, sizeof never) == SENNA_BOUNDS && load(ME, all_of_it, sizeof all_of_it) == SENNA_OK, "no class at all; the highest bound");
@@ -268,7 +268,7 @@ static void damaged_settings(void)
 {
     static const struct {
         unsigned place, value;
-    } damages[] = {{CLASSES_AT, 8}, {CLASSES_AT + 3, 1}, {CLASSES_AT + 2, 0x08}, {CLASSES_AT + 4, 64}, {CLASSES_AT + 5, 10}, {KIND_AT, 2},
+    } damages[] = {{CLASSES_AT, 8}, {CLASSES_AT + 3, 1}, {CLASSES_AT + 2, 0x08}, {CLASSES_AT + 4, 128}, {CLASSES_AT + 5, 10}, {KIND_AT, 2},
                    {WAITED_AT, 10}, {WAITED_AT + 7, 255}, {LEFT_AT, 10}, {LEFT_AT + 7, 10}};
     unsigned i;
     for (i = 0; i < sizeof damages / sizeof damages[0]; i++) {

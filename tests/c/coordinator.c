@@ -9,7 +9,7 @@ static_assert(sizeof(senna_value) == 16 && offsetof(senna_value, value) == 8, "t
 static_assert(SENNA_RECORD == 12 + 2 * SENNA_NODES + 5 + 25 * SENNA_ENTRIES + 6 + 4 * SENNA_NODES, "the sizes agree");
 
 /* The participants are chosen by node 3: 0, 1, 4, 5, itself, 10 and 11. */
-enum { ME = 3, OBJECT = 40, OTHER = 7, PARTY = 3131, LAST = 11 };
+enum { ME = 3, OBJECT = 127, OTHER = 7, PARTY = 3131, LAST = 11 };
 
 static uint8_t record[SENNA_RECORD];
 static uint8_t before[SENNA_RECORD];
@@ -66,6 +66,9 @@ static void one_transaction(void)
     taken(senna_coordinator_open_write(record, sizeof record, settings, sizeof settings, ME, OBJECT), 0, "open to write");
     taken(senna_coordinator_open_read(record, sizeof record, settings, sizeof settings, ME, OTHER), 0, "open to read");
     refused(senna_coordinator_open_read(record, sizeof record, settings, sizeof settings, ME, OBJECT), SENNA_NO_SUCH_OBJECT, "opened twice");
+    refused(senna_coordinator_open_read(record, sizeof record, settings, sizeof settings, ME, 128), SENNA_NO_SUCH_OBJECT, "object 128 to read");
+    refused(senna_coordinator_open_write(record, sizeof record, settings, sizeof settings, ME, 255), SENNA_NO_SUCH_OBJECT, "object 255 to write");
+    refused(senna_coordinator_set_value(record, sizeof record, settings, sizeof settings, ME, 128, 1), SENNA_NO_SUCH_OBJECT, "a value of object 128");
     refused(senna_coordinator_set_value(record, sizeof record, settings, sizeof settings, ME, OTHER, 1), SENNA_NO_SUCH_OBJECT, "a value set on a read");
     taken(senna_coordinator_set_value(record, sizeof record, settings, sizeof settings, ME, OBJECT, -6), 0, "a new value");
     check(senna_coordinator_count(record, sizeof record) == 2, "two objects");

@@ -12,7 +12,7 @@ static_assert(sizeof(senna_entries) == 136 && offsetof(senna_entries, count) == 
 static_assert(sizeof(senna_serials) == 52, "the layout that the library takes");
 static_assert(sizeof(senna_written) == 2 && offsetof(senna_written, length) == 1, "the layout that the library returns");
 static_assert(SENNA_MESSAGE_MIN == 12 + 3 && SENNA_MESSAGE_MAX == 12 + 3 + 14 * SENNA_ENTRIES + 1, "the sizes agree");
-static_assert(SENNA_IMAGE == 1 + 22 * SENNA_OBJECTS + 1 + 9 * SENNA_NODES, "the sizes agree");
+static_assert(SENNA_OBJECTS == 128 && SENNA_IMAGE == 2935 && SENNA_IMAGE == 1 + 22 * SENNA_OBJECTS + 1 + 9 * SENNA_NODES, "the sizes agree");
 
 static void check_number(unsigned got, unsigned number, const char *what)
 {
@@ -94,7 +94,7 @@ static void check_damaged(const uint8_t *message, size_t length, size_t place, u
 static void check_kinds(void)
 {
     static const uint8_t fetch[] = {1, 4, 7, 4, 0x44, 0x33, 0x22, 0x11, 0x88, 0x77, 0x66, 0x55, 1,
-                                    63, 1, 0, 0, 0, 0, 0, 0, 0, 0, 0, 0, 0, 0, 0, 0};
+                                    127, 1, 0, 0, 0, 0, 0, 0, 0, 0, 0, 0, 0, 0, 0, 0};
     static const uint8_t copy[] = {2, 9, 0, 0, 1, 0, 0, 0, 2, 0, 0, 0, 1, 5, 0, 4, 3, 2, 1, 0xfe, 255, 255, 255, 255, 255, 255, 255, 0, 0};
     static const uint8_t ask[] = {3, 3, 8, 3, 7, 0, 0, 0, 6, 0, 0, 0, 2,
                                   10, 0, 255, 255, 255, 255, 0, 0, 0, 0, 0, 0, 0, 0,
@@ -110,11 +110,12 @@ static void check_kinds(void)
     senna_written got;
 
     memset(out, FILL, sizeof out);
-    got = senna_write_fetch(out, sizeof out, 7, 4, 0x11223344, 0x55667788, 63, 1);
+    got = senna_write_fetch(out, sizeof out, 7, 4, 0x11223344, 0x55667788, 127, 1);
     check_written(got, out, fetch, sizeof fetch, "a fetch");
     check_damaged(out, got.length, 15, 1, "a fetch whose version is not 0");
     check_damaged(out, got.length, 19, 1, "a fetch whose value is not 0");
-    check_damaged(out, got.length, 13, 64, "object 64");
+    check_damaged(out, got.length, 13, 128, "object 128");
+    check_damaged(out, got.length, 13, 255, "object 255");
     check_damaged(out, got.length, 14, 2, "mode 2");
     check_damaged(out, got.length, 1, 5, "a fetch that is not from the owner");
     check_damaged(out, got.length, 2, 13, "a fetch to node 13");
@@ -263,13 +264,13 @@ static void check_refusals(void)
     check_refused(senna_write_fetch(out, SIZE, 1, 13, 3, 4, 5, 1), out, SENNA_GARBLED, "a fetch of owner 13");
     check_refused(senna_write_fetch(out, SIZE, 1, 2, 0, 4, 5, 1), out, SENNA_GARBLED, "a fetch of serial 0");
     check_refused(senna_write_fetch(out, SIZE, 1, 2, 3, 0, 5, 1), out, SENNA_GARBLED, "a fetch of stamp 0");
-    check_refused(senna_write_fetch(out, SIZE, 1, 2, 3, 4, 64, 1), out, SENNA_GARBLED, "a fetch of object 64");
+    check_refused(senna_write_fetch(out, SIZE, 1, 2, 3, 4, 128, 1), out, SENNA_GARBLED, "a fetch of object 128");
     check_refused(senna_write_fetch(out, SIZE, 1, 2, 3, 4, 5, 2), out, SENNA_GARBLED, "a fetch of mode 2");
-    check_refused(senna_write_copy(out, SIZE, 1, 2, 3, 4, entry(64, 1, 1, 1)), out, SENNA_GARBLED, "a copy of object 64");
+    check_refused(senna_write_copy(out, SIZE, 1, 2, 3, 4, entry(128, 1, 1, 1)), out, SENNA_GARBLED, "a copy of object 128");
     check_refused(senna_write_copy(out, SIZE, 1, 2, 3, 4, entry(1, 2, 1, 1)), out, SENNA_GARBLED, "a copy of mode 2");
     check_refused(senna_write_copy(out, SIZE, 13, 2, 3, 4, entry(1, 1, 1, 1)), out, SENNA_GARBLED, "a copy from node 13");
     check_refused(senna_write_ask(out, SIZE, 1, 2, 3, 4, entries(0, 1)), out, SENNA_GARBLED, "an ask without entries");
-    check_refused(senna_write_ask(out, SIZE, 1, 2, 3, 4, entries(2, 63)), out, SENNA_GARBLED, "an ask with object 64");
+    check_refused(senna_write_ask(out, SIZE, 1, 2, 3, 4, entries(2, 127)), out, SENNA_GARBLED, "an ask with object 128");
     list = entries(3, 1);
     list.entry[2].object = 2;
     check_refused(senna_write_ask(out, SIZE, 1, 2, 3, 4, list), out, SENNA_GARBLED, "an ask with an object twice");
@@ -331,7 +332,7 @@ static size_t owner_at(unsigned node)
 
 static void check_images(void)
 {
-    enum { ROOM = 1700 };
+    enum { ROOM = 3100 };
     static uint8_t image[ROOM];
     size_t length;
     unsigned at;
@@ -347,7 +348,7 @@ static void check_images(void)
     check(filled(image + SENNA_IMAGE, ROOM - SENNA_IMAGE), "a blank image alters nothing behind it");
     for (all = 1, at = 0; at < SENNA_IMAGE; at++) {
         unsigned place = at >= 1 && at < owner_at(0) - 1 ? (at - 1) % 22 : 0; /* in a copy: 12 the holder, 17 the author's owner */
-        unsigned expected = at == 0 ? 64 : at == owner_at(0) - 1 ? 13 : place == 12 || place == 17 ? SENNA_NOBODY : 0;
+        unsigned expected = at == 0 ? 128 : at == owner_at(0) - 1 ? 13 : place == 12 || place == 17 ? SENNA_NOBODY : 0;
         all &= image[at] == expected;
     }
     check(all, "each byte of the blank image");
@@ -356,19 +357,20 @@ static void check_images(void)
     }
     check(all, "a blank image of every length");
 
-    /* Owner 3 held with object 63, owner 12 listed with object 0, owner 5 refused. */
+    /* Owner 3 held with object 127, owner 12 listed with object 0, owner 5 refused. */
     image[owner_at(3)] = image[owner_at(3) + 5] = 1;
     image[owner_at(3) + 4] = 2;
     image[owner_at(12)] = image[owner_at(12) + 8] = 1;
     image[owner_at(12) + 4] = 1;
     image[owner_at(5) + 3] = image[owner_at(5) + 5] = 255;
     image[owner_at(5) + 4] = 3;
-    image[copy_at(63) + 12] = 3;
+    image[copy_at(127) + 12] = 3;
     image[copy_at(0) + 14] = image[copy_at(0) + 16] = 16;
     check_number(senna_check_image(image, SENNA_IMAGE), SENNA_OK, "an image with a holder, a listed and a refused owner");
     check_changed(image, copy_at(7), 200, SENNA_OK, "any value");
     check_changed(image, copy_at(7) + 11, 200, SENNA_OK, "any version");
-    check_changed(image, 0, 63, SENNA_DAMAGED, "count 63");
+    check_changed(image, 0, 127, SENNA_DAMAGED, "count 127");
+    check_changed(image, 0, 64, SENNA_DAMAGED, "the count of an older image");
     check_changed(image, owner_at(0) - 1, 14, SENNA_DAMAGED, "count 14");
     check_changed(image, copy_at(7) + 12, 3, SENNA_OK, "a second copy held by owner 3");
     check_changed(image, copy_at(7) + 12, 13, SENNA_DAMAGED, "holder 13");
@@ -411,7 +413,7 @@ static void check_touches(void)
     uint8_t *middle, *end;
     senna_written first, last;
     size_t length;
-    int all = 1;
+    int all = 1, last_of_page;
     if (pages == (uint8_t *)MAP_FAILED) {
         check(0, "three pages of memory");
         return;
@@ -449,12 +451,13 @@ static void check_touches(void)
     }
     check(all, "messages and images too short at the end of a page that may only be read");
 
-    check(mprotect(middle, page, PROT_READ | PROT_WRITE) == 0, "the page may be written");
-    check_number(senna_blank_image(middle, SENNA_IMAGE), SENNA_OK, "a blank image at the start of a page");
-    check_number(senna_blank_image(end - SENNA_IMAGE, SENNA_IMAGE), SENNA_OK, "a blank image at the end of a page");
-    check(mprotect(middle, page, PROT_READ) == 0, "the page may only be read");
-    check_number(senna_check_image(middle, SENNA_IMAGE), SENNA_OK, "an image at the start of a page");
-    check_number(senna_check_image(end - SENNA_IMAGE, SENNA_IMAGE), SENNA_OK, "an image at the end of a page");
+    for (last_of_page = 0; last_of_page < 2; last_of_page++) {
+        uint8_t *at = last_of_page ? end - SENNA_IMAGE : middle;
+        check(mprotect(middle, page, PROT_READ | PROT_WRITE) == 0, "the page may be written");
+        check_number(senna_blank_image(at, SENNA_IMAGE), SENNA_OK, "a blank image at the start of a page, and at its end");
+        check(mprotect(middle, page, PROT_READ) == 0, "the page may only be read");
+        check_number(senna_check_image(at, SENNA_IMAGE), SENNA_OK, "an image at the start of a page, and at its end");
+    }
     munmap(pages, 3 * page);
 }
 

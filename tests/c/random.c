@@ -37,7 +37,7 @@ static const char *const names[] = {FUNCTIONS(NAMED)};
 
 #define USUAL 200000ul /* calls */
 
-enum { LENDERS = 5, ROOM = 20480, PAGE = 4096, GUARD = 64, RECENT = 16, LAST_NUMBER = SENNA_TALLY_TWICE };
+enum { LENDERS = 5, ROOM = 40960, PAGE = 4096, GUARD = 64, RECENT = 16, LAST_NUMBER = SENNA_TALLY_TWICE };
 
 /* A lent buffer: where it stands, what stood there before the call, and where its bytes came from, if the call is clean. */
 typedef struct lent {
@@ -64,6 +64,7 @@ static uint32_t timestamps;
 
 static unsigned current;
 static int clean;
+static unsigned long taken_from[2];   /* older images taken in: of the first release, and of those with authors */
 static unsigned long written_by[256]; /* copies by the owner of their author, as the library told it */
 static unsigned long accepted_of[COUNT], faults_of[COUNT], numbers_of[COUNT][LAST_NUMBER + 1], brought[SENNA_FINISHED + 1], given_up;
 
@@ -98,7 +99,8 @@ static void scatter(uint8_t *at, size_t length)
     }
 }
 
-/* A node, mostly one of three; an object, mostly one of four; a mask, mostly of all nodes, seldom of one. */
+/* A node, mostly one of three; an object, mostly one of four, seldom at an end of the objects that there are or were; a mask, mostly of all nodes, seldom
+   of one. */
 static uint8_t node(void)
 {
     static const uint8_t busy[] = {0, 5, 8};
@@ -108,7 +110,9 @@ static uint8_t node(void)
 
 static uint8_t object(void)
 {
-    return below(12) == 0 ? byte() : (uint8_t)below(4);
+    static const uint8_t ends[] = {63, 64, SENNA_OBJECTS - 1, SENNA_OBJECTS, 255};
+    unsigned kind = below(36);
+    return kind < 2 ? byte() : kind == 2 ? ends[below(5)] : (uint8_t)below(4);
 }
 
 static uint16_t mask(void)
@@ -306,7 +310,7 @@ static lent *lend_classes(void)
     }
     switch (below(8)) {
     case 0: list[below(size)] = byte(); break;
-    case 1: list[size - 1] = (uint8_t)(count == 0 ? 64 : 0); break; /* an object twice, or none */
+    case 1: list[size - 1] = (uint8_t)(count == 0 ? SENNA_OBJECTS - below(2) : 0); break; /* an object twice, the last one, or none */
     case 2: list[1] = 0, list[2] = below(2) ? 0 : list[2]; break;
     default: break;
     }
@@ -513,7 +517,7 @@ static senna_entries some_entries(void)
     for (i = 0; i < SENNA_ENTRIES; i++) {
         e.entry[i] = an_entry();
         if (below(24) != 0) {
-            e.entry[i].object = (uint8_t)(8 * i + below(8));
+            e.entry[i].object = (uint8_t)(16 * i + below(16));
             e.entry[i].mode = (uint8_t)below(2);
             e.entry[i].value = e.entry[i].mode == SENNA_READ ? 0 : e.entry[i].value;
         }
@@ -557,31 +561,47 @@ static void call_check(void)
     }
 }
 
-/* An image as the first release had it: copies of 17 bytes, without their authors. */
-static void make_older(uint8_t *old, const uint8_t *image)
+enum { OLDER_OBJECTS = 64 };
+
+/* An image as an older release had it: half of the copies, of 17 bytes, without their authors, or of 22. Answers its length. */
+static size_t make_older(uint8_t *old, const uint8_t *image, unsigned width)
 {
     unsigned t;
-    old[0] = image[0];
-    for (t = 0; t < SENNA_OBJECTS; t++) {
-        memcpy(old + 1 + 17 * t, image + 1 + 22 * t, 17);
+    old[0] = image[0] == SENNA_OBJECTS ? OLDER_OBJECTS : image[0];
+    for (t = 0; t < OLDER_OBJECTS; t++) {
+        memcpy(old + 1 + width * t, image + 1 + 22 * t, width);
     }
-    memcpy(old + 1 + 17 * SENNA_OBJECTS, image + 1 + 22 * SENNA_OBJECTS, 1 + 9 * SENNA_NODES);
+    memcpy(old + 1 + width * OLDER_OBJECTS, image + 1 + 22 * SENNA_OBJECTS, 1 + 9 * SENNA_NODES);
+    return width == 22 ? SENNA_IMAGE_1527 : SENNA_IMAGE_1207;
 }
 
-/* An older image taken in is an image, which is the older one with authors. It is taken home, now and then: who wrote last is then unknown. */
+/* Whether the objects that an older image does not have are blank. */
+static int rest_is_blank(const uint8_t *image)
+{
+    unsigned at, place;
+    int all = 1;
+    for (at = 22 * OLDER_OBJECTS; at < 22 * SENNA_OBJECTS; at++) {
+        place = at % 22; /* in a copy: 12 the holder, 17 the author's owner */
+        all &= image[1 + at] == (place == 12 || place == 17 ? SENNA_NOBODY : 0);
+    }
+    return all;
+}
+
+/* An older image taken in is an image, which is the older one with more objects, and with authors. It is taken home, now and then, where nothing is lost
+   by it: who wrote last is then unknown. */
 static void call_take_in(uint8_t *node_image)
 {
-    uint8_t right[SENNA_IMAGE_1207], again[SENNA_IMAGE_1207];
-    lent *old, *l;
-    unsigned number;
-    make_older(right, node_image);
-    old = lend_read(right, sizeof right);
-    l = lend(node_image, SENNA_IMAGE, below(8) == 0 ? node_image : NULL, 1);
+    uint8_t right[SENNA_IMAGE_1527], again[SENNA_IMAGE_1527];
+    unsigned number, width = below(2) ? 22 : 17;
+    size_t length = make_older(right, node_image, width);
+    lent *old = lend_read(right, length);
+    lent *l = lend(node_image, SENNA_IMAGE, below(8) == 0 && rest_is_blank(node_image) ? node_image : NULL, 1);
     number = senna_take_in(old->at, old->length, l->at, l->length);
     if (number == SENNA_OK) {
-        make_older(again, l->at);
-        must(old->length == sizeof again && memcmp(again, old->at, sizeof again) == 0, "what is taken in is as it was");
+        must(make_older(again, l->at, width) == old->length && memcmp(again, old->at, length) == 0, "what is taken in is as it was");
+        must(l->at[0] == SENNA_OBJECTS && rest_is_blank(l->at), "the other objects are blank");
         must(senna_check_image(l->at, l->length) == SENNA_OK, "what is taken in is an image");
+        taken_from[width == 22]++;
     }
     answered(number);
 }
@@ -1051,6 +1071,7 @@ static void report(unsigned long calls)
         number += written_by[i] > 0;
     }
     check(!enough || (number > 0 && written_by[SENNA_NOBODY] > 0 && written_by[SENNA_UNKNOWN] > 0), "authors of each sort");
+    check(!enough || (taken_from[0] > 0 && taken_from[1] > 0), "images of each older length");
     printf("%lu calls of %d functions, %lu committed, %lu batches given up\n", calls, COUNT, brought[SENNA_COMMITTED], given_up);
 }
 

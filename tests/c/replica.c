@@ -10,7 +10,7 @@ static_assert(sizeof(senna_received) == 2 && offsetof(senna_received, length) ==
 enum { FILL = 0xa5, SIZE = 160 };
 
 /* Where the parts of object 5 and of the owners 4 and 5 stand in an image. */
-enum { OBJECT_5 = 1 + 22 * 5, OWNER_4 = 1410 + 9 * 4, OWNER_5 = 1410 + 9 * 5 };
+enum { OBJECT_5 = 1 + 22 * 5, OWNER_4 = 2818 + 9 * 4, OWNER_5 = 2818 + 9 * 5 };
 
 /* The node under test, its image, what the image should be, and the answer. */
 enum { ME = 7 };
@@ -156,7 +156,8 @@ static void check_refusals(void)
     memset(message, 0, sizeof message);
     memcpy(message, fetch, sizeof fetch);
     refuse(image, SENNA_IMAGE, ME, fetch, sizeof fetch, SENNA_MESSAGE_MAX - 1, SENNA_LENGTH, "a buffer under 128");
-    refuse(image, SENNA_IMAGE - 1, ME, fetch, sizeof fetch, SIZE, SENNA_LENGTH, "an image under 1527");
+    refuse(image, SENNA_IMAGE - 1, ME, fetch, sizeof fetch, SIZE, SENNA_LENGTH, "an image under 2935");
+    refuse(image, SENNA_IMAGE_1527, ME, fetch, sizeof fetch, SIZE, SENNA_LENGTH, "an image of half the objects");
     refuse(image, SENNA_IMAGE_1207, ME, fetch, sizeof fetch, SIZE, SENNA_LENGTH, "an image of an older length");
     refuse(image, SENNA_IMAGE, ME, message, SENNA_MESSAGE_MIN - 1, SIZE, SENNA_LENGTH, "a message under 15");
     refuse(image, SENNA_IMAGE, ME, message, SENNA_MESSAGE_MAX + 1, SIZE, SENNA_LENGTH, "a message above 128");

@@ -4,7 +4,7 @@
  */
 #include "check.h"
 
-static_assert(SENNA_IMAGES == SENNA_NODES * SENNA_IMAGE && SENNA_RECORDS == SENNA_NODES * SENNA_RECORD, "the sizes agree");
+static_assert(SENNA_IMAGES == 38155 && SENNA_IMAGES == SENNA_NODES * SENNA_IMAGE && SENNA_RECORDS == SENNA_NODES * SENNA_RECORD, "the sizes agree");
 static_assert(SENNA_POOL == 1 + SENNA_WAITING * (1 + SENNA_MESSAGE_MAX) && SENNA_STATION_SETTINGS == SENNA_NODES * SENNA_SETTINGS, "the sizes agree");
 static_assert(sizeof(senna_waiting) == 3 * sizeof(size_t) && offsetof(senna_waiting, place) == sizeof(size_t), "the layout that the library returns");
 
@@ -124,6 +124,23 @@ static void one_booking(void)
     }
 }
 
+/* The last object there is, and the first that there is not. */
+static void last_object(void)
+{
+    taken(begin(2, 20), 1, "a booking at node 2");
+    refused(senna_station_open_write(it.records, sizeof it.records, it.own, sizeof it.own, it.settings, sizeof it.settings, 2, 128),
+            SENNA_NO_SUCH_OBJECT, "object 128 to write");
+    refused(senna_station_open_read(it.records, sizeof it.records, it.own, sizeof it.own, it.settings, sizeof it.settings, 2, 255),
+            SENNA_NO_SUCH_OBJECT, "object 255 to read");
+    taken(senna_station_open_write(it.records, sizeof it.records, it.own, sizeof it.own, it.settings, sizeof it.settings, 2, 127), 0, "object 127 to write");
+    refused(senna_station_set_value(it.records, sizeof it.records, it.own, sizeof it.own, it.settings, sizeof it.settings, 2, 128, 5),
+            SENNA_NO_SUCH_OBJECT, "a value of object 128");
+    taken(senna_station_set_value(it.records, sizeof it.records, it.own, sizeof it.own, it.settings, sizeof it.settings, 2, 127, 5), 0, "of object 127");
+    refused(senna_station_send(it.records, sizeof it.records, it.pool, sizeof it.pool, it.own, sizeof it.own, 2, 0, 128), SENNA_NO_SUCH_OBJECT,
+            "a send of object 128");
+    taken(senna_station_abort(it.records, sizeof it.records, it.own, sizeof it.own, 2), 0, "given up");
+}
+
 /* A node that is off, and the buffers of a step that has nothing to do with them. */
 static void off_and_on(void)
 {
@@ -192,5 +209,6 @@ int main(void)
     one_booking();
     off_and_on();
     bad_buffers();
+    last_object();
     return closing();
 }

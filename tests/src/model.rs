@@ -18,8 +18,8 @@ pub mod script;
 pub mod settings;
 pub mod station;
 
-/// Objects (document 01: tallies) are 0 to 63.
-pub const OBJECTS: usize = 64;
+/// Objects (document 01: tallies) are 0 to 127: "sixty-four tallies are too few; the limit becomes 128". The model has the limit here alone.
+pub const OBJECTS: usize = 128;
 
 /// The numbers with which a call refuses. They are tried in the order in which a call lists them, mostly the lowest first.
 pub mod number {

@@ -3,7 +3,7 @@
 
 use super::{same, Counts, Verdict};
 use crate::fast::Fast;
-use crate::library::{Entries, Entry, Library, Serials, Transaction, Written, IMAGE, OLDER_IMAGE};
+use crate::library::{Entries, Entry, Library, Serials, Transaction, Written, IMAGE, OBJECTS as COUNT, OLDER_IMAGES, OLDER_OBJECTS};
 use crate::product::Product;
 use crate::random::Random;
 use crate::station::Station;
@@ -16,7 +16,7 @@ const RIVALS: usize = 249;
 /// An image's copies, and its owners.
 const COPIES: usize = 1;
 const COPY: usize = 22;
-const OWNERS: usize = COPIES + COPY * 64 + 1;
+const OWNERS: usize = COPIES + COPY * COUNT + 1;
 
 fn number(bytes: &[u8], place: usize) -> u32 {
     u32::from_le_bytes([bytes[place], bytes[place + 1], bytes[place + 2], bytes[place + 3]])
@@ -33,7 +33,7 @@ fn tweak_record(random: &mut Random, record: &mut [u8]) {
         3 => (record[mask], record[mask + 1]) = (record[other], record[other + 1]),
         4 => record[mask + random.below(2)] ^= 1 << random.below(8),
         5 => record[RIVALS + 4 * random.below(13)] = random.below(4) as u8,
-        6 => record[object + random.below(3)] ^= 1 << random.below(6),
+        6 => record[object + random.below(3)] ^= 1 << random.below(8),
         7 => record[object + [4, 8, 16, 17][random.below(4)]] ^= 1,
         8 => record[object + 4..object + 8].fill(255),
         _ => record[12 + random.below(26)] = random.byte(),
@@ -42,7 +42,7 @@ fn tweak_record(random: &mut Random, record: &mut [u8]) {
 
 /// One field of an image becomes another that could be meant.
 fn tweak_image(random: &mut Random, image: &mut [u8]) {
-    let (copy, owner) = (COPIES + COPY * random.below(64), OWNERS + 9 * random.below(13));
+    let (copy, owner) = (COPIES + COPY * random.below(COUNT), OWNERS + 9 * random.below(13));
     match random.below(8) {
         0 => image[owner + 4] = random.below(5) as u8,
         1 => image[owner] ^= 1,
@@ -104,7 +104,7 @@ fn order_to(random: &mut Random, image: &[u8], me: u8) -> Vec<u8> {
     let mut object = random.below(6) as u8;
     let mut entry = |random: &mut Random| {
         let mode = random.below(2) as u8;
-        let version = number(image, COPIES + COPY * usize::from(object & 63) + 8);
+        let version = number(image, COPIES + COPY * usize::from(object & 127) + 8);
         let version = if random.once_in(4) { version ^ 1 } else { version };
         let entry = Entry { object, mode, version, value: if mode == 0 { 0 } else { random.next() as i64 } };
         object += 1 + random.below(6) as u8;
@@ -151,19 +151,20 @@ pub fn at_coordinator(random: &mut Random, station: &Station, counts: &mut Count
     Ok(())
 }
 
-/// An image without its authors, as an older one was, with a length now and then that is another.
+/// An image as an older one was, with half of its objects, and the oldest without their authors; now and then with another length.
 fn older(random: &mut Random, image: &[u8]) -> Vec<u8> {
-    let mut old = image[..1].to_vec();
-    image[COPIES..OWNERS - 1].chunks(COPY).for_each(|copy| old.extend(&copy[..17]));
+    let (length, width) = *random.pick(&[(OLDER_IMAGES[0], 17), (OLDER_IMAGES[1], COPY)]);
+    let mut old = vec![if image[0] == COUNT as u8 { OLDER_OBJECTS as u8 } else { image[0] }];
+    image[COPIES..OWNERS - 1].chunks(COPY).take(OLDER_OBJECTS).for_each(|copy| old.extend(&copy[..width]));
     old.extend(&image[OWNERS - 1..]);
-    old.resize(random.mostly(OLDER_IMAGE, OLDER_IMAGE - 1), 0);
+    old.resize(random.mostly(length, length - 1), 0);
     old
 }
 
 /// An older image taken in, to a buffer that now and then has another length.
 fn taking_in(random: &mut Random, image: &[u8]) -> Verdict {
     let old = older(random, image);
-    let size = random.mostly(IMAGE, OLDER_IMAGE);
+    let size = random.mostly(IMAGE, OLDER_IMAGES[1]);
     let (mut one, mut other) = (vec![7; size], vec![7; size]);
     same("take_in", Product::take_in(&mut one, &old), Fast::take_in(&mut other, &old))?;
     same("take_in: bytes", one, other)

@@ -54,8 +54,8 @@ impl Table<'_> {
         let first = self.bounds.first().is_none_or(|bound| get_u16(bound, 0) > 0);
         let last = self.bounds.last().is_none_or(|bound| get_u16(bound, 0) < TOO_HEAVY);
         let fit = self.bounds.len() <= 7 && self.bounds.len() + 1 == self.objects.len();
-        let seen = self.objects.iter().fold(0u64, |seen, &object| seen | 1 << (object & 63));
-        if self.objects.iter().any(|&object| object > 63) {
+        let seen = self.objects.iter().fold(0u128, |seen, &object| seen | 1 << (object & 127));
+        if self.objects.iter().any(|&object| object > 127) {
             number::NO_SUCH_OBJECT
         } else if !idle {
             number::BUSY

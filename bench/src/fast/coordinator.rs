@@ -167,7 +167,7 @@ fn contact(record: &mut Record, nodes: u16) {
 #[inline(always)]
 pub fn open(record: &mut Record, me: u8, on: bool, object: u8, mode: u8) -> Answer {
     turn(me, on, record[record::PHASE] == OPEN)?;
-    if object > 63 || record::objects(record).iter().any(|opened| opened[0] == object) {
+    if object > 127 || record::objects(record).iter().any(|opened| opened[0] == object) {
         return Err(number::NO_SUCH_OBJECT);
     }
     let count = usize::from(record[record::COUNT]);

@@ -94,10 +94,10 @@ pub fn write(due: Due, record: &Record, me: u8, node: u8, object: u8, out: &mut 
 #[inline(always)]
 fn put_entries(record: &Record, out: &mut Buffer) -> usize {
     let objects = record::objects(record);
-    let opened = objects.iter().fold(0u64, |opened, object| opened | 1 << (object[0] & 63));
+    let opened = objects.iter().fold(0u128, |opened, object| opened | 1 << (object[0] & 127));
     out[12] = objects.len() as u8;
     for object in objects {
-        let lower = (opened & ((1 << (object[0] & 63)) - 1)).count_ones() as usize;
+        let lower = (opened & ((1 << (object[0] & 127)) - 1)).count_ones() as usize;
         let place = &mut out[ENTRIES + ENTRY * lower..];
         put_entry(place, object[0], object[record::MODE], get_u32(object, record::VERSION), get_u64(object, record::NEW));
     }

@@ -2,17 +2,16 @@
 
 use super::bytes::{get_u16, get_u32, get_u64, put_u32};
 use super::number;
-use crate::library::{Author, IMAGE, NODES, OLDER_IMAGE};
+use crate::library::{Author, IMAGE, NODES, OBJECTS, OLDER_IMAGES, OLDER_OBJECTS};
 
 pub type Image = [u8; IMAGE];
 
 /// Sizes and places: a copy (value 8, version 4, holder 1, readers 2, writers 2, author's owner 1 and serial 4), the owners' count, an owner (serial 4,
-/// state 1, stamp 4). A copy of an older image is without its author.
+/// state 1, stamp 4). A copy of the oldest image is without its author.
 const COPY: usize = 22;
-const OWNER_COUNT: usize = 1 + 64 * COPY;
+const OWNER_COUNT: usize = 1 + OBJECTS * COPY;
 const OWNER: usize = 9;
-const OLDER_COPY: usize = 17;
-const OLDER_OWNER_COUNT: usize = 1 + 64 * OLDER_COPY;
+const OLDEST_COPY: usize = 17;
 pub const NOBODY: u8 = 255;
 const UNKNOWN: u8 = 254;
 
@@ -37,15 +36,15 @@ fn owners(image: &Image) -> &[[u8; OWNER]] {
     image[OWNER_COUNT + 1..].as_chunks().0
 }
 
-/// An object's copy; objects are below 64.
+/// An object's copy; objects are below 128.
 #[inline(always)]
 pub fn copy(image: &Image, object: u8) -> &[u8; COPY] {
-    &copies(image)[usize::from(object & 63)]
+    &copies(image)[usize::from(object & 127)]
 }
 
 #[inline(always)]
 pub fn copy_mut(image: &mut Image, object: u8) -> &mut [u8; COPY] {
-    &mut copies_mut(image)[usize::from(object & 63)]
+    &mut copies_mut(image)[usize::from(object & 127)]
 }
 
 /// A copy's fields.
@@ -180,7 +179,7 @@ fn copies_in_order(image: &Image, listed: u16, held: u16) -> bool {
 /// Whether every rule of the image is kept.
 #[inline(always)]
 pub fn is_valid(image: &Image) -> bool {
-    if image[0] != 64 || image[OWNER_COUNT] != 13 {
+    if image[0] != OBJECTS as u8 || image[OWNER_COUNT] != 13 {
         return false;
     }
     owners_in_order(image).is_some_and(|(listed, held)| copies_in_order(image, listed, held))
@@ -199,7 +198,7 @@ pub fn check(image: &[u8]) -> u8 {
 /// Writes a blank image over an image's bytes.
 pub fn make_blank(image: &mut Image) {
     image.fill(0);
-    image[0] = 64;
+    image[0] = OBJECTS as u8;
     image[OWNER_COUNT] = 13;
     for copy in copies_mut(image) {
         (copy[HOLDER], copy[AUTHOR]) = (NOBODY, NOBODY);
@@ -212,24 +211,31 @@ pub fn blank(image: &mut [u8]) -> u8 {
     0
 }
 
-/// An older image as one of the present length: each copy gets an author, unknown above version 0. Its rules are those of what it becomes.
-fn longer(old: &[u8; OLDER_IMAGE]) -> Image {
+/// An older image, of copies of WIDTH bytes, as one of the present length: a copy without an author gets one, unknown above version 0, and there are more
+/// copies, which are blank. Its rules are those of what it becomes.
+fn longer<const WIDTH: usize>(old: &[u8]) -> Image {
     let mut image = [0; IMAGE];
-    (image[0], image[OWNER_COUNT]) = (old[0], old[OLDER_OWNER_COUNT]);
-    let older: &[[u8; OLDER_COPY]] = old[1..OLDER_OWNER_COUNT].as_chunks().0;
-    for (copy, older) in copies_mut(&mut image).iter_mut().zip(older) {
-        copy[..OLDER_COPY].copy_from_slice(older);
-        copy[AUTHOR] = if get_u32(older, 8) == 0 { NOBODY } else { UNKNOWN };
+    make_blank(&mut image);
+    let (older, owners) = old[1..].split_at(OLDER_OBJECTS * WIDTH);
+    for (copy, older) in copies_mut(&mut image).iter_mut().zip(older.as_chunks::<WIDTH>().0) {
+        copy[..WIDTH].copy_from_slice(older);
+        if WIDTH == OLDEST_COPY && get_u32(older, 8) != 0 {
+            copy[AUTHOR] = UNKNOWN;
+        }
     }
-    image[OWNER_COUNT + 1..].copy_from_slice(&old[OLDER_OWNER_COUNT + 1..]);
+    image[OWNER_COUNT..].copy_from_slice(owners);
     image
 }
 
 /// Takes an older image in; its number, 0, 1 or 2.
 pub fn take_in(old: &[u8], image: &mut [u8]) -> u8 {
-    let (Ok(old), Ok(image)) = (old.try_into(), <&mut Image>::try_from(image)) else { return number::LENGTH };
-    let taken = longer(old);
-    if !is_valid(&taken) {
+    let Ok(image) = <&mut Image>::try_from(image) else { return number::LENGTH };
+    let taken = match OLDER_IMAGES.map(|length| length == old.len()) {
+        [true, _] => longer::<OLDEST_COPY>(old),
+        [_, true] => longer::<COPY>(old),
+        _ => return number::LENGTH,
+    };
+    if usize::from(old[0]) != OLDER_OBJECTS || !is_valid(&taken) {
         return number::DAMAGED;
     }
     *image = taken;

@@ -77,7 +77,7 @@ fn is_formed(message: &[u8]) -> bool {
 #[inline(always)]
 fn is_single(message: &[u8]) -> bool {
     let Ok(message): Result<&[u8; 29], _> = message.try_into() else { return false };
-    message[12] == 1 && message[27] | message[28] == 0 && message[13] < 64 && message[14] < 2
+    message[12] == 1 && message[27] | message[28] == 0 && message[13] < 128 && message[14] < 2
 }
 
 /// At most eight entries, no rival, so many words, and nothing else.
@@ -88,7 +88,7 @@ fn has_entries(message: &[u8], words: usize) -> bool {
     count <= 8 && message.len() == end + 2 + words && message[end] == 0 && usize::from(message[end + 1]) == words
 }
 
-/// Objects below 64 that ascend strictly; a read without a value, a write with a version left.
+/// Objects below 128 that ascend strictly; a read without a value, a write with a version left.
 #[inline(always)]
 fn are_entries(message: &[u8]) -> bool {
     let mut next = 0;
@@ -103,7 +103,7 @@ fn are_entries(message: &[u8]) -> bool {
         }
         next = entry[0].saturating_add(1);
     }
-    next <= 64
+    next <= 128
 }
 
 #[inline(always)]

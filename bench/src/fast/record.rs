@@ -124,7 +124,7 @@ fn is_object(object: &Object, contacted: u16) -> bool {
         0 => get_u64(object, NEW) == 0,
         given => given == 1 && object[MODE] == 1,
     };
-    object[0] < 64 && object[MODE] < 2 && within(came, contacted) && found && new
+    object[0] < 128 && object[MODE] < 2 && within(came, contacted) && found && new
 }
 
 /// The opened objects, none of them twice, settled where votes are asked for; behind them there is nothing.
@@ -135,9 +135,9 @@ fn are_objects(record: &Record) -> bool {
     if count > 8 {
         return false;
     }
-    let mut seen = 0u64;
+    let mut seen = 0u128;
     for object in objects(record) {
-        let bit = 1 << (object[0] & 63);
+        let bit = 1 << (object[0] & 127);
         if !is_object(object, contacted) || seen & bit != 0 || asked && (!is_settled(object) || is_used_up(object)) {
             return false;
         }

@@ -58,13 +58,13 @@ pub fn put_word(out: &mut Buffer, end: usize, word: u8) -> usize {
 }
 
 pub fn fetch(out: &mut [u8], to: u8, of: Transaction, object: u8, mode: u8) -> Result<usize, u8> {
-    let out = front(out, to, of, object < 64 && mode < 2)?;
+    let out = front(out, to, of, object < 128 && mode < 2)?;
     head(out, FETCH, of.owner, to, of);
     Ok(put_single(out, object, mode, 0, 0))
 }
 
 pub fn copy(out: &mut [u8], from: u8, of: Transaction, entry: Entry) -> Result<usize, u8> {
-    let out = front(out, from, of, entry.object < 64 && entry.mode < 2)?;
+    let out = front(out, from, of, entry.object < 128 && entry.mode < 2)?;
     head(out, COPY, from, of.owner, of);
     Ok(put_single(out, entry.object, entry.mode, entry.version, entry.value as u64))
 }
@@ -96,7 +96,7 @@ fn are_asked(entries: &[Entry]) -> bool {
         }
         next = entry.object.saturating_add(1);
     }
-    next <= 64
+    next <= 128
 }
 
 /// The entries and no rival; where the words' count goes.

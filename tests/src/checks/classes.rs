@@ -106,8 +106,8 @@ fn same_waiting(record: &[u8], settings: &[u8]) -> Result<(), String> {
 /// Bytes that are set here one by one, so that model and library cannot agree on other places or another order of bytes. The weights are those of
 /// document 02's own sort: 3.7 g and 6.4 g in one class.
 fn known_bytes() -> Verdict {
-    // Bounds 0x0102 and 0x0530, objects 10, 63 and 0; what waited and what stood behind the hours is gone.
-    let list = [2, 2, 1, 0x30, 5, 3, 10, 63, 0];
+    // Bounds 0x0102 and 0x0530, objects 10, 127 and 0; what waited and what stood behind the hours is gone.
+    let list = [2, 2, 1, 0x30, 5, 3, 10, 127, 0];
     let (record, mut settings) = (vec![0; RECORD], vec![0; SETTINGS]);
     settings[HOURS..HOURS + 2].copy_from_slice(&[0, 0]);
     settings[HOURS + 2..KIND].fill(0xee);
@@ -128,7 +128,7 @@ fn known_bytes() -> Verdict {
     (opened[10], opened[11], opened[38], opened[40], opened[42]) = (255, 31, 1, 1, 3);
     opened[12..38].copy_from_slice(&[1, 0].repeat(NODES));
     // 10 grams and 1 tenth; 0x0102 + 0x052f = 1,585: 158 grams and 5 tenths; 0x0530 = 1,328: 132 grams and 8 tenths.
-    for (place, (object, grams)) in [(10, 10), (63, 158), (0, 132)].into_iter().enumerate() {
+    for (place, (object, grams)) in [(10, 10), (127, 158), (0, 132)].into_iter().enumerate() {
         let at = 43 + 25 * place;
         (opened[at], opened[at + 1], opened[at + 16], opened[at + 17]) = (object, 1, 1, grams);
     }
@@ -325,7 +325,7 @@ fn every_byte_of_settings(random: &mut Random, rounds: usize) -> Verdict {
                     ensure!(got == expected, "byte {at} of {settings:?} as {value}: {got}, but the model says {expected}");
                     numbers[usize::from(got)] += 1;
                 }
-                for value in [0, 1, 2, 7, 8, 9, 10, 63, 64, 255, settings[at] ^ 1] {
+                for value in [0, 1, 2, 7, 8, 9, 10, 63, 64, 127, 128, 255, settings[at] ^ 1] {
                     changed[at] = value;
                     let number = every_lent_call(random, &changed)?;
                     calls[usize::from(number)] += 1;

@@ -302,17 +302,17 @@ fn known_bytes() -> Verdict {
     (expected[10], expected[11], expected[38]) = (255, 31, 1);
     expected[12..38].copy_from_slice(&distances);
     ensure!(got == (0, 1) && bytes == expected, "begin: {got:?}, {bytes:?}");
-    // It opens object 63 to write, and sets -2.
-    let opened = ffi::host_call(&mut bytes, &mut blank, 3, &Call::Open { object: 63, mode: 1 });
-    let set = ffi::host_call(&mut bytes, &mut blank, 3, &Call::SetValue { object: 63, value: -2 });
-    (expected[40], expected[42], expected[43], expected[44], expected[59]) = (1, 1, 63, 1, 1);
+    // It opens object 127 to write, and sets -2.
+    let opened = ffi::host_call(&mut bytes, &mut blank, 3, &Call::Open { object: 127, mode: 1 });
+    let set = ffi::host_call(&mut bytes, &mut blank, 3, &Call::SetValue { object: 127, value: -2 });
+    (expected[40], expected[42], expected[43], expected[44], expected[59]) = (1, 1, 127, 1, 1);
     expected[60..68].copy_from_slice(&[254, 255, 255, 255, 255, 255, 255, 255]);
     ensure!(opened == (0, 0) && set == (0, 0) && bytes == expected, "open and set: {opened:?}, {set:?}, {bytes:?}");
     // Node 0's copy: version 3, value 256. It is ready, and found.
     let own = message::Transaction { owner: 3, serial: 1, stamp: 0x0102 };
-    let copy = message::copy(0, own, message::Entry { object: 63, mode: 1, version: 3, value: 256 });
+    let copy = message::copy(0, own, message::Entry { object: 127, mode: 1, version: 3, value: 256 });
     let ready = ffi::receive(&mut bytes, 3, &message::encode(&copy));
-    let found = ffi::host_call(&mut bytes, &mut blank, 3, &Call::Found { object: 63 });
+    let found = ffi::host_call(&mut bytes, &mut blank, 3, &Call::Found { object: 127 });
     (expected[45], expected[47], expected[52]) = (1, 3, 1);
     ensure!(ready == (0, 3) && found == (0, 256) && bytes == expected, "copy: {ready:?}, {found:?}, {bytes:?}");
     // Votes are asked for: nodes 0, 1, 2, 4, 5, 7 and 8. Node 8 says yes and names owner 12's transaction 513 as a rival.

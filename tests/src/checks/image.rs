@@ -28,9 +28,9 @@ pub fn run(runner: &mut Runner) {
     taking::run(runner);
 }
 
-/// Lengths to try: every one up to 1600, and some great ones, those of older and of later images among them.
+/// Lengths to try: every one up to 3000, and some great ones, those of older and of later images and of thirteen images among them.
 fn some_lengths() -> Vec<usize> {
-    (0..=1600).chain([2414, 2935, 3054, 3191, 15_691, 19_851, 65_536 + 1207, 65_536 + IMAGE]).collect()
+    (0..=3000).chain([3054, 3191, 5870, 15_691, 19_851, 38_155, 65_536 + 1207, 65_536 + 1527, 65_536 + IMAGE]).collect()
 }
 
 /// How many images were taken, and how many refused with 1 and with 2.
@@ -67,7 +67,7 @@ impl Seen {
     }
 }
 
-/// What the model says of an image, without its 64 copies and more.
+/// What the model says of an image, without its 128 copies and more.
 fn described(bytes: &[u8]) -> String {
     match model::decode(bytes) {
         None => format!("{} bytes that are no image", bytes.len()),
@@ -118,27 +118,27 @@ fn blank(random: &mut Random, rounds: usize) -> Verdict {
 fn known_bytes() -> Verdict {
     let mut image = model::blank();
     let mut bytes = vec![0; IMAGE];
-    bytes[0] = 64;
-    bytes[1409] = 13;
-    for object in 0..64 {
+    bytes[0] = 128;
+    bytes[2817] = 13;
+    for object in 0..128 {
         bytes[1 + 22 * object + 12] = 255;
         bytes[1 + 22 * object + 17] = 255;
     }
     ensure!(model::encode(&image) == bytes, "the model's own blank image has other bytes");
     ensure!(ffi::check_image(&bytes) == number::OK, "the blank image is refused");
-    // Object 63 has value -2, version 0x01020304, holder 12, reader 0, writers 0 and 8, author 7 with serial 0x05060708. Owner 0 is listed, owner 8 too,
+    // Object 127 has value -2, version 0x01020304, holder 12, reader 0, writers 0 and 8, author 7 with serial 0x05060708. Owner 0 is listed, owner 8 too,
     // owner 12 held. Who wrote object 0 is unknown.
     let author = Author { owner: 7, serial: 0x0506_0708 };
-    image.copies[63] = model::ObjectCopy { value: -2, version: 0x0102_0304, holder: 12, readers: 1, writers: 257, author };
+    image.copies[127] = model::ObjectCopy { value: -2, version: 0x0102_0304, holder: 12, readers: 1, writers: 257, author };
     image.copies[0].author = Author::UNKNOWN;
     image.owners[0] = model::Owner { serial: 1, state: state::LISTED, stamp: 2 };
     image.owners[8] = model::Owner { serial: 0x0a0b_0c0d, state: state::LISTED, stamp: 0x0102_0304 };
     image.owners[12] = model::Owner { serial: 1 << 24, state: state::HELD, stamp: 1 << 16 };
     bytes[18] = 254;
-    bytes[1387..1409].copy_from_slice(&[0xfe, 255, 255, 255, 255, 255, 255, 255, 4, 3, 2, 1, 12, 1, 0, 1, 1, 7, 8, 7, 6, 5]);
-    bytes[1410..1419].copy_from_slice(&[1, 0, 0, 0, 1, 2, 0, 0, 0]);
-    bytes[1482..1491].copy_from_slice(&[0x0d, 0x0c, 0x0b, 0x0a, 1, 4, 3, 2, 1]);
-    bytes[1518..1527].copy_from_slice(&[0, 0, 0, 1, 2, 0, 0, 1, 0]);
+    bytes[2795..2817].copy_from_slice(&[0xfe, 255, 255, 255, 255, 255, 255, 255, 4, 3, 2, 1, 12, 1, 0, 1, 1, 7, 8, 7, 6, 5]);
+    bytes[2818..2827].copy_from_slice(&[1, 0, 0, 0, 1, 2, 0, 0, 0]);
+    bytes[2890..2899].copy_from_slice(&[0x0d, 0x0c, 0x0b, 0x0a, 1, 4, 3, 2, 1]);
+    bytes[2926..2935].copy_from_slice(&[0, 0, 0, 1, 2, 0, 0, 1, 0]);
     ensure!(model::encode(&image) == bytes, "the model itself encodes an image otherwise than as the bytes written here");
     ensure!(model::decode(&bytes) == Some(image), "the model itself decodes the bytes written here to another image");
     let got = ffi::check_image(&bytes);
@@ -211,18 +211,37 @@ fn is_free(layout: Layout, at: usize) -> bool {
     (1..layout.count_at()).contains(&at) && (at - 1) % layout.width < 12
 }
 
-/// What a byte of an image is changed to: all 256 values, but where a copy has its value and version a few.
-fn values_at(random: &mut Random, layout: Layout, at: usize, byte: u8) -> Vec<u8> {
-    if is_free(layout, at) {
-        vec![0, 1, byte ^ 1, byte ^ 128, 127, 254, 255, random.byte()]
-    } else {
-        (0..=255).collect()
+/// Whether a byte belongs to a copy that is neither the first one, nor at the older limit, nor the last one.
+fn is_inner(layout: Layout, at: usize) -> bool {
+    let object = (at - at.min(1)) / layout.width;
+    (1..layout.count_at()).contains(&at) && ![0, 62, 63, 64, layout.copies - 1].contains(&object)
+}
+
+/// How many values a byte of an image is changed to: all 256, but in most copies some, and where a copy has its value and version a few.
+fn changes_at(layout: Layout, at: usize) -> usize {
+    match (is_free(layout, at), is_inner(layout, at)) {
+        (true, _) => 8,
+        (_, true) => 40,
+        _ => 256,
     }
+}
+
+/// What a byte of an image is changed to: the ends of every rule's ranges, each bit, and any.
+fn values_at(random: &mut Random, layout: Layout, at: usize, byte: u8) -> Vec<u8> {
+    let count = changes_at(layout, at);
+    if count == 256 {
+        return (0..=255).collect();
+    }
+    let few = [0, 1, byte ^ 1, byte ^ 128, 127, 254, 255];
+    let more = [2, 3, 7, 12, 13, 14, 31, 32, 128, 253].into_iter().chain((1..7).map(|bit| byte ^ 1 << bit));
+    let mut values: Vec<u8> = few.into_iter().chain(more.filter(|_| count > 8)).collect();
+    values.resize_with(count, || random.byte());
+    values
 }
 
 /// How many images are made of one so.
 fn values_in_all(layout: Layout) -> usize {
-    (0..layout.length()).map(|at| if is_free(layout, at) { 8 } else { 256 }).sum()
+    (0..layout.length()).map(|at| changes_at(layout, at)).sum()
 }
 
 /// Busy images and the blank one with each byte changed in turn.
@@ -244,7 +263,7 @@ fn every_byte(random: &mut Random, rounds: usize) -> Verdict {
         }
     }
     let all = seen.all();
-    let expected = images.len() * ((2 + 10 * OBJECTS + 9 * NODES) * 256 + 12 * OBJECTS * 8);
+    let expected = images.len() * ((2 + 10 * 5 + 9 * NODES) * 256 + 10 * (OBJECTS - 5) * 40 + 12 * OBJECTS * 8);
     ensure!(
         all == expected && expected == images.len() * values_in_all(TODAY) && seen.accepted * 10 > all && seen.damaged * 10 > all,
         "too poor: {}",
@@ -253,7 +272,7 @@ fn every_byte(random: &mut Random, rounds: usize) -> Verdict {
     Ok(seen.words())
 }
 
-/// Valid images cut short and padded to every length from 0 to 1600, and to some great ones: only their own is taken.
+/// Valid images cut short and padded to every length from 0 to 3000, and to some great ones: only their own is taken.
 fn every_length(random: &mut Random, _: usize) -> Verdict {
     let mut seen = Seen::default();
     let lengths = some_lengths();
@@ -327,11 +346,11 @@ fn random_bytes(random: &mut Random, rounds: usize) -> Verdict {
     let mut seen = Seen::default();
     let base = model::encode(&records::busy(random));
     for _ in 0..10_000 * rounds {
-        let length = if random.once_in(10) { random.below(1700) } else { IMAGE };
+        let length = if random.once_in(10) { random.below(3100) } else { IMAGE };
         let mut bytes = random.bytes(length);
         seen.compare(&bytes)?;
         if length == IMAGE {
-            (bytes[0], bytes[TODAY.count_at()]) = (64, 13);
+            (bytes[0], bytes[TODAY.count_at()]) = (128, 13);
             seen.compare(&bytes)?;
             let from = random.below(IMAGE);
             let to = (from + 1 + random.below(6)).min(IMAGE);
@@ -358,8 +377,10 @@ fn threads(random: &mut Random, rounds: usize) -> Verdict {
             let mut bytes = random.bytes(IMAGE);
             ensure!(ffi::blank_image(&mut bytes) == number::OK, "the blank image is refused");
             ensure!(bytes == model::encode(&model::blank()), "the blank image is another");
-            taking::Seen::default().compare(random, &model::encode_as(model::FIRST, &image), IMAGE)?;
-            let object = random.below(70) as u8;
+            for layout in model::OLDER {
+                taking::Seen::default().compare(random, &model::encode_as(layout, &image), IMAGE)?;
+            }
+            let object = random.below(OBJECTS + 6) as u8;
             authors::compare(&model::encode(&image), object)?;
         }
         Ok(())

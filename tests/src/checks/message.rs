@@ -70,7 +70,7 @@ fn described(bytes: &[u8]) -> String {
 
 /// Messages whose bytes are written out here, so that model and library cannot agree on other places or another order of bytes.
 fn known_bytes() -> Verdict {
-    let fetch = [1, 4, 7, 4, 0x44, 0x33, 0x22, 0x11, 0x88, 0x77, 0x66, 0x55, 1, 63, 1, 0, 0, 0, 0, 0, 0, 0, 0, 0, 0, 0, 0, 0, 0];
+    let fetch = [1, 4, 7, 4, 0x44, 0x33, 0x22, 0x11, 0x88, 0x77, 0x66, 0x55, 1, 127, 1, 0, 0, 0, 0, 0, 0, 0, 0, 0, 0, 0, 0, 0, 0];
     let copy = [2, 9, 0, 0, 1, 0, 0, 0, 2, 0, 0, 0, 1, 5, 0, 4, 3, 2, 1, 0xfe, 255, 255, 255, 255, 255, 255, 255, 0, 0];
     let vote = [4, 12, 3, 3, 9, 0, 0, 0, 8, 0, 0, 0, 0, 2, 0, 1, 0, 0, 0, 11, 0, 1, 0, 0, 1, 1];
     let done = [6, 1, 1, 1, 255, 255, 255, 255, 1, 0, 0, 0, 0, 0, 0];
@@ -79,7 +79,7 @@ fn known_bytes() -> Verdict {
     let entry = model::Entry { object: 5, mode: READ, version: 0x0102_0304, value: -2 };
     let rivals = vec![model::Rival { owner: 0, serial: 1 }, model::Rival { owner: 11, serial: 256 }];
     let known: [(&[u8], Message); 5] = [
-        (&fetch, model::fetch(7, transaction(4, 0x1122_3344, 0x5566_7788), 63, WRITE)),
+        (&fetch, model::fetch(7, transaction(4, 0x1122_3344, 0x5566_7788), 127, WRITE)),
         (&copy, model::copy(9, transaction(0, 1, 2), entry)),
         (&vote, model::vote(12, transaction(3, 9, 8), rivals, model::YES)),
         (&done, model::done(1, transaction(1, LAST, 1))),
@@ -171,7 +171,7 @@ fn every_length(random: &mut Random, _: usize) -> Verdict {
     let catalogue = records::catalogue(random);
     for message in &catalogue {
         let bytes = model::encode(message);
-        for length in (0..=200).chain([255, 256, 256 + bytes.len(), 1207, 65536, 65536 + bytes.len()]) {
+        for length in (0..=200).chain([255, 256, 256 + bytes.len(), 1207, 1527, 2935, 65536, 65536 + bytes.len()]) {
             for zeros in [true, false] {
                 let mut other = bytes[..bytes.len().min(length)].to_vec();
                 let more = length - other.len();

@@ -117,7 +117,7 @@ fn every_length(random: &mut Random, rounds: usize) -> Verdict {
         let bytes = image::encode(&image);
         let me = some_node(random);
         let message = message::encode(&records::some_message(random, &image, me));
-        for length in (0..300).chain(1150..1260).chain(1470..1580).chain([2935, 3054, 19_851]) {
+        for length in (0..300).chain(1150..1260).chain(1470..1580).chain(2880..2990).chain([3054, 3191, 19_851, 38_155]) {
             let mut cut = bytes.clone();
             cut.resize(length, 0);
             seen.compare(random, whole(&cut, me, &message))?;

@@ -8,11 +8,12 @@ pub mod ends;
 pub mod scenario;
 pub mod seen;
 mod stories;
+mod taken;
 mod tampering;
 
 use crate::model::history::{History, Order};
-use crate::model::image::{FIRST, IMAGE};
-use crate::model::message::LAST;
+use crate::model::image::{Layout, IMAGE};
+use crate::model::message::{Message, LAST};
 use crate::model::quorum::{ALL, NODES};
 use crate::model::record::RECORD;
 use crate::model::station::{blank, Station, Step};
@@ -33,7 +34,7 @@ pub fn run(runner: &mut Runner) {
     runner.check("station model: each part of demand 3 can fail", |random, _| tampering::tampering(random));
     runner.check("station model: the law of the weights can fail", |_, _| tampering::weights());
     runner.check("station library: scenarios", library_scenarios);
-    runner.check("station library: taken in at rest", authors::taken_in);
+    runner.check("station library: taken in at rest", taken::taken_in);
     runner.check("station library: bad buffers", bad::bad_buffers);
     runner.check("station library: closing time at every moment", |_, _| closing_time::at_every_moment());
     runner.check("station library: blank", |random, _| compiled::blanks(random));
@@ -83,6 +84,14 @@ struct Setup {
 
 /// The rules as they are.
 const SETUP: Setup = Setup { fault: Fault::None, order: Order::Log, meaning: true, ends: MODEL, every: 16, library: false };
+
+/// The waiting message that a step delivers.
+fn delivered<'a>(station: &'a Station, step: &Step) -> Option<&'a Message> {
+    match step {
+        Step::Deliver { at, .. } => station.pool.get(*at),
+        _ => None,
+    }
+}
 
 /// One scenario under way.
 struct Run<'a> {
@@ -157,18 +166,18 @@ impl Run<'_> {
         }
     }
 
-    /// At rest, the images are taken in as an older program left them, without authors. The running goes on.
-    fn take_in(&mut self) -> Result<(), String> {
+    /// At rest, the images are taken in as an older program left them, in its layout. The running goes on.
+    fn take_in(&mut self, layout: Layout) -> Result<(), String> {
         ensure!(self.station.at_rest(), "taken in while a transaction is under way");
         for node in 0..NODES {
-            let old = image::encode_as(FIRST, &self.station.images[node]);
+            let old = image::encode_as(layout, &self.station.images[node]);
             let taken = image::take_in_call(&old, IMAGE).map_err(|number| format!("the image of node {node} is not taken in: {number}"))?;
             self.station.images[node] = image::load(&taken).map_err(|number| format!("what was taken in at node {node} is {number}"))?;
             if let Some(compiled) = &mut self.compiled {
                 compiled.take_in(node, &old, &self.station.images[node])?;
             }
         }
-        if let Some(history) = &mut self.history {
+        if let Some(history) = self.history.as_mut().filter(|_| !layout.has_authors()) {
             history.forget_authors();
         }
         Ok(())

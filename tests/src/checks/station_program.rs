@@ -12,6 +12,7 @@ use crate::model::script::{
     laid, laid_classes, laid_weights, output, read_line, Line, Program, Taken, LINE_NUMBERS, LIST_NUMBERS, LONGEST,
 };
 use crate::model::station::Step;
+use crate::model::OBJECTS;
 use crate::random::Random;
 use crate::runner::{ensure, Runner, Verdict};
 use std::collections::BTreeMap;
@@ -184,9 +185,9 @@ fn known_classes(child: &Child) -> Verdict {
     let texts: &[(&[(&str, &str)], &str)] = &[
         (&[("classes", "bad"), ("classes 256", "bad"), ("classes 4 5", "bad"), ("batch 4 1", "bad"), ("batch 4 1 65536", "bad")], ""),
         // The table's numbers in their order: 1, 4, 5, 6, 10, 14, 15. The step empties the list each time, and a refused table is none.
-        (&[("classes 4", "1 length"), ("list 0", ""), ("classes 13", "1 length"), ("list 0 1 64", ""), ("classes 13", "4 stranger")], END),
-        (&[("off 4", "ok"), ("list 0 1 64", ""), ("classes 4", "5 out of turn"), ("on 4", "ok"), ("classes 4", "1 length")], END),
-        (&[("list 2 9 8 1 64", ""), ("classes 4", "6 no such tally"), ("list 2 9 8 3 1 1 2", ""), ("classes 4", "14 bounds")], END),
+        (&[("classes 4", "1 length"), ("list 0", ""), ("classes 13", "1 length"), ("list 0 1 128", ""), ("classes 13", "4 stranger")], END),
+        (&[("off 4", "ok"), ("list 0 1 128", ""), ("classes 4", "5 out of turn"), ("on 4", "ok"), ("classes 4", "1 length")], END),
+        (&[("list 2 9 8 1 128", ""), ("classes 4", "6 no such tally"), ("list 2 9 8 3 1 1 2", ""), ("classes 4", "14 bounds")], END),
         (&[("list 1 9 2 5 5", ""), ("classes 4", "15 tally twice"), ("list 0 0", ""), ("classes 4", "14 bounds")], END),
         (&[("list 1 2000 2 5 6", ""), ("classes 4", "14 bounds"), ("list 1 0 2 5 6", ""), ("classes 4", "14 bounds")], END),
         (
@@ -195,7 +196,7 @@ fn known_classes(child: &Child) -> Verdict {
                 ("list 2 9 8 3 1 1 2", ""),
                 ("classes 4", "10 busy"),
                 ("abort 4", "ok"),
-                ("list 2 1 1999 3 0 63 7", ""),
+                ("list 2 1 1999 3 0 127 7", ""),
                 loaded,
             ],
             "end\n  waiting 4 0 0 0\n  at rest yes\n  settled yes\n",
@@ -322,7 +323,7 @@ fn stored(child: &Child) -> Verdict {
         ensure!(lines(&text).iter().all(|line| read_line(line) != Line::Bad), "{}: a bad line", path.display());
         read += lines(&text).len();
     }
-    ensure!(names.len() >= 14 && read > 2000, "{} scenarios of {read} lines are too few", names.len());
+    ensure!(names.len() >= 15 && read > 2100, "{} scenarios of {read} lines are too few", names.len());
     Ok(format!("{} scenarios, {read} lines", names.len()))
 }
 
@@ -345,11 +346,11 @@ fn every_byte(child: &Child) -> Verdict {
     let good: [&[u8]; 13] = [
         b"begin 4 10 8191",
         b"reselect 12 8191 65535 9 1 1 1 1 1 1 1 1 1 1 1",
-        b"set 4 63 -9223372036854775808",
-        b"send 4 0 63",
+        b"set 4 127 -9223372036854775808",
+        b"send 4 0 127",
         b"keep 255",
         b"blank 8191",
-        b"write 4 63 # a-1",
+        b"write 4 127 # a-1",
         b"off 12",
         b"hours 4",
         b"clock 4294967295 10079",
@@ -586,7 +587,7 @@ fn calm(mut style: Style) -> Style {
 
 /// Transactions open many objects, up to one too many.
 fn wide(style: Style) -> Style {
-    Style { objects: 64, most: 10, ask: 12, write: 2, ..calm(style) }
+    Style { first: 0, objects: OBJECTS, most: 10, ask: 12, write: 2, ..calm(style) }
 }
 
 /// Few transactions wait for long with what they found, and fetches come again.

@@ -1,6 +1,6 @@
 //! The station in its five buffers: what bytes a station has, what a step leaves of them, and a step on buffers of any bytes.
 //!
-//! "In the station's 15,691 bytes each controller's 1,207 bytes are lent onward from the middle", by document 02 19,851 and 1,527. The pool is a count and
+//! "In the station's 15,691 bytes each controller's 1,207 bytes are lent onward from the middle", by document 02 38,155 and 2,935. The pool is a count and
 //! 128 slots of a length and 128 bytes. Removing a message moves the slots behind it one place down, and leaves the last slot's bytes; adding one writes its
 //! length and its bytes to the slot behind the last, and leaves the rest of the slot.
 

@@ -6,7 +6,7 @@ use super::message::{self, kind, Entry, Message, Rival, Transaction, ABORT, COMM
 use super::quorum::{distances_of, inside, nearest, nodes, only, Kind, ALL, DISTANCES, NODES};
 use super::record::{self, decided, phase, Opened, Record, RECORD};
 use super::settings::{self, Settings, SETTINGS};
-use super::{number, Fault};
+use super::{number, Fault, OBJECTS};
 
 /// A call of the host. Distances are bytes, as they are lent. Document 01 has for the last three: "a fresh live mask and distances may be
 /// given", asking for votes, giving up. Document 02 at begin: "The host gives day and minute." A batch is a begin too, with its weights as they are lent.
@@ -129,7 +129,7 @@ fn refusals(record: &Record, settings: &Settings, at: At, call: &Call) -> Vec<(u
         Call::Open { object, .. } => vec![
             (number::STRANGER, stranger),
             unless(open && own),
-            (number::NO_SUCH_OBJECT, *object > 63 || record.find(*object).is_some()),
+            (number::NO_SUCH_OBJECT, usize::from(*object) >= OBJECTS || record.find(*object).is_some()),
             (number::EIGHT_OPEN, usize::from(record.count) == ENTRIES),
         ],
         Call::SetValue { object, .. } => vec![

@@ -14,19 +14,28 @@ pub struct Layout {
     pub width: usize,
 }
 
-/// The present layout, with authors: "the image becomes 1,527 bytes".
-pub const TODAY: Layout = Layout { copies: 64, width: 22 };
+/// The present layout: "the image's first count becomes 128 and its length 2,935".
+pub const TODAY: Layout = Layout { copies: OBJECTS, width: 22 };
 
 /// Document 01's, without authors: "1,207 bytes".
 pub const FIRST: Layout = Layout { copies: 64, width: 17 };
 
-/// The layouts that are taken in.
-pub const OLDER: [Layout; 1] = [FIRST];
+/// The first with authors: "the image becomes 1,527 bytes".
+pub const SIGNED: Layout = Layout { copies: 64, width: 22 };
+
+/// The layouts that are taken in, the oldest first.
+pub const OLDER: [Layout; 2] = [FIRST, SIGNED];
 
 /// Bytes of an owner.
 const OWNER: usize = 9;
 
 impl Layout {
+    /// The layout that the next release had, or has: "one of 1,207 as in 2.5 first".
+    pub fn next(self) -> Layout {
+        let later = OLDER.into_iter().skip_while(|&older| older != self).nth(1);
+        later.unwrap_or(TODAY)
+    }
+
     /// Bytes of an image.
     pub const fn length(self) -> usize {
         self.owners_at() + OWNER * NODES
@@ -52,9 +61,9 @@ impl Layout {
 }
 
 /// Bytes of an image in the present layout.
-pub const IMAGE: usize = 1527;
+pub const IMAGE: usize = 2935;
 
-const _: () = assert!(TODAY.length() == IMAGE && FIRST.length() == 1207 && TODAY.copies == OBJECTS);
+const _: () = assert!(TODAY.length() == IMAGE && SIGNED.length() == 1527 && FIRST.length() == 1207);
 
 /// The holder of a copy that nobody holds.
 pub const NOBODY: u8 = 255;
@@ -263,7 +272,7 @@ pub fn decode(bytes: &[u8]) -> Option<Image> {
     decode_as(TODAY, bytes)
 }
 
-/// The number of stored bytes, and their image where it is 0: 1 for another length than 1,527, then 2 for a broken rule.
+/// The number of stored bytes, and their image where it is 0: 1 for another length than 2,935, then 2 for a broken rule.
 pub fn load(bytes: &[u8]) -> Result<Image, u8> {
     if bytes.len() != IMAGE {
         return Err(number::LENGTH);
@@ -285,7 +294,8 @@ pub fn blank_call(size: usize) -> Result<Vec<u8>, u8> {
 }
 
 /// The call that takes older bytes in, to a buffer of `size` bytes: the bytes of the present layout; 1 where either has another length, then 2 where the
-/// older image breaks a rule of its layout. "An image of 1,207 bytes is taken in with unknown writers above version 0."
+/// older image breaks a rule of its layout. "An image of 1,207 bytes is taken in with unknown writers above version 0." "An image of 1,527 bytes is read with
+/// tallies 64 to 127 blank .. and is written long from then on."
 pub fn take_in_call(old: &[u8], size: usize) -> Result<Vec<u8>, u8> {
     let layout = OLDER.into_iter().find(|layout| layout.length() == old.len());
     let layout = layout.filter(|_| size == IMAGE).ok_or(number::LENGTH)?;
@@ -293,7 +303,12 @@ pub fn take_in_call(old: &[u8], size: usize) -> Result<Vec<u8>, u8> {
     Ok(encode(&image))
 }
 
-/// The call that tells who wrote an object's copy last: 1, 2, then 6 for an object above 63.
+/// Valid bytes of a layout as those of the next one.
+pub fn forward(layout: Layout, old: &[u8]) -> Option<Vec<u8>> {
+    decode_as(layout, old).filter(valid).map(|image| encode_as(layout.next(), &image))
+}
+
+/// The call that tells who wrote an object's copy last: 1, 2, then 6 for an object above 127.
 pub fn author_call(bytes: &[u8], object: u8) -> Result<Author, u8> {
     let image = load(bytes)?;
     image.copies.get(usize::from(object)).map(|copy| copy.author).ok_or(number::NO_SUCH_OBJECT)

@@ -156,7 +156,7 @@ pub enum Rule {
     Stamp,
     /// So has a rival's serial.
     RivalSerial,
-    /// Objects are 0 to 63.
+    /// Objects are 0 to 127: "from 128 on a message gives 3".
     Objects,
     /// "Mode 1 with 0 read and 1 write."
     Modes,

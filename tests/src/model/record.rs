@@ -110,7 +110,7 @@ pub enum Clause {
     Together,
     /// Both 0: idle, and nothing was decided.
     Unused,
-    /// An opened object is below 64, its mode 0 or 1, and no object is opened twice.
+    /// An opened object is below 128, its mode 0 or 1, and no object is opened twice.
     Objects,
     Modes,
     Once,

@@ -211,7 +211,7 @@ pub fn own_calls() -> Verdict {
     let mut node = Node::new(with_table(&table));
     ensure!(node.call(&batch(1, encode_weights(&[37, 640])))? == (0, 1), "the batch does not begin");
     let barred = |node: &mut Node| -> Result<(), String> {
-        for object in [9, 5, 6, 63, 64, 255] {
+        for object in [9, 5, 6, 63, 64, 127, 128, 255] {
             for call in [Call::Open { object, mode: READ }, Call::Open { object, mode: WRITE }, Call::SetValue { object, value: 1 }] {
                 ensure!(node.call(&call)? == (number::OUT_OF_TURN, 0), "{call:?} is not barred");
                 for stranger in [13, 255] {

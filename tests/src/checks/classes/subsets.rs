@@ -205,7 +205,7 @@ fn some_list(random: &mut Random, wrong: &impl Fn(&str) -> bool) -> Vec<u8> {
         table.objects[1] = table.objects[0];
     }
     if wrong("object") {
-        table.objects[3] = *random.pick(&[64, 65, 128, 255]);
+        table.objects[3] = *random.pick(&[128, 129, 200, 255]);
     }
     if wrong("bounds") {
         match random.below(5) {

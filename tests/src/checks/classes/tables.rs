@@ -105,13 +105,13 @@ pub const DAMAGES: &[Damage] = &[
     damage("one bound more by its count", number::LENGTH, |_| vec![2, 9, 0, 2, 5, 6]),
     damage("one object more by its count", number::LENGTH, |_| vec![1, 9, 0, 3, 5, 6]),
     damage("one object fewer by its count", number::LENGTH, |_| vec![1, 9, 0, 1, 5, 6]),
-    damage("object 64", number::NO_SUCH_OBJECT, |r| {
+    damage("object 128", number::NO_SUCH_OBJECT, |r| {
         changed(r, |r, table| {
             let at = r.below(table.objects.len());
             table.objects[at] = OBJECTS as u8;
         })
     }),
-    damage("an object above 64", number::NO_SUCH_OBJECT, |r| {
+    damage("an object above 128", number::NO_SUCH_OBJECT, |r| {
         changed(r, |r, table| {
             let at = r.below(table.objects.len());
             table.objects[at] = (OBJECTS + 1 + r.below(255 - OBJECTS)) as u8;
@@ -168,7 +168,7 @@ pub const DAMAGES: &[Damage] = &[
             table.objects[at] = table.objects[r.below(at)];
         })
     }),
-    damage("one object for all", number::TALLY_TWICE, |r| changed(r, |_, table| table.objects.fill(63))),
+    damage("one object for all", number::TALLY_TWICE, |r| changed(r, |_, table| table.objects.fill(127))),
 ];
 
 /// A table as it is lent: sound, or not, once in so many times.

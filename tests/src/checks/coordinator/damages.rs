@@ -77,8 +77,8 @@ pub const DAMAGES: &[Damage] = &[
         let outcome = 1 + r.below(2) as u8;
         while_in(phase::IDLE, it, |it| (it.serial, it.timestamp, it.outcome) = (0, 0, outcome))
     }),
-    damage("object 64", &[Clause::Objects], |r, it| opened(r, it, |_, one| one.object = 64)),
-    damage("an object above 64", &[Clause::Objects], |r, it| opened(r, it, |r, one| one.object = 65 + r.below(191) as u8)),
+    damage("object 128", &[Clause::Objects], |r, it| opened(r, it, |_, one| one.object = 128)),
+    damage("an object above 128", &[Clause::Objects], |r, it| opened(r, it, |r, one| one.object = 129 + r.below(127) as u8)),
     damage("mode 2", &[Clause::Modes], |r, it| opened(r, it, |_, one| one.mode = 2)),
     damage("a mode above 2", &[Clause::Modes], |r, it| opened(r, it, |r, one| one.mode = 3 + r.below(253) as u8)),
     damage("an object twice", &[Clause::Once], |r, it| {

@@ -3,7 +3,7 @@
 use crate::checks::classes::tables::some_batch;
 use crate::checks::hours::hours_in;
 use crate::checks::hours::tables::{damaged_settings, some_clock, some_settings};
-use crate::checks::message::records::{other_node, some_byte, some_entries, some_node, some_rivals, some_serial, some_value};
+use crate::checks::message::records::{other_node, some_byte, some_entries, some_node, some_rivals, some_serial, some_value, valid_object};
 use crate::model::coordinator::Call;
 use crate::model::message::{self, kind, Entry, Message, Rival, Transaction, ABORT, COMMIT, ENTRIES, LAST, NO, WRITE, YES};
 use crate::model::quorum::{nodes, smallest, Kind, ALL, DISTANCES, NODES};
@@ -128,9 +128,9 @@ pub fn some_record(random: &mut Random, me: u8) -> Record {
 pub fn some_object(random: &mut Random, record: &Record) -> u8 {
     match random.below(8) {
         0 => some_byte(random),
-        1 | 2 => random.below(OBJECTS) as u8,
+        1 | 2 => valid_object(random),
         _ if record.count > 0 => random.pick(record.objects()).object,
-        _ => random.below(OBJECTS) as u8,
+        _ => valid_object(random),
     }
 }
 
@@ -250,7 +250,7 @@ fn some_other(random: &mut Random, record: &Record, me: u8) -> Message {
     let transaction = Transaction { owner, ..some_own(random, record, me) };
     let count = 1 + random.below(ENTRIES);
     match random.below(4) {
-        0 => message::fetch(me, transaction, random.below(OBJECTS) as u8, random.below(2) as u8),
+        0 => message::fetch(me, transaction, valid_object(random), random.below(2) as u8),
         1 => message::ask(me, transaction, some_entries(random, count)),
         2 => message::outcome(me, transaction, some_entries(random, count), COMMIT),
         _ => message::outcome(me, transaction, vec![], ABORT),

@@ -2,7 +2,7 @@
 
 use super::records;
 use crate::ffi;
-use crate::model::image::{self as model, Author, Image, FIRST, IMAGE, TODAY};
+use crate::model::image::{self as model, Author, Image, FIRST, IMAGE, SIGNED, TODAY};
 use crate::model::{number, OBJECTS};
 use crate::random::Random;
 use crate::runner::{ensure, Runner, Verdict};
@@ -44,7 +44,7 @@ fn every_owner(random: &mut Random, rounds: usize) -> Verdict {
     let (mut sound, mut damaged) = (0, 0);
     for _ in 0..rounds {
         let some = random.below(OBJECTS);
-        for object in [0, 1, 31, 62, 63, some] {
+        for object in [0, 63, 64, 126, 127, some] {
             let mut bytes = model::encode(&records::busy(random));
             for (owner, serial) in (0..=255).flat_map(|owner| some_serials(random).into_iter().map(move |serial| (owner, serial))) {
                 lay(&mut bytes, object, owner, serial);
@@ -73,7 +73,7 @@ fn all_different(random: &mut Random) -> Image {
     image
 }
 
-/// All 256 objects, on images that are valid, damaged, or of another length: 1, then 2, then 6 above object 63.
+/// All 256 objects, on images that are valid, damaged, or of another length: 1, then 2, then 6 above object 127.
 fn every_object(random: &mut Random, rounds: usize) -> Verdict {
     let mut numbers = [0; number::COUNT];
     for _ in 0..20 * rounds {
@@ -84,8 +84,8 @@ fn every_object(random: &mut Random, rounds: usize) -> Verdict {
         let mut longer = bytes.clone();
         longer.push(0);
         for object in 0..=255 {
-            let older = model::encode_as(FIRST, &image);
-            for bytes in [&bytes, &damaged, &longer, &older, &bytes[..IMAGE - 1].to_vec()] {
+            let [oldest, older] = [FIRST, SIGNED].map(|layout| model::encode_as(layout, &image));
+            for bytes in [&bytes, &damaged, &longer, &oldest, &older, &bytes[..IMAGE - 1].to_vec()] {
                 numbers[usize::from(compare(bytes, object)?)] += 1;
             }
             let told = ffi::image_author(&bytes, object);
@@ -94,7 +94,7 @@ fn every_object(random: &mut Random, rounds: usize) -> Verdict {
         }
     }
     let met = [0, 1, 2, 6].map(|number| numbers[number]);
-    let expected = [64, 3 * 256, 256, 192].map(|count| count * 20 * rounds);
+    let expected = [128, 4 * 256, 256, 128].map(|count| count * 20 * rounds);
     ensure!(met == expected, "{met:?} calls with 0, 1, 2 and 6, not {expected:?}");
     Ok(format!("{met:?} calls with 0, 1, 2 and 6"))
 }
@@ -107,7 +107,7 @@ fn every_length(random: &mut Random, _: usize) -> Verdict {
     for &length in &lengths {
         let mut other = bytes.clone();
         other.resize(length, random.byte());
-        for object in [0, 63, 64, 255] {
+        for object in [0, 127, 128, 255] {
             refused += usize::from(compare(&other, object)? == number::LENGTH);
         }
     }

@@ -3,6 +3,7 @@
 use crate::checks::message::records::{some_serial, some_value, some_version};
 use crate::model::image::{blank, state, Author, Image, ObjectCopy, Owner, NOBODY};
 use crate::model::quorum::{only, NODES};
+use crate::model::OBJECTS;
 use crate::random::Random;
 
 /// The nodes whose owner has this state.
@@ -77,7 +78,7 @@ fn some_mask(random: &mut Random) -> u16 {
 
 /// Changes one thing about an image, to something allowed or not.
 pub fn change(random: &mut Random, image: &mut Image) {
-    let copy = &mut image.copies[random.below(64)];
+    let copy = &mut image.copies[random.below(OBJECTS)];
     let owner = &mut image.owners[random.below(NODES)];
     match random.below(12) {
         0 => copy.holder = *random.pick(&[0, 1, 6, 11, 12, 13, 14, 254, 255]),

@@ -263,16 +263,16 @@ pub const DAMAGES: &[Damage] = &[
         })
     }),
     damage("a rival's serial 0 in a yield", &[Rule::RivalSerial], |r| changed(r, yields, |_, m| m.rivals[0].serial = 0)),
-    damage("object 64", &[Rule::Objects], |r| {
+    damage("object 128", &[Rule::Objects], |r| {
         changed(r, has_entries, |_, m| {
             let last = m.entries.len() - 1;
             m.entries[last].object = OBJECTS as u8;
         })
     }),
-    damage("object above 64", &[Rule::Objects], |r| {
+    damage("object above 128", &[Rule::Objects], |r| {
         changed(r, has_entries, |r, m| {
             let last = m.entries.len() - 1;
-            m.entries[last].object = 65 + r.below(191) as u8;
+            m.entries[last].object = 129 + r.below(127) as u8;
         })
     }),
     damage("mode 2", &[Rule::Modes], |r| {

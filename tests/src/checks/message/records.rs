@@ -128,9 +128,9 @@ fn made(random: &mut Random, shape: Shape) -> Message {
     let transaction = some_transaction(random);
     let node = some_node(random);
     match shape.kind {
-        kind::FETCH => model::fetch(node, transaction, random.below(OBJECTS) as u8, random.below(2) as u8),
+        kind::FETCH => model::fetch(node, transaction, valid_object(random), random.below(2) as u8),
         kind::COPY => {
-            let (object, mode) = (random.below(OBJECTS) as u8, random.below(2) as u8);
+            let (object, mode) = (valid_object(random), random.below(2) as u8);
             model::copy(node, transaction, Entry { object, mode, version: some_version(random), value: some_value(random) })
         }
         kind::ASK => model::ask(node, transaction, some_entries(random, shape.entries)),
@@ -184,12 +184,18 @@ pub fn catalogue(random: &mut Random) -> Vec<Message> {
     list
 }
 
+/// An object that there is: any, or one at an end, also at those of the older limit.
+pub fn valid_object(random: &mut Random) -> u8 {
+    let any = random.below(OBJECTS) as u8;
+    *random.pick(&[0, 63, 64, 127, any, any, any, any, any, any, any, any])
+}
+
 /// A byte that is about a limit of some field, or any.
 pub fn some_byte(random: &mut Random) -> u8 {
     if random.once_in(4) {
         random.byte()
     } else {
-        *random.pick(&[0, 1, 2, 3, 4, 5, 6, 7, 8, 9, 11, 12, 13, 14, 62, 63, 64, 65, 127, 128, 254, 255])
+        *random.pick(&[0, 1, 2, 3, 4, 5, 6, 7, 8, 9, 11, 12, 13, 14, 62, 63, 64, 65, 126, 127, 128, 129, 254, 255])
     }
 }
 

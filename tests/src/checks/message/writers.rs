@@ -1,11 +1,10 @@
 //! The write calls: number, length, and every byte of the buffer after, against the model's message.
 
-use super::records::{some_entries, some_node, some_serial, some_value, some_version};
+use super::records::{some_entries, some_node, some_serial, some_value, some_version, valid_object};
 use crate::ffi::{self, Entries, Serials, Written};
 use crate::model::message::{self as model, Entry, Message, Rival, Rule, Transaction, ENTRIES, LAST, READ, WRITE};
 use crate::model::number;
 use crate::model::quorum::NODES;
-use crate::model::OBJECTS;
 use crate::random::Random;
 use crate::runner::{ensure, Runner, Verdict};
 use std::collections::{BTreeMap, BTreeSet};
@@ -108,8 +107,8 @@ fn transaction(random: &mut Random) -> Transaction {
 }
 
 fn object(random: &mut Random) -> u8 {
-    let (good, bad) = (random.below(OBJECTS) as u8, 64 + random.below(192) as u8);
-    let bad = *random.pick(&[64, bad]);
+    let (good, bad) = (valid_object(random), 128 + random.below(128) as u8);
+    let bad = *random.pick(&[128, 255, bad]);
     mostly(random, good, bad)
 }
 
@@ -138,7 +137,7 @@ fn entries(random: &mut Random) -> Entries {
             2 => list[at].mode = bit(random).max(2),
             3 => list[at] = Entry { mode: READ, value: some_value(random), ..list[at] },
             4 => list[at] = Entry { mode: WRITE, version: LAST, ..list[at] },
-            _ => list[count - 1].object = 64 + random.below(192) as u8,
+            _ => list[count - 1].object = 128 + random.below(128) as u8,
         }
     }
     let mut entry: [Entry; ENTRIES] = std::array::from_fn(|_| any_entry(random));

@@ -1,7 +1,7 @@
 //! Images and messages that meet: few serials, stamps and versions, so that they are often equal, and often one apart.
 
 use crate::checks::image::records::some_author;
-use crate::checks::message::records::{other_node, some_entries, some_node, some_serial, some_value};
+use crate::checks::message::records::{other_node, some_entries, some_node, some_serial, some_value, valid_object};
 use crate::model::image::{blank, state, Image, ObjectCopy, Owner, NOBODY};
 use crate::model::message::{self, Entry, Message, Rival, Transaction, ABORT, COMMIT, ENTRIES, LAST, WRITE, YES};
 use crate::model::quorum::{only, NODES};
@@ -101,7 +101,7 @@ pub fn some_message(random: &mut Random, image: &Image, me: u8) -> Message {
     let owner = some_node(random);
     let transaction = some_transaction(random, image, owner);
     match random.below(20) {
-        0..=3 => message::fetch(me, transaction, random.below(OBJECTS) as u8, random.below(2) as u8),
+        0..=3 => message::fetch(me, transaction, valid_object(random), random.below(2) as u8),
         4..=11 => message::ask(me, transaction, some_found(random, image)),
         12..=14 => message::outcome(me, transaction, some_found(random, image), COMMIT),
         15..=17 => message::outcome(me, transaction, vec![], ABORT),

@@ -2,10 +2,11 @@
 
 use super::records;
 use super::seen::{whole, Seen};
+use crate::checks::message::records::valid_object;
 use crate::ffi;
 use crate::model::image::{self, state, Image};
 use crate::model::message::{self, Message, Transaction, ABORT, COMMIT, LAST, WRITE};
-use crate::model::{number, OBJECTS};
+use crate::model::number;
 use crate::random::Random;
 use crate::runner::{ensure, Verdict};
 
@@ -14,7 +15,7 @@ fn next_message(random: &mut Random, image: &Image, me: u8, owner: u8) -> Messag
     let last = image.owners[usize::from(owner)];
     let next = Transaction { owner, serial: last.serial.saturating_add(1), stamp: records::some_small(random) };
     let same = Transaction { owner, serial: last.serial.max(1), stamp: last.stamp.max(1) };
-    let fetch = |random: &mut Random, transaction| message::fetch(me, transaction, random.below(OBJECTS) as u8, random.below(2) as u8);
+    let fetch = |random: &mut Random, transaction| message::fetch(me, transaction, valid_object(random), random.below(2) as u8);
     match (last.state, random.below(12)) {
         (_, 0) => message::outcome(me, same, vec![], ABORT),
         (_, 1) => records::some_message(random, image, me),
@@ -36,7 +37,7 @@ fn held_by(random: &mut Random, image: &Image, owner: u8) -> Vec<message::Entry>
         |(object, copy): (u8, &image::ObjectCopy)| message::Entry { object, mode: WRITE, version: copy.version.min(LAST - 1), value };
     let entries: Vec<message::Entry> = held.map(write).take(8).collect();
     if entries.is_empty() {
-        return vec![message::Entry { object: random.below(OBJECTS) as u8, mode: message::READ, version: 0, value: 0 }];
+        return vec![message::Entry { object: valid_object(random), mode: message::READ, version: 0, value: 0 }];
     }
     entries
 }

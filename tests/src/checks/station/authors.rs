@@ -1,15 +1,11 @@
-//! Who wrote last at a station: by which steps it changes, what was compared, and stations taken in at rest from images without it.
+//! Who wrote last at a station: by which steps it changes, and what was compared.
 
-use super::scenario::{closing_step, next_step, Style};
-use super::seen::{Case, Seen};
-use super::{pointed_style, some_on, Run, Setup, SETUP};
 use crate::model::image::Author;
 use crate::model::message::{kind, Message, COMMIT, WRITE};
 use crate::model::replica::Standing;
-use crate::model::station::{Event, Station, Step, POOL};
+use crate::model::station::{Event, Station, Step};
 use crate::model::OBJECTS;
-use crate::random::Random;
-use crate::runner::{ensure, Verdict};
+use crate::runner::ensure;
 
 /// What was met of authors.
 #[derive(Debug, Default)]
@@ -72,63 +68,4 @@ pub fn moved(before: &Station, event: &Event, after: &Station) -> Result<usize, 
         replaced += usize::from(writes && old.author == Author::UNKNOWN);
     }
     Ok(replaced)
-}
-
-/// A step towards rest that leaves messages waiting: deliveries are often kept, and what is due is sent whatever waits.
-fn hasty_step(random: &mut Random, station: &Station) -> Option<Step> {
-    let waiting = station.pool.len();
-    if station.at_rest() {
-        return None;
-    }
-    if waiting > 0 && random.once_in(2) {
-        return Some(Step::Deliver { at: random.below(waiting), kept: waiting < POOL / 2 && random.once_in(2) });
-    }
-    closing_step(random, &Station { pool: if waiting < POOL - 10 { vec![] } else { station.pool.clone() }, ..station.clone() })
-}
-
-/// Steps of a scenario, and on to rest. Half of the time messages still wait then.
-fn to_rest(random: &mut Random, style: &Style, run: &mut Run) -> Result<(), String> {
-    for _ in 0..1500 {
-        let step = next_step(random, &run.station, style);
-        run.take(step)?;
-    }
-    let next = if random.once_in(2) { hasty_step } else { closing_step };
-    for _ in 0..20_000 {
-        match next(random, &run.station) {
-            Some(step) => run.take(step)?,
-            None => break,
-        }
-    }
-    ensure!(run.station.at_rest(), "the station does not come to rest");
-    run.check()
-}
-
-/// Stations that ran without authors, taken in at rest, that run on: the running is one, and a last writer from before is unknown until the object is
-/// written again.
-pub fn taken_in(random: &mut Random, rounds: usize) -> Verdict {
-    let setup = Setup { library: true, ..SETUP };
-    let mut seen = Seen::default();
-    let mut waited = 0;
-    for _ in 0..100 * rounds {
-        let (style, on) = (pointed_style(random), some_on(random));
-        let mut run = Run::new(on, setup, &mut seen);
-        to_rest(random, &style, &mut run)?;
-        waited += usize::from(!run.station.pool.is_empty());
-        run.take_in()?;
-        let copies = run.station.images.iter().flat_map(|image| &image.copies);
-        let (unknown, written) = copies.fold((0, 0), |(unknown, written), copy| {
-            (unknown + usize::from(copy.author == Author::UNKNOWN), written + usize::from(copy.version > 0))
-        });
-        ensure!(unknown == written, "{unknown} authors are unknown, but {written} copies are written");
-        run.seen.authors.taken += unknown;
-        run.check()?;
-        run.stored()?;
-        to_rest(random, &style, &mut run)?;
-        run.count_authors();
-    }
-    let counted = format!("{} committed; {waited} with messages waiting; {}", seen.of(Case::Committed), seen.authors.words());
-    let Authors { compared, written, nobody, unknown, taken, replaced } = seen.authors;
-    let rich = [(compared, 6400), (written, 50), (nobody, 1000), (unknown, 20), (taken, 500), (replaced, 100), (waited, 10)];
-    ensure!(rich.iter().all(|&(count, floor)| count >= floor * rounds), "too poor: {counted}");
-    Ok(counted)
 }

@@ -82,7 +82,7 @@ fn misfit(random: &mut Random, buffer: &mut Vec<u8>) {
 fn spoil(random: &mut Random, bytes: &mut [u8]) {
     for _ in 0..1 + random.below(3) {
         let at = random.below(bytes.len());
-        bytes[at] = *random.pick(&[0, 1, 2, 3, 13, 64, 255]);
+        bytes[at] = *random.pick(&[0, 1, 2, 3, 13, 64, 127, 128, 255]);
     }
 }
 

@@ -18,7 +18,8 @@ use crate::random::Random;
 pub struct Style {
     /// The nodes that begin transactions.
     pub owners: Vec<u8>,
-    /// Objects 0 and up to here are wanted, each transaction at most `most`.
+    /// So many objects from the first one on are wanted, each transaction at most `most`.
+    pub first: usize,
     pub objects: usize,
     pub most: usize,
     /// With more messages waiting than this, one is delivered rather than sent.
@@ -58,11 +59,13 @@ pub fn some_style(random: &mut Random) -> Style {
     }
     // A gentle scenario has none of the frequent ones.
     let gentle = usize::from(random.once_in(2));
+    let objects = *random.pick(&[1, 2, 2, 3, 5, 9, 12, OBJECTS]);
     Style {
         slow: *random.pick(&[kind::COPY, kind::VOTE, kind::VOTE, kind::OUTCOME, kind::DONE, kind::YIELD]),
         slow_owners: if random.once_in(3) { owners.clone() } else { vec![owners[0]] },
         owners,
-        objects: *random.pick(&[1, 2, 2, 3, 5, 9, 64]),
+        first: (*random.pick(&[0, 0, 0, 62, 63, 119])).min(OBJECTS - objects),
+        objects,
         most: *random.pick(&[1, 2, 2, 3, 8, 9]),
         calm: *random.pick(&[4, 12, 30, 60, 126, 400][..4 + 2 * (1 - gentle)]),
         old: *random.pick(&[1, 4, 20, 60]),
@@ -84,6 +87,18 @@ pub fn some_style(random: &mut Random) -> Style {
 }
 
 impl Style {
+    /// One of the objects that are wanted.
+    fn object(&self, random: &mut Random) -> u8 {
+        (self.first + random.below(self.objects)) as u8
+    }
+
+    /// No object but the first 64 is wanted, which is all that an older program had.
+    pub fn older(mut self) -> Style {
+        self.objects = self.objects.min(64);
+        self.first = self.first.min(64 - self.objects);
+        self
+    }
+
     /// Transactions stay open for long, fetches are repeated, and yields are slow.
     pub fn lingering(mut self) -> Style {
         (self.ask, self.keep, self.again, self.old) = (12, 2, 2, 1);
@@ -147,7 +162,7 @@ fn while_open(random: &mut Random, station: &Station, style: &Style, node: u8) -
     let record = &station.records[usize::from(node)];
     let batch = station.settings[usize::from(node)].kind == kinds::BATCH;
     let host = |call| Step::Host { node, call };
-    let object = random.below(style.objects) as u8;
+    let object = style.object(random);
     let known = if record.count == 0 { object } else { random.pick(record.objects()).object };
     if random.once_in(style.abort * 2) {
         return host(Call::Abort);
@@ -192,7 +207,9 @@ fn some_table(random: &mut Random, style: &Style) -> Vec<u8> {
         return some_class_list(random, 2);
     }
     let most = *random.pick(&[1, 2, 3, 8]);
-    classes::encode(&classes_among(random, most, style.objects.min(OBJECTS)))
+    let mut table = classes_among(random, most, style.objects);
+    table.objects.iter_mut().for_each(|object| *object += style.first as u8);
+    classes::encode(&table)
 }
 
 /// A table with the whole week in one window.
@@ -268,7 +285,7 @@ fn wild_call(random: &mut Random, object: u8) -> Call {
 pub fn wild_step(random: &mut Random, station: &Station, style: &Style) -> Step {
     let stranger = if random.once_in(8) { some_byte(random) } else { random.below(NODES) as u8 };
     let node = *random.pick(&[stranger, style.owners[0]]);
-    let object = if random.once_in(6) { some_byte(random) } else { random.below(style.objects.min(OBJECTS)) as u8 };
+    let object = if random.once_in(6) { some_byte(random) } else { style.object(random) };
     let at = if random.once_in(10) { usize::from(random.byte()) } else { random.below(station.pool.len() + 2) };
     match random.below(14) {
         13 => Step::LoadClasses { node: stranger, list: some_class_list(random, 2) },
