@@ -156,7 +156,7 @@ fn record_calls(random: &mut Random, station: &Station, counts: &mut Counts) -> 
     let node = random.below(13);
     let me = if random.once_in(8) { random.below(15) as u8 } else { node as u8 };
     let record = bent(random, station.record(node));
-    let (object, live) = (random.below(70) as u8, if random.once_in(2) { ALL } else { random.word() >> random.below(5) });
+    let (object, live) = (random.below(136) as u8, if random.once_in(2) { ALL } else { random.word() >> random.below(5) });
     let size = random.mostly(26, 25);
     let distances = random.bytes(size);
     let (timestamp, value) = (random.next() as u32 >> random.below(32), random.next() as i64);
@@ -249,9 +249,9 @@ fn writers(random: &mut Random, counts: &mut Counts) -> Verdict {
     let number = |random: &mut Random| random.next() as u32 >> random.below(32);
     let (other, rival) = (node(random), node(random));
     let of = Transaction { owner: node(random), serial: number(random), stamp: number(random) };
-    let mut object = random.below(10) as u8;
+    let mut object = random.below(40) as u8;
     let mut entry = |random: &mut Random| {
-        object += random.below(10) as u8;
+        object += random.below(20) as u8;
         let (mode, version) = (random.below_mostly(2, 3) as u8, number(random));
         let value = if mode == 0 && !random.once_in(8) { 0 } else { random.next() as i64 };
         Entry { object, mode, version: if random.once_in(20) { u32::MAX } else { version }, value }

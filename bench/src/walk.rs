@@ -108,7 +108,7 @@ fn node_step(random: &mut Random, station: &Station, node: u8) -> Step {
 
 /// A step of any numbers.
 fn any_step(random: &mut Random) -> Step {
-    let (node, object) = (random.below(15) as u8, random.below(70) as u8);
+    let (node, object) = (random.below(15) as u8, random.below(136) as u8);
     match random.below(15) {
         13 => Step::LoadClasses { node, table: random.byte() },
         14 => Step::Batch {

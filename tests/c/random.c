@@ -567,7 +567,7 @@ enum { OLDER_OBJECTS = 64 };
 static size_t make_older(uint8_t *old, const uint8_t *image, unsigned width)
 {
     unsigned t;
-    old[0] = image[0] == SENNA_OBJECTS ? OLDER_OBJECTS : image[0];
+    old[0] = image[0] == SENNA_OBJECTS ? (uint8_t)OLDER_OBJECTS : image[0];
     for (t = 0; t < OLDER_OBJECTS; t++) {
         memcpy(old + 1 + width * t, image + 1 + 22 * t, width);
     }

@@ -101,7 +101,7 @@ fn order_to(random: &mut Random, image: &[u8], me: u8) -> Vec<u8> {
     let last = OWNERS + 9 * usize::from(owner);
     let serial = number(image, last).wrapping_add([0, 0, 0, 1, u32::MAX][random.below(5)]);
     let of = Transaction { owner, serial, stamp: if random.once_in(4) { 1 } else { number(image, last + 5) } };
-    let mut object = random.below(6) as u8;
+    let mut object = random.below_mostly(6, 100) as u8;
     let mut entry = |random: &mut Random| {
         let mode = random.below(2) as u8;
         let version = number(image, COPIES + COPY * usize::from(object & 127) + 8);
@@ -178,7 +178,7 @@ pub fn at_replica(random: &mut Random, station: &Station, counts: &mut Counts) -
         tweak_image(random, &mut image);
     }
     same("check_image", Product::check_image(&image), Fast::check_image(&image))?;
-    let object = random.below(66) as u8;
+    let object = random.below(136) as u8;
     same("image_author", Product::image_author(&image, object), Fast::image_author(&image, object))?;
     taking_in(random, &image)?;
     for _ in 0..4 {

@@ -109,7 +109,7 @@ fn from_layout(random: &mut Random, rounds: usize, layout: Layout) -> Verdict {
         Program { layout, before: [0; NODES], arrived: 0 }.to_rest(random, &style, &mut run)?;
         waited += usize::from(!run.station.pool.is_empty());
         convert(&mut run, layout)?;
-        let style = if random.once_in(2) { style } else { pointed_style(random) };
+        let style = if random.once_in(3) { style } else { pointed_style(random) };
         let mut today = Program { layout: TODAY, before: std::array::from_fn(|node| run.station.records[node].serial), arrived: 0 };
         today.to_rest(random, &style, &mut run)?;
         run.count_authors();
@@ -123,7 +123,7 @@ fn from_layout(random: &mut Random, rounds: usize, layout: Layout) -> Verdict {
         seen.of(Case::Committed),
         seen.authors.words()
     );
-    let rich = [(compared, 7680), (written, 50), (nobody, 1000), (waited, 10), (arrived, 100), (added, 100)];
+    let rich = [(compared, 7680), (written, 50), (nobody, 1000), (waited, 10), (arrived, 100), (added, 50)];
     let untold = [(unknown, 10), (taken, 200), (replaced, 40)];
     let known = layout.has_authors();
     ensure!(rich.iter().all(|&(count, floor)| count >= floor * rounds), "too poor: {counted}");
