@@ -7,10 +7,9 @@ use lib.ListN.{length}
 use Rattle.numbers.specs.Sizes.{nodes}
 use Rattle.image.specs.Layout.{Shape}
 use Rattle.buffers.specs.declared.Answer.{Answer}
-use Rattle.buffers.specs.Buffers.{recordIn, waiting, ownOf}
 use Rattle.station_intake.specs.Convert.{olderStation, oldAt}
 use Rattle.service.specs.Service.{Call, step}
-use Rattle.service_calls.specs.Lent.{Lent, lent, settingsIn, serviceOf, Whole}
+use Rattle.service_calls.specs.Lent.{Lent, lent, serviceOf, Whole}
 use Rattle.history.specs.Claims.{Demand3, DeliveryNumbers, LastWriters}
 use Rattle.accounts.specs.Accounts.{Origin, RestedAs, Rested, AllTyped, reached, account}
 use Rattle.accounts.specs.Claims.{AddsExactly}
@@ -47,10 +46,10 @@ pub record HoldsOlder (s : Shape) (o : Origin) (old : List ℕ) (b : Lent) : Typ
   pub rested : RestedAs s o
   pub whole : Whole b
   pub images : (n : ℕ) → n < nodes → oldAt s old n ≡ o .machine .station .images n
-  pub records : recordIn (b .station .records) ≡ o .machine .station .records
-  pub pool : waiting (b .station .pool) ≡ o .machine .station .pool
-  pub own : ownOf (b .station .own) ≡ o .machine .station .own
-  pub settings : settingsIn (b .settings) ≡ o .settings
+  pub records : serviceOf b .machine .records ≡ o .machine .station .records
+  pub pool : serviceOf b .machine .pool ≡ o .machine .station .pool
+  pub own : serviceOf b .machine .own ≡ o .machine .station .own
+  pub settings : serviceOf b .settings ≡ o .settings
 
 -- then, once all of them are taken in, the buffers hold that origin converted, before its first step
 abbrev pub GoesOn : List ℕ → ℕ → List ℕ → List ℕ → Type 0
