@@ -224,7 +224,9 @@ fn every_length(random: &mut Random, rounds: usize) -> Verdict {
         }
         bytes.resize(length, 0);
         ensure!(ffi::check_record(&bytes) == record::check_call(&bytes), "a record of {length} bytes is checked otherwise");
-        every_call(random, &record, &bytes, me, LONGEST, &mut seen)?;
+        for _ in 0..rounds {
+            every_call(random, &record, &bytes, me, LONGEST, &mut seen)?;
+        }
     }
     let (case, least) = seen.rarest(|case| matches!(case, Case::Number(_, 1)));
     ensure!(least > 300 * rounds, "too poor: {case:?} {least} times");
