@@ -307,11 +307,12 @@ senna_written senna_write_yield(uint8_t *out, size_t size, uint8_t owner, uint32
  * Formats by length. An image is told by its length alone:
  *
  *   bytes                    written since                    copies                          read by
- *   1207 (SENNA_IMAGE_1207)  the first release                64 of 17 bytes, without author  senna_take_in only
- *   1527 (SENNA_IMAGE_1527)  authors are kept                 64 of 22 bytes                  senna_take_in only
- *   2935 (SENNA_IMAGE)       there are 128 objects; present   128 of 22 bytes, as above       every call on images; senna_take_in writes it
+ *   1207 (SENNA_IMAGE_1207)  the first release                64 of 17 bytes, without author  the two calls that take in
+ *   1527 (SENNA_IMAGE_1527)  authors are kept                 64 of 22 bytes                  the two calls that take in
+ *   2935 (SENNA_IMAGE)       there are 128 objects; present   128 of 22 bytes, as above       every call on images; those two write it
  *
- * A caller who holds images of an older length gets SENNA_LENGTH from every other call: take them in first.
+ * A caller who holds images of an older length gets SENNA_LENGTH from every other call: take them in first, one by one with senna_take_in or a station's
+ * thirteen with senna_station_take_in.
  */
 
 /* Who is no node: for a holder and an author nobody; for an author unknown. */
@@ -818,6 +819,23 @@ uint8_t senna_coordinator_is_ready(const uint8_t *record, size_t length, uint8_t
  */
 uint8_t senna_station_blank(uint8_t *images, size_t images_length, uint8_t *records, size_t records_length, uint8_t *pool,
                             size_t pool_length, uint8_t *own, size_t own_length, uint8_t *settings, size_t settings_length, uint16_t on);
+
+/*
+ * Takes a station's thirteen images of an older length in, all at once: each becomes what senna_take_in makes of it. A program calls it once after an
+ * update, on the kept images of a station, before any other call on them. Records, pool, own and settings stay as they are, and messages that wait are still
+ * delivered. With the station at rest, that is with every record idle, what was booked before and what is booked after count as one running; the call
+ * does not ask for it.
+ *
+ * old            the older images, node 0 first; only read
+ * old_length     the bytes at old: thirteen times SENNA_IMAGE_1207 or thirteen times SENNA_IMAGE_1527
+ * images         where the images go; whatever stood there before is lost
+ * images_length  the bytes at images, SENNA_IMAGES
+ *
+ * Numbers, the lowest that fits: SENNA_LENGTH (old_length is neither of the two, or images_length is not SENNA_IMAGES), SENNA_DAMAGED (any of the
+ * thirteen breaks a rule of its own format). On a refusal nothing is written. Only reads the bytes at old, only writes to images, which must not overlap
+ * old; no heap; re-entrant. On the stack it has a scratch of SENNA_IMAGE bytes.
+ */
+uint8_t senna_station_take_in(const uint8_t *old, size_t old_length, uint8_t *images, size_t images_length);
 
 /*
  * The host's calls at a node: each is the call of the same name on that node's record and settings (senna_coordinator_begin and so on), with its answer

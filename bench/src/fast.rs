@@ -146,6 +146,7 @@ passed_on! {
     fn due(record: &[u8], me: u8, node: u8, object: u8, out: &mut [u8]) -> Written = written(due::call(record, me, node, object, out));
 
     fn station_blank(lent: Lent, on: u16) -> u8 = station::blank(lent, on);
+    fn station_take_in(images: &mut [u8], old: &[u8]) -> u8 = image::take_all_in(old, images);
     fn station_begin(records: &mut [u8], own: &[u8], settings: &mut [u8], node: u8, with: BeginWith) -> Told =
         told(station::begin(records, own, settings, node, with, None));
     fn station_batch(records: &mut [u8], own: &[u8], settings: &mut [u8], node: u8, with: BeginWith, list: &[u8]) -> Told =

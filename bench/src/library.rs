@@ -149,6 +149,7 @@ pub trait Library {
     fn due(record: &[u8], me: u8, node: u8, object: u8, out: &mut [u8]) -> Written;
 
     fn station_blank(lent: Lent, on: u16) -> u8;
+    fn station_take_in(images: &mut [u8], old: &[u8]) -> u8;
     fn station_begin(records: &mut [u8], own: &[u8], settings: &mut [u8], node: u8, with: BeginWith) -> Told;
     fn station_batch(records: &mut [u8], own: &[u8], settings: &mut [u8], node: u8, with: BeginWith, list: &[u8]) -> Told;
     fn station_load_classes(records: &[u8], own: &[u8], settings: &mut [u8], node: u8, list: &[u8]) -> Told;

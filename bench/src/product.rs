@@ -144,6 +144,7 @@ extern "C" {
         out: *mut u8,
         out_length: usize,
     ) -> Written;
+    fn senna_station_take_in(old: *const u8, old_length: usize, images: *mut u8, images_length: usize) -> u8;
     fn senna_station_blank(
         images: *mut u8,
         images_length: usize,
@@ -354,6 +355,10 @@ impl Library for Product {
     #[inline(always)]
     fn take_in(image: &mut [u8], old: &[u8]) -> u8 {
         unsafe { senna_take_in(old.as_ptr(), old.len(), image.as_mut_ptr(), image.len()) }
+    }
+    #[inline(always)]
+    fn station_take_in(images: &mut [u8], old: &[u8]) -> u8 {
+        unsafe { senna_station_take_in(old.as_ptr(), old.len(), images.as_mut_ptr(), images.len()) }
     }
     #[inline(always)]
     fn image_author(image: &[u8], object: u8) -> Author {

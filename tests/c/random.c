@@ -25,7 +25,7 @@
     F(coordinator_found) F(coordinator_request_commit) F(coordinator_abort) F(coordinator_receive) F(coordinator_due)                              \
     F(coordinator_phase) F(coordinator_serial) F(coordinator_timestamp) F(coordinator_outcome) F(coordinator_participants)                         \
     F(coordinator_count) F(coordinator_object) F(coordinator_mode) F(coordinator_is_ready)                                                         \
-    F(station_blank) F(station_begin) F(station_batch) F(station_reselect) F(station_open_read) F(station_open_write)                              \
+    F(station_take_in) F(station_blank) F(station_begin) F(station_batch) F(station_reselect) F(station_open_read) F(station_open_write)           \
     F(station_set_value) F(station_found) F(station_request_commit) F(station_abort)                                                               \
     F(station_load_hours) F(station_load_classes) F(station_send) F(station_deliver)                                                               \
     F(station_drop) F(station_switch) F(station_waiting) F(station_message)
@@ -902,6 +902,27 @@ static void call_blank(void)
     answered(senna_station_blank(i->at, i->length, r->at, r->length, p->at, p->length, o->at, o->length, s->at, s->length, mask()));
 }
 
+/* A station's older images taken in at once: each is then what it was. */
+static void call_take_all_in(void)
+{
+    static uint8_t right[SENNA_NODES * SENNA_IMAGE_1527], again[SENNA_IMAGE_1527];
+    unsigned number, at, width = below(2) ? 22 : 17;
+    size_t length = 0;
+    lent *old, *l;
+    for (at = 0; at < SENNA_NODES; at++) {
+        length += make_older(right + length, images + at * SENNA_IMAGE, width);
+    }
+    old = lend_read(right, length);
+    l = lend(images, SENNA_IMAGES, NULL, 1);
+    number = senna_station_take_in(old->at, old->length, l->at, l->length);
+    for (at = 0; number == SENNA_OK && at < SENNA_NODES; at++) {
+        size_t one = make_older(again, l->at + at * SENNA_IMAGE, width);
+        must(one * SENNA_NODES == old->length && memcmp(again, old->at + at * one, one) == 0, "what is taken in is as it was");
+        must(senna_check_image(l->at + at * SENNA_IMAGE, SENNA_IMAGE) == SENNA_OK && rest_is_blank(l->at + at * SENNA_IMAGE), "each is an image");
+    }
+    answered(number);
+}
+
 static void call_station(void)
 {
     size_t waiting = senna_station_waiting(pool, sizeof pool);
@@ -955,6 +976,8 @@ static void one_call(void)
         call_record();
     } else if (current <= AT_coordinator_receive) {
         call_coordinator();
+    } else if (current == AT_station_take_in) {
+        call_take_all_in();
     } else if (current == AT_station_blank) {
         call_blank();
     } else if (current <= AT_station_abort) {
@@ -1031,6 +1054,7 @@ static const struct {
     {AT_station_load_classes, 0xc477, 0xc477}, {AT_coordinator_waiting, 0x47, 0x47}, {AT_settings_kind, 0x7, 0x7},
     {AT_coordinator_request_commit, 0xb37, 0xa37}, {AT_station_request_commit, 0xb37, 0x837},
     {AT_nearest_read, 0x113, 0x113},        {AT_nearest_write, 0x113, 0x113},   {AT_take_in, 0x7, 0x7},       {AT_image_author, 0x47, 0x47},
+    {AT_station_take_in, 0x7, 0x7},
 };
 
 static void report_reached(void)

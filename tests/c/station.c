@@ -141,6 +141,61 @@ static void last_object(void)
     taken(senna_station_abort(it.records, sizeof it.records, it.own, sizeof it.own, 2), 0, "given up");
 }
 
+/* The older images of a station: thirteen of 64 copies of 17 or 22 bytes, as the present images say. Answers their length. */
+static size_t make_older(uint8_t *old, unsigned width)
+{
+    size_t length = 0;
+    unsigned node, object;
+    for (node = 0; node < SENNA_NODES; node++) {
+        const uint8_t *image = it.images + node * SENNA_IMAGE;
+        old[length++] = 64;
+        for (object = 0; object < 64; object++, length += width) {
+            memcpy(old + length, image + 1 + 22 * object, width);
+        }
+        memcpy(old + length, image + SENNA_IMAGE - 118, 118); /* the count of the owners, and the owners */
+        length += 118;
+    }
+    return length;
+}
+
+/* A refusal: this number, and every byte stays. */
+static void not_taken(const uint8_t *old, size_t old_length, size_t images_length, unsigned number, const char *what)
+{
+    check(senna_station_take_in(old, old_length, it.images, images_length) == number, what);
+    check(memcmp(&it, &before, sizeof it) == 0, "a refusal leaves every byte");
+}
+
+/* All images taken in at once, from both older lengths: what was booked is there, with its author where the images had one. */
+static void taken_in(unsigned width)
+{
+    static uint8_t old[SENNA_NODES * SENNA_IMAGE_1527 + 1];
+    size_t length = make_older(old, width), one = length / SENNA_NODES;
+    unsigned node, owner = width == 22 ? ME : SENNA_UNKNOWN;
+    uint32_t serial = width == 22 ? 1 : 0;
+    check(length == SENNA_NODES * (width == 22 ? SENNA_IMAGE_1527 : SENNA_IMAGE_1207), "thirteen older images");
+    for (node = 0; node < SENNA_NODES; node++) {
+        old[node * one + 1 + 63 * width + 12] ^= 1;
+        not_taken(old, length, sizeof it.images, SENNA_DAMAGED, "one of thirteen is damaged");
+        not_taken(old, length, sizeof it.images - 1, SENNA_LENGTH, "1 before 2");
+        old[node * one + 1 + 63 * width + 12] ^= 1;
+    }
+    not_taken(old, length - 1, sizeof it.images, SENNA_LENGTH, "a byte short");
+    not_taken(old, length + 1, sizeof it.images, SENNA_LENGTH, "a byte long");
+    not_taken(old, one, SENNA_IMAGE, SENNA_LENGTH, "one image alone");
+    memset(it.images, 0xa5, sizeof it.images);
+    check(senna_station_take_in(old, length, it.images, sizeof it.images) == SENNA_OK, "all are taken in");
+    for (node = 0; node < SENNA_NODES; node++) {
+        const uint8_t *image = it.images + node * SENNA_IMAGE;
+        uint8_t alone[SENNA_IMAGE];
+        senna_author last = senna_image_author(image, SENNA_IMAGE, OBJECT);
+        int wrote = (PARTY >> node) % 2 == 1;
+        check(senna_take_in(old + node * one, one, alone, sizeof alone) == SENNA_OK && memcmp(alone, image, sizeof alone) == 0, "as each alone");
+        check(last.number == SENNA_OK && last.owner == (wrote ? owner : SENNA_NOBODY) && last.serial == (wrote ? serial : 0u), "who wrote it last");
+    }
+    memcpy(before.images, it.images, sizeof it.images);
+    check(memcmp(&it, &before, sizeof it) == 0, "only the images change");
+}
+
 /* A node that is off, and the buffers of a step that has nothing to do with them. */
 static void off_and_on(void)
 {
@@ -207,8 +262,10 @@ int main(void)
         distances[2 * at] = 1;
     }
     one_booking();
+    taken_in(22);
     off_and_on();
     bad_buffers();
     last_object();
+    taken_in(17);
     return closing();
 }

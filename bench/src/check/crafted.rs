@@ -151,12 +151,18 @@ pub fn at_coordinator(random: &mut Random, station: &Station, counts: &mut Count
     Ok(())
 }
 
-/// An image as an older one was, with half of its objects, and the oldest without their authors; now and then with another length.
-fn older(random: &mut Random, image: &[u8]) -> Vec<u8> {
-    let (length, width) = *random.pick(&[(OLDER_IMAGES[0], 17), (OLDER_IMAGES[1], COPY)]);
+/// An image as an older one was, with half of its objects and copies of so many bytes.
+fn cut(image: &[u8], width: usize) -> Vec<u8> {
     let mut old = vec![if image[0] == COUNT as u8 { OLDER_OBJECTS as u8 } else { image[0] }];
     image[COPIES..OWNERS - 1].chunks(COPY).take(OLDER_OBJECTS).for_each(|copy| old.extend(&copy[..width]));
     old.extend(&image[OWNERS - 1..]);
+    old
+}
+
+/// An older image, of the oldest ones without authors or of the others; now and then with another length.
+fn older(random: &mut Random, image: &[u8]) -> Vec<u8> {
+    let (length, width) = *random.pick(&[(OLDER_IMAGES[0], 17), (OLDER_IMAGES[1], COPY)]);
+    let mut old = cut(image, width);
     old.resize(random.mostly(length, length - 1), 0);
     old
 }
@@ -170,6 +176,17 @@ fn taking_in(random: &mut Random, image: &[u8]) -> Verdict {
     same("take_in: bytes", one, other)
 }
 
+/// The same of a station's thirteen images: one of them nearly in order, the others as they are.
+fn taking_all_in(random: &mut Random, station: &Station, image: &[u8]) -> Verdict {
+    let (width, odd) = (*random.pick(&[17, COPY]), random.below(14));
+    let mut old: Vec<u8> = (0..13).flat_map(|node| cut(if node == odd { image } else { station.image(node) }, width)).collect();
+    old.resize(random.mostly(old.len(), old.len() - 1), 0);
+    let size = random.mostly(13 * IMAGE, 13 * IMAGE - 1);
+    let (mut one, mut other) = (vec![7; size], vec![7; size]);
+    same("station_take_in", Product::station_take_in(&mut one, &old), Fast::station_take_in(&mut other, &old))?;
+    same("station_take_in: bytes", one, other)
+}
+
 /// An image of the station, nearly in order: its check, what it tells and becomes, and four orders, one after the other.
 pub fn at_replica(random: &mut Random, station: &Station, counts: &mut Counts) -> Verdict {
     let me = random.below(13) as u8;
@@ -181,6 +198,9 @@ pub fn at_replica(random: &mut Random, station: &Station, counts: &mut Counts) -
     let object = random.below(136) as u8;
     same("image_author", Product::image_author(&image, object), Fast::image_author(&image, object))?;
     taking_in(random, &image)?;
+    if random.once_in(16) {
+        taking_all_in(random, station, &image)?;
+    }
     for _ in 0..4 {
         let message = order_to(random, &image, me);
         let message = bend(random, message);

@@ -227,19 +227,43 @@ fn longer<const WIDTH: usize>(old: &[u8]) -> Image {
     image
 }
 
-/// Takes an older image in; its number, 0, 1 or 2.
-pub fn take_in(old: &[u8], image: &mut [u8]) -> u8 {
-    let Ok(image) = <&mut Image>::try_from(image) else { return number::LENGTH };
+/// What an older image becomes, or its number, 1 or 2.
+fn taken(old: &[u8]) -> Result<Image, u8> {
     let taken = match OLDER_IMAGES.map(|length| length == old.len()) {
         [true, _] => longer::<OLDEST_COPY>(old),
         [_, true] => longer::<COPY>(old),
-        _ => return number::LENGTH,
+        _ => return Err(number::LENGTH),
     };
-    if usize::from(old[0]) != OLDER_OBJECTS || !is_valid(&taken) {
+    let sound = usize::from(old[0]) == OLDER_OBJECTS && is_valid(&taken);
+    if sound {
+        Ok(taken)
+    } else {
+        Err(number::DAMAGED)
+    }
+}
+
+/// Takes an older image in; its number, 0, 1 or 2.
+pub fn take_in(old: &[u8], image: &mut [u8]) -> u8 {
+    let Ok(image) = <&mut Image>::try_from(image) else { return number::LENGTH };
+    match taken(old) {
+        Ok(taken) => {
+            *image = taken;
+            0
+        }
+        Err(number) => number,
+    }
+}
+
+/// Takes a station's older images in: none where one of them is damaged.
+pub fn take_all_in(old: &[u8], images: &mut [u8]) -> u8 {
+    let one = old.len() / NODES;
+    if images.len() != NODES * IMAGE || old.len() != NODES * one || !OLDER_IMAGES.contains(&one) {
+        return number::LENGTH;
+    }
+    if old.chunks(one).any(|old| taken(old).is_err()) {
         return number::DAMAGED;
     }
-    *image = taken;
-    0
+    images.chunks_mut(IMAGE).zip(old.chunks(one)).fold(0, |number, (image, old)| number | take_in(old, image))
 }
 
 /// Who wrote an object's copy last, or why it is not told.

@@ -11,10 +11,11 @@ mod stories;
 mod taken;
 mod tampering;
 
+use crate::model::buffers::{take_in_call, IMAGES};
 use crate::model::history::{History, Order};
 use crate::model::image::{Layout, IMAGE};
 use crate::model::message::{Message, LAST};
-use crate::model::quorum::{ALL, NODES};
+use crate::model::quorum::ALL;
 use crate::model::record::RECORD;
 use crate::model::station::{blank, Station, Step};
 use crate::model::{image, number, record, Fault};
@@ -35,6 +36,7 @@ pub fn run(runner: &mut Runner) {
     runner.check("station model: the law of the weights can fail", |_, _| tampering::weights());
     runner.check("station library: scenarios", library_scenarios);
     runner.check("station library: taken in at rest", taken::taken_in);
+    runner.check("station library: thirteen images taken in", taken::thirteen);
     runner.check("station library: bad buffers", bad::bad_buffers);
     runner.check("station library: closing time at every moment", |_, _| closing_time::at_every_moment());
     runner.check("station library: blank", |random, _| compiled::blanks(random));
@@ -166,16 +168,16 @@ impl Run<'_> {
         }
     }
 
-    /// At rest, the images are taken in as an older program left them, in its layout. The running goes on.
-    fn take_in(&mut self, layout: Layout) -> Result<(), String> {
+    /// At rest, the images are taken in as an older program left them, in its layout, one by one or at once. The running goes on.
+    fn take_in(&mut self, layout: Layout, at_once: bool) -> Result<(), String> {
         ensure!(self.station.at_rest(), "taken in while a transaction is under way");
-        for node in 0..NODES {
-            let old = image::encode_as(layout, &self.station.images[node]);
-            let taken = image::take_in_call(&old, IMAGE).map_err(|number| format!("the image of node {node} is not taken in: {number}"))?;
-            self.station.images[node] = image::load(&taken).map_err(|number| format!("what was taken in at node {node} is {number}"))?;
-            if let Some(compiled) = &mut self.compiled {
-                compiled.take_in(node, &old, &self.station.images[node])?;
-            }
+        let old: Vec<Vec<u8>> = self.station.images.iter().map(|image| image::encode_as(layout, image)).collect();
+        let taken = take_in_call(&old.concat(), IMAGES).map_err(|number| format!("the images are not taken in: {number}"))?;
+        for (node, bytes) in taken.chunks(IMAGE).enumerate() {
+            self.station.images[node] = image::load(bytes).map_err(|number| format!("what was taken in at node {node} is {number}"))?;
+        }
+        if let Some(compiled) = &mut self.compiled {
+            compiled.take_in(&old, &self.station.images, at_once)?;
         }
         if let Some(history) = self.history.as_mut().filter(|_| !layout.has_authors()) {
             history.forget_authors();

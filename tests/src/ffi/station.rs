@@ -15,6 +15,7 @@ struct SennaWaiting {
 }
 
 extern "C" {
+    fn senna_station_take_in(old: *const u8, old_length: usize, images: *mut u8, images_length: usize) -> u8;
     fn senna_station_blank(
         images: *mut u8,
         images_length: usize,
@@ -170,6 +171,13 @@ pub fn blank(it: &mut Buffers, on: u16) -> u8 {
     let (a, b, c, d, e) = (images.len(), records.len(), pool.len(), own.len(), settings.len());
     let (images, records, pool) = (images.as_mut_ptr(), records.as_mut_ptr(), pool.as_mut_ptr());
     unsafe { senna_station_blank(images, a, records, b, pool, c, own.as_mut_ptr(), d, settings.as_mut_ptr(), e, on) }
+}
+
+/// The library takes a station's older images in, to a buffer; its number.
+pub fn take_in(old: &[u8], images: &mut [u8]) -> u8 {
+    // SAFETY: the function reads at most `old_length` bytes at `old` and writes at most `images_length` bytes at `images`, both lent for the call and apart
+    // from each other.
+    unsafe { senna_station_take_in(old.as_ptr(), old.len(), images.as_mut_ptr(), images.len()) }
 }
 
 fn host(it: &mut Buffers, node: u8, call: &Call) -> SennaCalled {

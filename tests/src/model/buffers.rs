@@ -7,7 +7,7 @@
 use super::classes;
 use super::coordinator::first;
 use super::hours;
-use super::image::{self, IMAGE};
+use super::image::{self, IMAGE, OLDER};
 use super::message::{self, Message, LONGEST};
 use super::quorum::{ALL, NODES};
 use super::record::{self, RECORD};
@@ -43,6 +43,15 @@ pub fn of(station: &Station) -> Buffers {
         own: station.on.to_le_bytes().to_vec(),
         settings: station.settings.iter().flat_map(settings::encode).collect(),
     }
+}
+
+/// The call that takes a station's thirteen older images in, to a buffer of `size` bytes: 1 where they are not thirteen of one older length or the buffer
+/// has another length, then 2 where any is damaged. "A station converted whole."
+pub fn take_in_call(old: &[u8], size: usize) -> Result<Vec<u8>, u8> {
+    let layout = OLDER.into_iter().find(|layout| NODES * layout.length() == old.len());
+    let layout = layout.filter(|_| size == IMAGES).ok_or(number::LENGTH)?;
+    let images: Result<Vec<Vec<u8>>, u8> = old.chunks(layout.length()).map(|one| image::take_in_call(one, IMAGE)).collect();
+    Ok(images?.concat())
 }
 
 impl Buffers {

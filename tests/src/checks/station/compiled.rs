@@ -72,12 +72,17 @@ impl Compiled {
         Ok(())
     }
 
-    /// The library takes a node's older image in, to the node's part of its images, which then has this one.
-    pub fn take_in(&mut self, node: usize, old: &[u8], image: &Image) -> Result<(), String> {
-        let number = ffi::take_in(old, &mut self.is.images[node * IMAGE..(node + 1) * IMAGE]);
-        ensure!(number == number::OK, "the library does not take node {node}'s older image in: {number}");
-        self.expected.put_image(node, image);
-        self.same().map_err(|name| format!("node {node}'s older image is taken in: the library's {name} are other bytes"))
+    /// The library takes the older images in, one by one or at once, to where its images are, which then has these.
+    pub fn take_in(&mut self, old: &[Vec<u8>], images: &[Image], at_once: bool) -> Result<(), String> {
+        let number = if at_once {
+            library::take_in(&old.concat(), &mut self.is.images)
+        } else {
+            let parts = self.is.images.chunks_mut(IMAGE);
+            parts.zip(old).map(|(part, old)| ffi::take_in(old, part)).max().unwrap_or(number::LENGTH)
+        };
+        ensure!(number == number::OK, "the library does not take the older images in: {number}");
+        (0..).zip(images).for_each(|(node, image)| self.expected.put_image(node, image));
+        self.same().map_err(|name| format!("the older images are taken in: the library's {name} are other bytes"))
     }
 
     /// The event as the library's station tells it.
