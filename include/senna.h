@@ -833,7 +833,7 @@ uint8_t senna_station_blank(uint8_t *images, size_t images_length, uint8_t *reco
  *
  * Numbers, the lowest that fits: SENNA_LENGTH (old_length is neither of the two, or images_length is not SENNA_IMAGES), SENNA_DAMAGED (any of the
  * thirteen breaks a rule of its own format). On a refusal nothing is written. Only reads the bytes at old, only writes to images, which must not overlap
- * old; no heap; re-entrant. On the stack it has a scratch of SENNA_IMAGE bytes.
+ * old; no heap; re-entrant. On the stack it has two scratches of SENNA_IMAGE bytes.
  */
 uint8_t senna_station_take_in(const uint8_t *old, size_t old_length, uint8_t *images, size_t images_length);
 
