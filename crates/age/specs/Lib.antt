@@ -1,2 +1,2 @@
--- What 'older' means.
+-- What 'older' means, and which timestamps come too early.
 pub mod Age

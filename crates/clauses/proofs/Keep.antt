@@ -1,6 +1,6 @@
 -- Every call of the host keeps the clauses, refused or not: each part of a record that the call changes, the rest as it was.
 use mathlib.Core.Path.{_≡_, refl, sym, ap, _∙_, subst}
-use mathlib.Core.Bool.{true, false, cond, not}
+use mathlib.Core.Bool.{Bool, true, false, cond, not}
 use mathlib.Core.List.{List}
 use mathlib.Core.Logic.{⊎-elim}
 use Prim.Native.Nat.{ℕ, _+_, _<_, _≤_}
@@ -12,6 +12,7 @@ use Rattle.numbers.specs.Sizes.{nodes, everyNode, objects as objectsEnd, mostOp
 use Rattle.mask.specs.Mask.{joined, within}
 use Rattle.mask.proofs.Laws.{within-self, within-trans}
 use Rattle.quorum.specs.Nearest.{maskOf}
+use Rattle.age.specs.Age.{tooEarly}
 use Rattle.coordinator.specs.declared.Object.{Object}
 use Rattle.coordinator.specs.declared.Coordinator.{Coordinator}
 use Rattle.coordinator.specs.declared.BeginWith.{BeginWith}
@@ -225,8 +226,8 @@ module _ (s : System) (c : Coordinator) (m : Meets s c) (e : c .phase ≡ openPh
 
 -- ---- the calls
 module _ (s : System) (q : Quorums s) (c : Coordinator) (me : ℕ) (m : Meets s c) where
-  -- begin: the call itself checks the live mask and that the timestamp is above the last
-  begun-meets : (w : BeginWith) (quorum : ℕ) → length (w .distances) ≡ nodes → w .live ≤ everyNode → c .timestamp < w .timestamp
+  -- begin: the call itself checks the live mask and that the timestamp does not come too early, so it is not 0
+  begun-meets : (w : BeginWith) (quorum : ℕ) → length (w .distances) ≡ nodes → w .live ≤ everyNode → 1 ≤ w .timestamp
       → T (s .isRead quorum) → quorum ≤ everyNode → Meets s (begun c w quorum)
   unfolding begun
   begun-meets w quorum n live later read known =
@@ -253,6 +254,14 @@ module _ (s : System) (q : Quorums s) (c : Coordinator) (me : ℕ) (m : Meets s 
         dones = no-dones openPhase 0 0 (λ e. omega arith);
       }
 
+  not-zero : (timestamp : ℕ) → tooEarly (eqb (c .outcome) aborted) (c .timestamp) timestamp ≡ false → 1 ≤ timestamp
+  not-zero timestamp = on-cond (λ (b : Bool). b ≡ false → 1 ≤ timestamp) (eqb (c .outcome) aborted) _ _
+      (λ a e. let h = ltb-false timestamp (c .timestamp) e in
+      let o = eqb-true (c .outcome) aborted a in
+      let z : c .timestamp ≡ 0 → ⊥ = m .numbers .used (λ s. let y = m .numbers .unused s .1 .1 in let x : ⊥ = omega (arith, y, o) in x) in
+      omega (arith, h, z))
+      (λ a e. let h = leb-false timestamp (c .timestamp) e in omega (arith, h))
+
   pub begin-keeps : (w : BeginWith) → length (w .distances) ≡ nodes → Meets s (beginOf s c me w .coordinator)
   unfolding beginOf beginRefusals
   begin-keeps w n =
@@ -260,7 +269,7 @@ module _ (s : System) (q : Quorums s) (c : Coordinator) (me : ℕ) (m : Meets s 
       step-keeps (Meets s) (beginRefusals c me w chosen) (maskOf chosen) c (begun c w (maskOf chosen)) tt m
       (λ k. let live : w .live ≤ everyNode = ltb-false everyNode (w .live) (neither-right (noNode me) (tooWide (w .live)) (k .0)) in
       let good = q .read-chosen me (w .live) (w .distances) live (k .1 .1 .1 .0) in
-      begun-meets w (maskOf chosen) n live (leb-false (w .timestamp) (c .timestamp) (k .1 .1 .0)) (good .0) (good .1))
+      begun-meets w (maskOf chosen) n live (not-zero (w .timestamp) (k .1 .1 .0)) (good .0) (good .1))
 
   -- open
   fresh-opened : (contacted object mode : ℕ) → object < objectsEnd → mode < 2 → Opened contacted (fresh object mode)

@@ -2,12 +2,13 @@
 use mathlib.Core.Bool.{Bool, true, false, cond, not, _||_}
 use mathlib.Core.List.{List, [], _∷_}
 use Prim.Native.Nat.{ℕ, _+_}
-use lib.Dec.{eqb, ltb, leb}
+use lib.Dec.{eqb, ltb}
 use lib.ListN.{set, replicate}
 use Rattle.numbers.specs.Sizes.{nodes, everyNode, objects, mostOpen, highest}
 use Rattle.mask.specs.Mask.{joined}
 use Rattle.numbers.specs.Numbers.{stranger, outOfTurn, noSuchObject, eightOpen, noQuorum, usedUp, busy, notReady}
 use Rattle.numbers.specs.Refusal.{Refusal, refuse, firstOf}
+use Rattle.age.specs.Age.{tooEarly}
 use Rattle.quorum.specs.declared.Choice.{Choice}
 use Rattle.quorum.specs.Nearest.{numberOf, maskOf}
 use Rattle.coordinator.specs.declared.Object.{Object}
@@ -34,7 +35,7 @@ unfoldable pub beginRefusals : Coordinator → ℕ → BeginWith → Choice → 
 beginRefusals c me w chosen =
     refuse stranger (noNode me || tooWide (w .live))
     ∷ refuse busy (not (eqb (c .phase) idlePhase))
-    ∷ refuse outOfTurn (leb (w .timestamp) (c .timestamp))
+    ∷ refuse outOfTurn (tooEarly (eqb (c .outcome) aborted) (c .timestamp) (w .timestamp))
     ∷ refuse noQuorum (isNone chosen)
     ∷ refuse usedUp (not (ltb (c .serial) highest))
     ∷ []

@@ -58,7 +58,8 @@ fn begin_number(c: Coordinator, me: u8, w: BeginWith, chosen: Choice) -> u8
 {
     let used_up = refuse(numbers::USED_UP, !(c.serial < HIGHEST), 0);
     let no_quorum = refuse(numbers::NO_QUORUM, is_none(chosen), used_up);
-    let early = refuse(numbers::OUT_OF_TURN, w.timestamp <= c.timestamp, no_quorum);
+    let behind = age::is_early(c.outcome == ABORTED, c.timestamp, w.timestamp);
+    let early = refuse(numbers::OUT_OF_TURN, behind, no_quorum);
     let busy = refuse(numbers::BUSY, c.phase != IDLE, early);
     refuse(
         numbers::STRANGER,

@@ -13,6 +13,7 @@ ghost use Rattle.coordinator.specs.Calls.{beginRefusals, beginOf, openRefusals,
 ghost use Rattle.coordinator.specs.Calls.{reselectRefusals, reselectOf, requestCommitRefusals, requestCommitOf, abortRefusals, abortOf};
 ghost use Rattle.record.specs.Record.{recordOf, check};
 ghost use Rattle.record.specs.Call.{toldBy, kept};
+use coordinator::ABORTED;
 use coordinator::BeginWith;
 use coordinator::IDLE;
 use coordinator::OPEN;
@@ -71,7 +72,9 @@ pub fn begin_refusal(bytes: &[u8], me: u8, w: BeginWith, chosen: Choice) -> u8
     let timestamp = octets::get_u32(bytes, TIMESTAMP);
     let used_up = refuse(numbers::USED_UP, !(serial < HIGHEST), 0);
     let no_quorum = refuse(numbers::NO_QUORUM, is_none(chosen), used_up);
-    let early = refuse(numbers::OUT_OF_TURN, w.timestamp <= timestamp, no_quorum);
+    let outcome = octets::get_u8(bytes, OUTCOME);
+    let behind = age::is_early(outcome == ABORTED, timestamp, w.timestamp);
+    let early = refuse(numbers::OUT_OF_TURN, behind, no_quorum);
     let busy = refuse(numbers::BUSY, phase(bytes) != IDLE, early);
     refuse(
         numbers::STRANGER,

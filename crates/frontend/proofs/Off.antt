@@ -3,7 +3,7 @@ use mathlib.Core.Path.{_≡_, refl, sym, ap, _∙_, subst}
 use mathlib.Core.Bool.{Bool, true, false, cond, not, _&&_, _||_}
 use mathlib.Core.List.{List}
 use Prim.Native.Nat.{ℕ}
-use lib.Dec.{eqb, ltb, leb}
+use lib.Dec.{eqb, ltb}
 use borrow.Author.Tests.{eq-eqb, eqb-true}
 use Rattle.numbers.specs.Sizes.{highest}
 use Rattle.hours.specs.Hours.{lastMinute}
@@ -11,10 +11,11 @@ use Rattle.hours.specs.Kept.{closed}
 use Rattle.classes.specs.Classes.{noTable, strange, unbounded, twice, tableNumber}
 use Rattle.classes.specs.Classes.{lengthNumber as tableLength}
 use Rattle.classes.specs.Weights.{overweight, batchLength}
+use Rattle.age.specs.Age.{tooEarly}
 use Rattle.coordinator.specs.declared.Coordinator.{Coordinator}
 use Rattle.coordinator.specs.declared.BeginWith.{BeginWith}
 use Rattle.coordinator.specs.System.{System}
-use Rattle.coordinator.specs.State.{idlePhase}
+use Rattle.coordinator.specs.State.{idlePhase, aborted}
 use Rattle.coordinator.specs.Calls.{noNode, tooWide, isNone, beginRefusals, beginOf, requestCommitOf}
 use Rattle.increments.specs.Deeds.{Edit, editOf, anyPast}
 use Rattle.deeds.proofs.Number.{step-number}
@@ -40,7 +41,7 @@ begin-own : (y : System) (c : Coordinator) (me : ℕ) (w : BeginWith) → Own (b
 unfolding beginOf beginRefusals
 begin-own y c me w =
     subst Own (step-number _ _ _ _)
-    (own-codes (noNode me || tooWide (w .live)) (not (eqb (c .phase) idlePhase)) (leb (w .timestamp) (c .timestamp))
+    (own-codes (noNode me || tooWide (w .live)) (not (eqb (c .phase) idlePhase)) (tooEarly (eqb (c .outcome) aborted) (c .timestamp) (w .timestamp))
     (isNone (y .nearestRead me (w .live) (w .distances))) (not (ltb (c .serial) highest)))
 
 -- ---- a missing table alters nothing that is out of turn

@@ -13,6 +13,9 @@ is-none-requires c κs = search needs
 refuse-requires-2 : tie.Need-refuse-requires-2
 refuse-requires-2 c κs = search needs
 
+is-early-requires : tie.Need-is-early-requires
+is-early-requires c κs = search needs
+
 refuse-requires-3 : tie.Need-refuse-requires-3
 refuse-requires-3 c κs = search needs
 
@@ -36,6 +39,7 @@ begin-number-spec =
     refuse-requires
     is-none-requires
     refuse-requires-2
+    is-early-requires
     refuse-requires-3
     refuse-requires-4
     either-requires
