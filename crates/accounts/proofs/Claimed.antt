@@ -1,4 +1,4 @@
--- Demand 3, the numbers of deliveries, who wrote last and the sums of every list of the service's steps, from an origin that is at rest: the claims with
+-- Demand 3, the numbers of deliveries, what late messages do, who wrote last and the sums of every list of the service's steps, from an origin that is at rest: the claims with
 -- replay as the machine has it (OnMachine), where replay that adds is the same (Effects). The blank service is an origin, and so is what a list leaves at
 -- rest.
 use mathlib.Core.Path.{_≡_, refl, sym, subst, _∙_}
@@ -19,7 +19,7 @@ use Rattle.history.specs.Ledger.{ledgerFrom, lastWriter}
 use Rattle.history.specs.Ledger.{lastValue as machineLast, givenTo as machineGiven}
 use Rattle.history.specs.Origin.{ledgerOf, AuthorIs}
 use Rattle.history.specs.Origin.{Rested as MachineRested, originOf as machineOf}
-use Rattle.history.specs.Claims.{Demand3, DeliveryNumbers, Finds, Carries, Sourced, NewestAtRest, Known, LastWriters}
+use Rattle.history.specs.Claims.{Demand3, DeliveryNumbers, EarlierTries, Finds, Carries, Sourced, NewestAtRest, Known, LastWriters}
 use Rattle.history.specs.Claims.{AllTyped as AllStepsTyped}
 use Rattle.history.proofs.Claimed.{typed-suffix}
 use Rattle.history.proofs.Resting.{carried-last}
@@ -31,7 +31,7 @@ use Rattle.accounts.specs.Accounts.{Origin, Rested, blankOrigin, AllType
 use Rattle.accounts.specs.Claims.{AddsExactly}
 use Rattle.accounts.specs.Weighed.{originOf}
 use Rattle.accounts.proofs.Expand.{same-machine, expand-suffix}
-use Rattle.accounts.proofs.OnMachine.{plain-demand, plain-numbers}
+use Rattle.accounts.proofs.OnMachine.{plain-demand, plain-numbers, plain-tries}
 use Rattle.accounts.proofs.Typed.{settings-sound, settings-long, expand-typed}
 use Rattle.accounts.proofs.Weighed.{weighs}
 use Rattle.accounts.proofs.Effects.{last-same, given-same, gave-same, gives-exactly}
@@ -86,6 +86,9 @@ module _ (o : Origin) (r : Rested o) where
 
     pub delivery-number : DeliveryNumbers (account o) cs
     delivery-number = let d = plain-numbers o (r .machine) cs a in record { none-waits = d .none-waits; one-waits = d .one-waits }
+
+    pub earlier-tries : EarlierTries (account o) cs
+    earlier-tries = let d = plain-tries o (r .machine) cs a in record { late = d .late; yields = d .yields }
 
     pub adds-exactly : AddsExactly o cs
     adds-exactly = gives-exactly o (r .machine) (settings-long o r) cs a

@@ -1,4 +1,4 @@
--- Demand 3 and the numbers of deliveries of the service's lists, with replay as the machine's ledger has it: crate history's claims of the machine's steps
+-- Demand 3, the numbers of deliveries and what late messages do, of the service's lists, with replay as the machine's ledger has it: crate history's claims of the machine's steps
 -- that they make. A front end's call makes none ripe, for none of its steps is a delivery; what was found within it is found at its end or was before it.
 use mathlib.Core.Path.{_≡_, refl, sym, subst, toPathP}
 use mathlib.Core.Logic.{_⊎_, inl, inr}
@@ -14,11 +14,12 @@ use Rattle.protocol.specs.Proof.Lists.{suffix-tail, suffix-whole}
 use Rattle.protocol.specs.Proof.Tables.{on, clash}
 use Rattle.history.specs.Ledger.{givenTo, lastValue}
 use Rattle.history.specs.Origin.{Rested as MachineRested}
-use Rattle.history.specs.Claims.{Account, Demand3, DeliveryNumbers, Finds, Ripe, Commits, Ripens}
+use Rattle.history.specs.Claims.{Account, Demand3, DeliveryNumbers, EarlierTries, Finds, Ripe, Commits, Ripens}
 use Rattle.history.specs.Claims.{reached as machineReached, told as machineTold, votes as machineVotes, account as machineAccount, AllTyped as AllStepsTyped}
 use Rattle.history.proofs.Claimed.{typed-suffix}
 use Rattle.history.proofs.Claimed.{demand-3 as machine-demand-3}
 use Rattle.history.proofs.Numbered.{delivery-number as machine-delivery-number}
+use Rattle.history.proofs.Tries.{earlier-tries as machine-earlier-tries}
 use Rattle.service.specs.Service.{Service, Call, front, loadHours, plain, isFront, isOn, planAt, stepAt, stepsAt, made, numberOf, answerOf, putOf}
 use Rattle.accounts.specs.Accounts.{Origin, reached, expand, told, votes}
 use Rattle.accounts.proofs.Expand.{same-machine, expand-suffix}
@@ -26,7 +27,7 @@ use Rattle.accounts.proofs.Follows.{Following, deeds-found}
 use Rattle.accounts.proofs.Plans.{plan-follows}
 
 -- which step of the machine a plain one is, is all that it is
-plain-same : (c d : Step) (p : isFront c ≡ false) (q : isFront d ≡ false) → c ≡ d → plain c p ≡ plain d q
+pub plain-same : (c d : Step) (p : isFront c ≡ false) (q : isFront d ≡ false) → c ≡ d → plain c p ≡ plain d q
 plain-same c d p q e =
     let s = toPathP (λ i. isFront (e i) ≡ false) (Bool-set _ _ _ q) in
     λ i. plain (e i) (s i)
@@ -205,8 +206,15 @@ module _ (o : Origin) where
     on-machine-numbers = let d = machine-delivery-number (o .machine) r (expand o cs) a in
         record { none-waits = d .none-waits; one-waits = d .one-waits }
 
+    on-machine-tries : EarlierTries onMachine cs
+    unfolding made
+    on-machine-tries = let d = machine-earlier-tries (o .machine) r (expand o cs) a in record { late = d .late; yields = d .yields }
+
     pub plain-demand : Demand3 plainAccount cs
     plain-demand = subst (λ (A : Account Call). Demand3 A cs) (sym same-account) on-machine
 
     pub plain-numbers : DeliveryNumbers plainAccount cs
     plain-numbers = subst (λ (A : Account Call). DeliveryNumbers A cs) (sym same-account) on-machine-numbers
+
+    pub plain-tries : EarlierTries plainAccount cs
+    plain-tries = subst (λ (A : Account Call). EarlierTries A cs) (sym same-account) on-machine-tries

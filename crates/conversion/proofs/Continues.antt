@@ -17,12 +17,13 @@ use Rattle.history.specs.Claims.{KnownAs, NewestAtRest}
 use Rattle.history.specs.Claims.{AllTyped as AllStepsTyped, account as machineAccount}
 use Rattle.history.proofs.Claimed.{demand-3 as machine-demand-3}
 use Rattle.history.proofs.Numbered.{delivery-number as machine-delivery-number}
+use Rattle.history.proofs.Tries.{earlier-tries as machine-earlier-tries}
 use Rattle.history.proofs.Resting.{carried-fed, carried-last, carried-given}
 use Rattle.history.proofs.Resting.{last-writers as machine-last-writers}
 use Rattle.history.proofs.First.{carried-first}
 use Rattle.accounts.specs.Accounts.{Origin, RestedAs, AllTyped, reached, expand, told}
 use Rattle.accounts.specs.Accounts.{lastValue as serviceLast}
-use Rattle.accounts.proofs.Claimed.{demand-3, delivery-number, adds-exactly, last-writers}
+use Rattle.accounts.proofs.Claimed.{demand-3, delivery-number, earlier-tries, adds-exactly, last-writers}
 use Rattle.accounts.proofs.Weighed.{weighs}
 use Rattle.conversion.specs.Converted.{Convertible, takenOrigin, takenService}
 use Rattle.conversion.specs.Claims.{Continues, ServiceContinues}
@@ -43,6 +44,7 @@ continues s fit o r =
       fed-first = λ cs. carried-first n (trace (n .station) cs);
       demand-3 = machine-demand-3 n q;
       delivery-number = machine-delivery-number n q;
+      earlier-tries = machine-earlier-tries n q;
       last-writers = machine-last-writers n q;
     }
 
@@ -71,6 +73,7 @@ module _ (s : Shape) (fit : Convertible s) (o : Origin) (r : RestedAs s o) where
           fed-first = λ cs. carried-first (n .machine) (trace (n .machine .station) (expand n cs));
           demand-3 = demand-3 n q;
           delivery-number = delivery-number n q;
+          earlier-tries = earlier-tries n q;
           last-writers = last-writers n q;
         };
         adds-exactly = adds-exactly n q;

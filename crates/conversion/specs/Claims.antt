@@ -5,7 +5,7 @@ use Prim.Native.Nat.{ℕ}
 use Rattle.protocol.specs.Table.{Suffix}
 use Rattle.image.specs.Layout.{Shape}
 use Rattle.history.specs.Ledger.{fed}
-use Rattle.history.specs.Claims.{Account, Demand3, DeliveryNumbers, LastWriters}
+use Rattle.history.specs.Claims.{Account, Demand3, DeliveryNumbers, EarlierTries, LastWriters}
 use Rattle.service.specs.Service.{Call}
 use Rattle.accounts.specs.Accounts.{Origin, AllTyped, account}
 use Rattle.accounts.specs.Claims.{AddsExactly}
@@ -23,6 +23,7 @@ pub record Continues {C : Type 0} (AllTyped : List C → Type 0) (before after :
   pub fed-first : (cs : List C) → Suffix (before .carried) (fed (after .told cs))
   pub demand-3 : (cs : List C) → AllTyped cs → Demand3 after cs
   pub delivery-number : (cs : List C) → AllTyped cs → DeliveryNumbers after cs
+  pub earlier-tries : (cs : List C) → AllTyped cs → EarlierTries after cs
   pub last-writers : (cs : List C) → AllTyped cs → LastWriters after cs
 
 -- Of the service: its running goes on, sums are exact, and the law of weights holds of what was weighed before and since.

@@ -4,7 +4,7 @@ use mathlib.Core.Path.{_≡_, refl, sym, _∙_, subst}
 use mathlib.Core.Logic.{_≢_, inl, inr}
 use mathlib.Core.Bool.{Bool, true, false, cond}
 use mathlib.Core.List.{List}
-use Prim.Native.Nat.{ℕ, _%_, _<_, _≤_}
+use Prim.Native.Nat.{ℕ, _<_, _≤_}
 use native.Mathlib.Omega.{arith}
 use lib.Dec.{T, eqb, ltb}
 use borrow.Author.Tests.{eqb-true, ltb-true}
@@ -15,7 +15,7 @@ use Rattle.mask.proofs.Tests.{T-true}
 use Rattle.quorum.specs.Nearest.{maskOf}
 use Rattle.wire.specs.Message.{done}
 use Rattle.wire.specs.Formed.{countsOk, namesOk, directionOk, wellFormed}
-use Rattle.wire.specs.Decode.{kindOf, fromOf, toOf, ownerOf, serialOf, decode, checkOf}
+use Rattle.wire.specs.Decode.{fromOf, toOf, ownerOf, serialOf, decode, checkOf}
 use Rattle.coordinator.specs.declared.Coordinator.{Coordinator}
 use Rattle.coordinator.specs.declared.BeginWith.{BeginWith}
 use Rattle.coordinator.specs.declared.Step.{Step}
@@ -28,7 +28,7 @@ use Rattle.replica.proofs.Delivered.{either-way}
 use Rattle.clauses.proofs.Parts.{true-T}
 use Rattle.clauses.proofs.Sets.{node-known, within-left, within-right}
 use Rattle.clauses.proofs.Cases.{step-keeps}
-use Rattle.clauses_arrive.proofs.Messages.{vote-owner}
+use Rattle.clauses_arrive.proofs.Messages.{answer-owner, vote-owner}
 use Rattle.clauses.proofs.Cases.{Endings, abort-cases}
 use Rattle.clauses_arrive.proofs.Deliveries.{YesFitting, DoneFitting, saidYes, saidDone, receive-cases}
 use Rattle.steps.specs.Station.{Station, system}
@@ -56,12 +56,6 @@ module _ (b : List ℕ) (ok : checkOf b ≡ 0) where
       let a = and-true (ltb (fromOf b) nodes) _ (named-right .0) .1 in
       let d = and-true (ltb (toOf b) nodes) _ a in
       (ltb-true (toOf b) nodes (d .0), ltb-true (ownerOf b) nodes (and-true (ltb (ownerOf b) nodes) _ (d .1) .0))
-
-  -- a done goes to its owner
-  done-to : kindOf b ≡ done → toOf b ≡ ownerOf b
-  unfolding decode
-  done-to e = eqb-true (toOf b) (ownerOf b)
-      (subst (λ (k : ℕ). cond (eqb (k % 2) 1) (eqb (fromOf b) (ownerOf b)) (eqb (toOf b) (ownerOf b)) ≡ true) e (named-right .1))
 
 -- ---- sets
 pub in-within : (a b i : ℕ) → T (within a b) → contains a i ≡ true → contains b i ≡ true
@@ -200,8 +194,7 @@ module _ (st : Station) (t : InTurn st) (v : Valid st) (n : ℕ) where
         let small = node-known (awaited c) (fromOf b) awaited-known (f .from-node) in
         agreed-by (c .done) i (fromOf b) (omega (arith, small)) e (t .said-done i n)
         (λ q. subst (λ (j : ℕ). Behind (st .images j) n (c .serial)) (sym q)
-        (of-present (Behind (st .images (fromOf b))) (sym (done-to b (f .taken .checked) (f .its-kind)) ∙ f .taken .to-me) (f .its-serial)
-        (w .a-done (f .its-kind))))
+        (of-present (Behind (st .images (fromOf b))) (answer-owner n b (f .taken) done refl (f .its-kind)) (f .its-serial) (w .a-done (f .its-kind))))
 
     pub receive-goes : Goes st t n (receiveOf (system st) c n b .coordinator)
     receive-goes = receive-cases (λ (s : Step). Goes st t n (s .coordinator)) (system st) c n b (record {

@@ -31,6 +31,7 @@
 --   InTurn            why nothing that waits is out of turn: what is kept, over one record, one image or another pool
 --   Going, Turned     coordinators keep it; every step does
 --   Room, Numbered    the pool has at most 128 messages; the number of every delivery
+--   Tries             what waits of an earlier transaction changes nothing where it comes
 --   Spare             only a begin ends idleness and opens; the record of what is no node stays idle
 --   Resting           at rest every newest copy has replay's last value and last writer, and what is at rest is an origin again
 --   First             whatever follows an origin, replay is fed what it carries first
@@ -76,6 +77,7 @@ pub mod Spare
 pub mod Origins
 pub mod Claimed
 pub mod Numbered
+pub mod Tries
 pub mod Resting
 pub mod First
 pub mod Ranks

@@ -200,17 +200,17 @@ module _ (st : Station) (L : Ledger) (F : Past) (w : World st L F) (t : InTurn s
       ∙ ap (λ (x : Bool). cond x (arriving st k kept b) (refusedWith (checkOf b) st))
       (eq-eqb (checkOf b) 0 (waits-well (w .state) b (w .sim .waits b waiting)))
 
-  arrives-at : (kept up order : Bool) → contains (st .own .on) (toOf b) ≡ up → forReplica (kindOf b) ≡ order
+  pub arrives-at : (kept up order : Bool) → contains (st .own .on) (toOf b) ≡ up → forReplica (kindOf b) ≡ order
       → step st (delivery k kept) ≡ cond up (cond order (atReplica st k kept (toOf b) b) (atCoordinator st k kept (toOf b) b)) (taken 0 (takenOut st k kept))
   unfolding arriving
   arrives-at kept up order p q = arrives kept
       ∙ ap₂ (λ (x y : Bool). cond x (cond y (atReplica st k kept (toOf b) b) (atCoordinator st k kept (toOf b) b)) (taken 0 (takenOut st k kept))) p q
 
   -- what the replica makes of it
-  abbrev made : Delivered
+  abbrev pub made : Delivered
   made = Rattle.replica.specs.Receive.step (st .images (toOf b)) (toOf b) (decode b)
 
-  replica-is : (kept : Bool) → forReplica (kindOf b) ≡ true → atReplica st k kept (toOf b) b ≡ answered st k kept (toOf b) (made .image) (made .answer)
+  pub replica-is : (kept : Bool) → forReplica (kindOf b) ≡ true → atReplica st k kept (toOf b) b ≡ answered st k kept (toOf b) (made .image) (made .answer)
   unfolding atReplica
   replica-is kept e =
       let l = st .images (toOf b) in

@@ -1,5 +1,5 @@
 -- What is claimed of every list of steps from an origin that is `Rested`, the blank station being one, whichever nodes are on: demand 3, the numbers of
--- deliveries, and who wrote last. It is said once, of whatever steps an `Account` is of: here the station's own, above it those of the service. A list is
+-- deliveries, what a late message does, and who wrote last. It is said once, of whatever steps an `Account` is of: here the station's own, above it those of the service. A list is
 -- newest first, so the lists that came before are its ends; what is claimed after every list is claimed after every one of those.
 use mathlib.Core.Path.{_≡_}
 use mathlib.Core.Logic.{_≢_, _⊎_}
@@ -13,9 +13,9 @@ use Rattle.numbers.specs.Sizes.{nodes, objects, mostWaiting, unknown}
 use Rattle.mask.specs.Mask.{contains}
 use Rattle.numbers.specs.Numbers.{outOfTurn, poolFull}
 use Rattle.wire.specs.declared.Entry.{Entry}
-use Rattle.wire.specs.Message.{ask, outcome}
-use Rattle.wire.specs.Decode.{kindOf, decode}
-use Rattle.wire.specs.Items.{wordOf}
+use Rattle.wire.specs.Message.{ask, outcome, yield}
+use Rattle.wire.specs.Decode.{kindOf, toOf, ownerOf, serialOf, decode}
+use Rattle.wire.specs.Items.{rivalOf, wordOf}
 use Rattle.image.specs.Field.{fieldOf}
 use Rattle.image.specs.Layout.{Shape, shape, authorField, value, version, author}
 use Rattle.coordinator.specs.declared.Coordinator.{Coordinator}
@@ -102,6 +102,11 @@ pub record Ripe (L : Ledger) (B : Ballots) (x : Tx) : Type 0 where
 abbrev pub Sourced : Ledger → (Tx → ℕ → ℕ) → ℕ → ℕ → Type 0
 Sourced L gave t v = (v ≡ 0) ⊎ ((y : Tx) × In y (L .committed) × (L .mode y t ≡ write) × (v ≡ gave y t))
 
+-- no copy, no list, no owner's row and no record is another
+pub record Unmoved (st st' : Station) : Type 0 where
+  pub images : (n : ℕ) → st' .images n ≡ st .images n
+  pub records : (n : ℕ) → st' .records n ≡ st .records n
+
 -- What is seen of lists of steps of a kind C: the transactions carried to their origin; after a list the station, what it told of transactions and what of
 -- votes; what replay of it gives a transaction for an object, the new value that the transaction gives the object there, and the last values; of one more
 -- step its number, its answer and the message that it put; and which steps are a delivery, kept or not, and a found call at a node.
@@ -179,6 +184,20 @@ module _ {C : Type 0} (A : Account C) where
     pub none-waits : (k : ℕ) (kept : Bool) → length (A .reached cs .pool) ≤ k → A .number cs (A .deliver k kept) ≡ outOfTurn
     pub one-waits : (k : ℕ) (kept : Bool) → k < length (A .reached cs .pool)
         → (A .number cs (A .deliver k kept) ≡ 0) ⊎ Crowded (A .reached cs .pool) kept (A .number cs (A .deliver k kept)) (A .put cs (A .deliver k false))
+
+  -- "Two tries differ by serial, so a late message of the first never counts for the second" (document 02, 2.7): delivering what waits of an earlier
+  -- transaction than its owner's present one changes no image and no record, and so does a yield that names another transaction than the receiver's
+  -- present one. (A yield is of the transaction that was preferred, not of the one that it names.)
+  abbrev pub waiting : List C → ℕ → List ℕ
+  waiting cs k = getD (A .reached cs .pool) k []
+
+  pub record EarlierTries (cs : List C) : Type 0 where
+    pub late : (k : ℕ) (kept : Bool) → k < length (A .reached cs .pool) → kindOf (waiting cs k) ≢ yield
+        → serialOf (waiting cs k) < A .reached cs .records (ownerOf (waiting cs k)) .serial
+        → Unmoved (A .reached cs) (A .reached (A .deliver k kept ∷ cs))
+    pub yields : (k : ℕ) (kept : Bool) → k < length (A .reached cs .pool) → kindOf (waiting cs k) ≡ yield
+        → rivalOf (waiting cs k) 0 .serial ≢ A .reached cs .records (toOf (waiting cs k)) .serial
+        → Unmoved (A .reached cs) (A .reached (A .deliver k kept ∷ cs))
 
   -- Who wrote last (document 02, 2.5). No step makes an author unknown. And at rest every newest copy has replay's last value, and its author, if it is
   -- known, is replay's last writer: nobody (255 and 0) exactly where the object has none.

@@ -21,7 +21,7 @@ use Rattle.accounts.specs.Accounts.{Origin, Typed, AllTyped, blankOrigin, reach
 use Rattle.accounts.specs.Weighed.{originOf}
 use Rattle.accounts.proofs.Expand.{same-machine}
 use Rattle.accounts.proofs.Typed.{expand-typed}
-use Rattle.accounts.proofs.Claimed.{demand-3, delivery-number, adds-exactly, last-writers, blank-rested, rests}
+use Rattle.accounts.proofs.Claimed.{demand-3, delivery-number, earlier-tries, adds-exactly, last-writers, blank-rested, rests}
 use Rattle.accounts.proofs.Weighed.{weighs}
 use Rattle.runs.specs.Left.{toldOf, leftOf}
 use Rattle.runs.specs.Held.{Holds, Claimed}
@@ -67,6 +67,7 @@ claimed b c t o cs h =
       weighs = weighs o (h .rested) (c ∷ cs) a;
       last-writers = last-writers o (h .rested) (c ∷ cs) a;
       numbers = delivery-number o (h .rested) (c ∷ cs) a;
+      earlier-tries = earlier-tries o (h .rested) (c ∷ cs) a;
     }
 
 -- the maker of a blank service leaves what the empty list left

@@ -10,7 +10,7 @@ use Rattle.buffers.specs.declared.Answer.{Answer}
 use Rattle.station_intake.specs.Convert.{olderStation, oldAt}
 use Rattle.service.specs.Service.{Call, step}
 use Rattle.service_calls.specs.Lent.{Lent, lent, serviceOf, Whole}
-use Rattle.history.specs.Claims.{Demand3, DeliveryNumbers, LastWriters}
+use Rattle.history.specs.Claims.{Demand3, DeliveryNumbers, EarlierTries, LastWriters}
 use Rattle.accounts.specs.Accounts.{Origin, RestedAs, Rested, AllTyped, reached, account}
 use Rattle.accounts.specs.Claims.{AddsExactly}
 use Rattle.accounts.specs.Weighed.{Weighs}
@@ -25,7 +25,8 @@ pub record Holds (o : Origin) (cs : List Call) (b : Lent) : Type 0 where
   pub service : serviceOf b ≡ reached o cs
 
 -- after one more step, told r: the buffers hold what the longer list left, the number and the answer are the step's own, and the claims hold of
--- the longer list: demand 3, no sum of a batch wrapped, the weights kept, who wrote last, and the numbers of deliveries
+-- the longer list: demand 3, no sum of a batch wrapped, the weights kept, who wrote last, the numbers of deliveries, and that no
+-- late message counts
 pub record Next (o : Origin) (cs : List Call) (c : Call) (r : Answer) (b : Lent) : Type 0 where
   pub holds : Holds o (c ∷ cs) b
   pub number : r .number ≡ step (reached o cs) c .number
@@ -35,6 +36,7 @@ pub record Next (o : Origin) (cs : List Call) (c : Call) (r : Answer) (b : Lent)
   pub weighs : Weighs o (c ∷ cs)
   pub last-writers : LastWriters (account o) (c ∷ cs)
   pub numbers : DeliveryNumbers (account o) (c ∷ cs)
+  pub earlier-tries : EarlierTries (account o) (c ∷ cs)
 
 -- whatever origin and list of steps the buffers before hold
 abbrev pub Claimed : Lent → Call → Answer → Lent → Type 0
