@@ -120,17 +120,29 @@ static void load_packing_hours(node *n, unsigned opens, unsigned closes, uint32_
 }
 
 /*
- * Begins a booking of the batch on the scale, with a later timestamp than ever before, and opens the supplier's tally to write it. Where it cannot begin,
- * as outside of packing hours, the batch stays on the scale and the next turn tries again.
+ * Whether the node's last booking was sent back: voted down, made to yield, or given up. Its batch is then still on the scale, and is begun again with the
+ * timestamp of its first try: the older of two bookings goes first, so whoever was sent back keeps his place before all that came after him. With a new
+ * timestamp each time, a batch might be sent back for ever by younger ones. The record has the timestamp, so that a power cut does not lose the place.
+ */
+static bool sent_back(const node *n)
+{
+    return senna_coordinator_outcome(n->memory.record, SENNA_RECORD) == SENNA_ABORTED;
+}
+
+/*
+ * Begins a booking of the batch on the scale, with the last timestamp where it was sent back, else with a later one than ever before, and opens the
+ * supplier's tally to write it. Where it cannot begin, as outside of packing hours, the batch stays on the scale and the next turn tries again.
  */
 static void begin_booking(station *s, node *n)
 {
+    bool again = sent_back(n);
+    uint32_t timestamp = again ? senna_coordinator_timestamp(n->memory.record, SENNA_RECORD) : ++s->timestamp;
     uint8_t distances[SENNA_DISTANCES] = {0}; /* thirteen 16-bit numbers, low byte first */
     for (size_t i = 0; i < SENNA_NODES; i++) {
         distances[2 * i] = 1;
     }
     senna_called begun = senna_coordinator_begin(n->memory.record, SENNA_RECORD, n->memory.settings, SENNA_SETTINGS, n->number, live_nodes(s),
-                                                 distances, sizeof distances, ++s->timestamp, s->day, s->minute);
+                                                 distances, sizeof distances, timestamp, s->day, s->minute);
     if (begun.number != SENNA_OK) {
         printf("node %u: cannot begin: %s\n", n->number, senna_word(begun.number));
         return;
@@ -138,8 +150,8 @@ static void begin_booking(station *s, node *n)
     must(senna_coordinator_open_write(n->memory.record, SENNA_RECORD, n->memory.settings, SENNA_SETTINGS, n->number, SUPPLIER).number,
          "open to write");
     keep(n);
-    printf("node %u: begins booking %" PRIu32 ", %" PRId64 " g for supplier %d\n", n->number,
-           senna_coordinator_serial(n->memory.record, SENNA_RECORD), n->memory.batch, SUPPLIER);
+    printf("node %u: begins booking %" PRIu32 ", %" PRId64 " g for supplier %d%s\n", n->number,
+           senna_coordinator_serial(n->memory.record, SENNA_RECORD), n->memory.batch, SUPPLIER, again ? ", in its old place" : "");
 }
 
 /* The tally's value has been found: sets the new one and asks for votes. Where no write quorum is live the booking is given up for now. */
@@ -161,13 +173,15 @@ static void ask_for_votes(node *n)
 
 /*
  * Sends every message that is due, to each node. Safe to do as often as one likes. While a booking is open, due is asked for each of its objects;
- * here it has one.
+ * here it has one. Asks go to node 0 alone until its yes has come: every booking needs node 0's vote, so of two that meet, one is sent back there, before it
+ * holds any copy elsewhere that the other needs. Two that ask all nodes at once can send each other back again and again, each by what it holds.
  */
 static void send_due(station *s, const node *n)
 {
     uint8_t message[SENNA_MESSAGE_MAX];
     uint8_t object = senna_coordinator_object(n->memory.record, SENNA_RECORD, 0);
-    if (senna_coordinator_phase(n->memory.record, SENNA_RECORD) == SENNA_IDLE) {
+    uint8_t phase = senna_coordinator_phase(n->memory.record, SENNA_RECORD);
+    if (phase == SENNA_IDLE) {
         return;
     }
     for (uint8_t to = 0; to < SENNA_NODES; to++) {
@@ -175,6 +189,9 @@ static void send_due(station *s, const node *n)
         must(due.number, "due");
         if (due.length > 0) {
             put(s, message, due.length);
+            if (phase == SENNA_VOTING && to == 0) {
+                return;
+            }
         }
     }
 }
@@ -367,7 +384,7 @@ static void show_last_booking(const node *n)
 int main(void)
 {
     static station s;
-    node *five = &s.nodes[5], *eight = &s.nodes[8];
+    node *three = &s.nodes[3], *five = &s.nodes[5], *eight = &s.nodes[8];
     blank_station(&s);
     show_last_booking(&s.nodes[0]);
 
@@ -377,9 +394,9 @@ int main(void)
 
     printf("\n-- power cut while votes are coming\n");
     weigh(five, 8300);
-    carry_on(&s, 1);       /* begins, and the tally's value is found */
-    take_turn(&s, five);   /* asks seven nodes for their votes */
-    deliver(&s, 10);       /* seven asks and three votes */
+    carry_on(&s, 2);       /* begins and finds the tally's value, then asks node 0, which votes yes */
+    take_turn(&s, five);   /* asks the six others for their votes */
+    deliver(&s, 8);        /* six asks and two votes */
     cut_power(five);       /* not booked: four votes are missing */
     deliver(&s, SIZE_MAX); /* and find nobody */
     start(five);
@@ -387,7 +404,7 @@ int main(void)
 
     printf("\n-- power cut after it was booked, before the others know\n");
     weigh(five, 9100);
-    carry_on(&s, 2); /* begins, then asks and is booked */
+    carry_on(&s, 3); /* begins, asks node 0, asks the others and is booked */
     cut_power(five);
     start(five);
     carry_on(&s, ROUNDS);
@@ -397,6 +414,14 @@ int main(void)
     carry_on(&s, 1); /* node 8 begins; being older it goes first */
     weigh(five, 60);
     carry_on(&s, ROUNDS);
+
+    printf("\n-- sent back, and still before a younger one\n");
+    weigh(eight, 300);
+    carry_on(&s, 1); /* node 8 begins, and is the oldest */
+    weigh(five, 45);
+    carry_on(&s, 3); /* node 8 is booked, and node 5 is sent back */
+    weigh(three, 500);
+    carry_on(&s, ROUNDS); /* node 3 asks before node 5 does, but node 5 has kept its place */
 
     printf("\n-- no write quorum without node 0\n");
     cut_power(&s.nodes[0]);
@@ -424,11 +449,12 @@ int main(void)
     start(eight);
     carry_on(&s, 1);
     weigh(five, 90); /* node 5 has hours of its own: none are loaded, so all are open */
-    carry_on(&s, 3);
+    carry_on(&s, 4);
     set_clock(&s, 20815, 0, 6, 0);
     carry_on(&s, ROUNDS);
 
-    printf("\nbooked at node 5: %" PRId64 " g, at node 8: %" PRId64 " g\n", five->memory.booked, eight->memory.booked);
+    printf("\nbooked at node 3: %" PRId64 " g, at node 5: %" PRId64 " g, at node 8: %" PRId64 " g\n", three->memory.booked, five->memory.booked,
+           eight->memory.booked);
     show_last_booking(&s.nodes[0]);
     return EXIT_SUCCESS;
 }

@@ -73,7 +73,7 @@ extern "C" {
 #define SENNA_DAMAGED 2        /* stored bytes, or a table that is loaded, break a rule of their format */
 #define SENNA_GARBLED 3        /* a message breaks a rule of its format, a minute is above 10,079, a weight above 1,999, or a batch too long */
 #define SENNA_STRANGER 4       /* a node above 12, a mask above 8191, or a message for another node */
-#define SENNA_OUT_OF_TURN 5    /* wrong phase or state, a timestamp not above the last, or a batch where a call or a table does not fit */
+#define SENNA_OUT_OF_TURN 5    /* wrong phase or state, a timestamp that comes too early, or a batch where a call or a table does not fit */
 #define SENNA_NO_SUCH_OBJECT 6 /* above 127, opened twice, not opened, or a value set on a read; a class that there is not */
 #define SENNA_EIGHT_OPEN 7     /* a ninth object */
 #define SENNA_NO_QUORUM 8      /* the live nodes contain no quorum */
@@ -554,9 +554,10 @@ uint8_t senna_blank_record(uint8_t *record, size_t length);
  *   3. what is due, and deliveries, as in any transaction, until every object is ready (senna_coordinator_is_ready)
  *   4. senna_coordinator_request_commit: each new value is the one found plus the grams, in signed 64 bits
  *   5. what is due, and deliveries, to the last done
- * Aborted, by a no, by a yield, by the host or at step 4, a batch has booked nothing and moved no tenth: the host books the same weights again, with a
- * new timestamp. From the delivery on that answers SENNA_COMMITTED the new tenths wait, and not before (senna_coordinator_waiting). Over the batches
- * committed since the table was loaded, ten times the grams booked and the tenths that wait are together the sum of all weights, class by class.
+ * Aborted, by a no, by a yield, by the host or at step 4, a batch has booked nothing and moved no tenth: the host books the same weights again, with the
+ * same timestamp, so that it keeps its place. From the delivery on that answers SENNA_COMMITTED the new tenths wait, and not before
+ * (senna_coordinator_waiting). Over the batches committed since the table was loaded, ten times the grams booked and the tenths that wait are together the
+ * sum of all weights, class by class.
  *
  * Which number is given for what; each call tries them from the top:
  *
@@ -646,6 +647,13 @@ senna_called senna_settings_kind(const uint8_t *settings, size_t length);
 senna_called senna_coordinator_waiting(const uint8_t *record, size_t length, const uint8_t *settings, size_t settings_length, uint8_t class_number);
 
 /*
+ * Turns. Of two transactions that meet, the older goes first: the one with the smaller timestamp, of equal ones that of the lower node. Whoever was sent
+ * back keeps his place: after an abort, whatever its cause (a no, a yield, senna_coordinator_abort, a batch given up), a begin takes the last timestamp
+ * again, or any above it, and refuses a lower one. After a commit, and before the first transaction, it must be above the last. 0 is never taken. Each begin
+ * has a serial of its own, so a late message of one try never counts for the next.
+ */
+
+/*
  * Begins a transaction of the host's own with the next serial, in packing hours; answers the chosen read quorum, the nearest for node me. The settings then
  * have the kind SENNA_KIND_OWN and the tenths that wait; their tables stay.
  *
@@ -654,13 +662,14 @@ senna_called senna_coordinator_waiting(const uint8_t *record, size_t length, con
  * live             the nodes that may be chosen, at most SENNA_ALL
  * distances        SENNA_DISTANCES bytes, as for senna_nearest_read; only read
  * size             the bytes at distances; another number than SENNA_DISTANCES is SENNA_LENGTH
- * timestamp        above the last one, also after an abort
+ * timestamp        after an abort the last one or any above it, else one above the last; never 0
  * day, minute      now, as the settings' comment says
  *
  * Numbers, in this order: SENNA_LENGTH, SENNA_DAMAGED (the record or the settings), SENNA_GARBLED (minute above 10,079, also where no table is
- * loaded), SENNA_STRANGER (me above 12, or live above SENNA_ALL), SENNA_BUSY (the phase is not SENNA_IDLE), SENNA_OUT_OF_TURN (timestamp not above the
- * last), SENNA_NO_QUORUM, SENNA_USED_UP (the last serial is 4294967295), SENNA_CLOSED (a table is loaded, and the day is a closed date or no window
- * has the minute). After SENNA_CLOSED the host tries again at its next open minute, with the same timestamp if it likes: nothing was used up.
+ * loaded), SENNA_STRANGER (me above 12, or live above SENNA_ALL), SENNA_BUSY (the phase is not SENNA_IDLE), SENNA_OUT_OF_TURN (timestamp below the
+ * last, or the last one where the last transaction was not aborted), SENNA_NO_QUORUM, SENNA_USED_UP (the last serial is 4294967295), SENNA_CLOSED (a table is
+ * loaded, and the day is a closed date or no window has the minute). After SENNA_CLOSED the host tries again at its next open minute, with the same
+ * timestamp if it likes: nothing was used up.
  */
 senna_called senna_coordinator_begin(uint8_t *record, size_t length, uint8_t *settings, size_t settings_length, uint8_t me, uint16_t live,
                                      const uint8_t *distances, size_t size, uint32_t timestamp, uint32_t day, uint16_t minute);
@@ -670,7 +679,7 @@ senna_called senna_coordinator_begin(uint8_t *record, size_t length, uint8_t *se
  * the table's order, with its grams as its new value for now, and the present read quorum is contacted. The settings then have the kind SENNA_KIND_BATCH, the
  * tenths that wait and those that this batch leaves over. A batch without weights is one too; it adds 0 grams to each object. Next the host sends what is
  * due, until every object is ready, and then calls senna_coordinator_request_commit; it opens nothing and gives no value. After an abort it begins the same
- * batch again.
+ * batch again, with the same timestamp if it likes.
  *
  * settings            the node's settings, changed in place
  * settings_length     the bytes at settings; another number than SENNA_SETTINGS is SENNA_LENGTH
@@ -680,8 +689,8 @@ senna_called senna_coordinator_begin(uint8_t *record, size_t length, uint8_t *se
  *
  * Numbers, in this order: SENNA_LENGTH (also where size is another than 2 and twice the count), SENNA_DAMAGED (the record or the settings), SENNA_GARBLED (a
  * weight above 1,999, more than SENNA_WEIGHTS_MAX weights, or a minute above 10,079), SENNA_STRANGER (me above 12, or live above SENNA_ALL), SENNA_BUSY (the
- * phase is not SENNA_IDLE), SENNA_OUT_OF_TURN (no table of classes is loaded, or timestamp not above the last), SENNA_NO_QUORUM, SENNA_USED_UP (the last
- * serial is 4294967295), SENNA_CLOSED (as for senna_coordinator_begin).
+ * phase is not SENNA_IDLE), SENNA_OUT_OF_TURN (no table of classes is loaded, or timestamp as for senna_coordinator_begin), SENNA_NO_QUORUM, SENNA_USED_UP
+ * (the last serial is 4294967295), SENNA_CLOSED (as for senna_coordinator_begin).
  */
 senna_called senna_coordinator_batch(uint8_t *record, size_t length, uint8_t *settings, size_t settings_length, uint8_t me, uint16_t live,
                                      const uint8_t *distances, size_t distances_length, uint32_t timestamp, uint32_t day, uint16_t minute,
@@ -775,7 +784,7 @@ senna_written senna_coordinator_due(const uint8_t *record, size_t length, uint8_
  *
  *   phase         SENNA_IDLE to SENNA_FINISHING
  *   serial        of the present or last transaction; 0 before the first
- *   timestamp     of the present or last transaction; 0 before the first
+ *   timestamp     of the present or last transaction; 0 before the first. Idle with the outcome SENNA_ABORTED, the host may begin with it again
  *   outcome       SENNA_COMMITTED or SENNA_ABORTED, of the last transaction that was decided; 0 before the first. While SENNA_OPEN or
  *                 SENNA_VOTING this is still the one before, so look at the phase too
  *   participants  the mask of the nodes whose votes are asked for; 0 before they are, and when idle

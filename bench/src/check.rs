@@ -159,7 +159,10 @@ fn record_calls(random: &mut Random, station: &Station, counts: &mut Counts) -> 
     let (object, live) = (random.below(136) as u8, if random.once_in(2) { ALL } else { random.word() >> random.below(5) });
     let size = random.mostly(26, 25);
     let distances = random.bytes(size);
-    let (timestamp, value) = (random.next() as u32 >> random.below(32), random.next() as i64);
+    let last = walk::last_timestamp(station.record(node));
+    let any = random.next() as u32 >> random.below(32);
+    let timestamp = *random.pick(&[any, last, last.saturating_sub(1), last.saturating_add(1)]);
+    let value = random.next() as i64;
     let settings = bent(random, station.settings(node));
     let (day, minute) = (random.below(3) as u32, *random.pick(&[0, 599, 600, 650, 699, 700, 10_079, 10_080, 65_535]));
     let with = BeginWith { live, distances: &distances, timestamp, day, minute };

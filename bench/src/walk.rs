@@ -80,6 +80,11 @@ fn open_step(random: &mut Random, node: u8, record: &[u8]) -> Step {
     }
 }
 
+/// The timestamp of a record's last transaction.
+pub fn last_timestamp(record: &[u8]) -> u32 {
+    u32::from_le_bytes(std::array::from_fn(|i| record[TIMESTAMP + i]))
+}
+
 /// A step at a node, by the phase of its record.
 fn node_step(random: &mut Random, station: &Station, node: u8) -> Step {
     let record = station.record(usize::from(node));
@@ -88,8 +93,8 @@ fn node_step(random: &mut Random, station: &Station, node: u8) -> Step {
     let send = |random: &mut Random, to| Step::Send { node, to: node_of(random, to), object: 0 };
     match record[PHASE] {
         0 => {
-            let last = u32::from_le_bytes([record[TIMESTAMP], record[TIMESTAMP + 1], record[TIMESTAMP + 2], record[TIMESTAMP + 3]]);
-            let timestamp = last.wrapping_add(random.below(12) as u32);
+            // One below the last, the last, and later ones.
+            let timestamp = last_timestamp(record).wrapping_add(random.below(12) as u32).saturating_sub(1);
             let (day, minute) = clock(random);
             let (live, distances) = (live(random), distances(random));
             match random.below(8) {

@@ -186,10 +186,11 @@ static void two_batches(void)
     check(votes(SENNA_NO, 0) == SENNA_ABORTED && waits(0) == 0, "aborted: nothing waits");
     check(load(ME, one, sizeof one) == SENNA_BUSY, "no table is loaded before its last done");
     dones();
-    check(batch(1, first, sizeof first) == SENNA_OUT_OF_TURN && batch(2, first, sizeof first) == SENNA_OK, "again, with a new timestamp");
+    check(batch(0, first, sizeof first) == SENNA_OUT_OF_TURN && batch(1, first, sizeof first) == SENNA_OK, "again, with the same timestamp");
     copy(7, 0, 0);
     check(ask() == SENNA_OK && new_value(0) == 3 && votes(SENNA_YES, 0) == SENNA_COMMITTED && waits(0) == 7, "3 grams, and 7 tenths wait");
     dones();
+    check(batch(1, second, sizeof second) == SENNA_OUT_OF_TURN, "which was committed with it, and may not have it again");
     check(batch(3, second, sizeof second) == SENNA_OK && waits(0) == 7, "6.4 g: with the 7 tenths 7 grams and 1 tenth");
     copy(7, 1, 3);
     check(ask() == SENNA_OK && new_value(0) == 10 && votes(SENNA_YES, 7) == SENNA_COMMITTED && waits(0) == 1, "10 grams, and 1 tenth waits");
@@ -225,7 +226,8 @@ static void on_a_batch(void)
     check(c.number == SENNA_USED_UP && c.answer == SENNA_ABORTED, "a value past the range: given up, and the answer says so");
     check(memcmp(record, aborted, sizeof record) == 0 && memcmp(settings, settings_before, sizeof settings) == 0, "only the record has changed");
     dones();
-    check(batch(3, first, sizeof first) == SENNA_OK, "a batch");
+    check(batch(1, first, sizeof first) == SENNA_OUT_OF_TURN, "after that a lower timestamp comes too early");
+    check(batch(2, first, sizeof first) == SENNA_OK, "the same batch, with the same timestamp");
     copy(7, 8, INT64_MAX - 3);
     check(ask() == SENNA_OK && new_value(0) == INT64_MAX, "up to the range's end");
 }

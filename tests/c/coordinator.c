@@ -1,6 +1,7 @@
 /*
  * The C functions for a coordinator's record, called through include/senna.h as a host would: one transaction from begin to the last done, with
- * the answers of the other nodes written by the library's own writers; the refusals on the way; damaged bytes; and that a refusal leaves them.
+ * the answers of the other nodes written by the library's own writers; the refusals on the way; which timestamps are taken after each cause of an
+ * abort; damaged bytes; and that a refusal leaves them.
  */
 #include "check.h"
 
@@ -106,6 +107,64 @@ static void one_transaction(void)
     refused(begin(ME, SENNA_ALL, sizeof distances, 5), SENNA_OUT_OF_TURN, "the same timestamp");
 }
 
+/* What aborts a transaction. */
+enum cause { GIVEN_UP_AT_ONCE, GIVEN_UP, A_YIELD, A_NO, CAUSES };
+
+/* The transaction under way, which has just begun, is aborted and brought to its last done. */
+static void sent_back(unsigned cause, uint32_t serial, uint32_t timestamp)
+{
+    senna_serials none;
+    unsigned node, told = cause == A_NO ? PARTY : 1;
+    memset(&none, 0, sizeof none);
+    if (cause == GIVEN_UP_AT_ONCE) {
+        taken(senna_coordinator_abort(record, sizeof record, ME), 0, "given up, with nobody contacted");
+        return;
+    }
+    taken(senna_coordinator_open_write(record, sizeof record, settings, sizeof settings, ME, OBJECT), 0, "open to write");
+    if (cause == GIVEN_UP) {
+        taken(senna_coordinator_abort(record, sizeof record, ME), 0, "given up, with the root contacted");
+    } else if (cause == A_YIELD) {
+        taken(deliver(senna_write_yield(message, sizeof message, 8, 1, 1, ME, serial)), SENNA_ABORTED, "a yield");
+    } else {
+        taken(senna_coordinator_set_value(record, sizeof record, settings, sizeof settings, ME, OBJECT, 1), 0, "a new value");
+        taken(deliver(senna_write_copy(message, sizeof message, 0, ME, serial, timestamp, entry(OBJECT, 1, 8, 0))), SENNA_READY, "its copy");
+        taken(senna_coordinator_request_commit(record, sizeof record, settings, sizeof settings, ME), PARTY, "the participants");
+        taken(deliver(senna_write_vote(message, sizeof message, 0, ME, serial, timestamp, none, 0)), SENNA_ABORTED, "a no");
+    }
+    refused(begin(ME, SENNA_ALL, sizeof distances, timestamp), SENNA_BUSY, "not before the last done");
+    for (node = 0; node < SENNA_NODES; node++) {
+        if ((told >> node) % 2 == 1) {
+            taken(deliver(senna_write_done(message, sizeof message, (uint8_t)node, ME, serial, timestamp)), told >> node == 1 ? SENNA_FINISHED : SENNA_NOTHING,
+                  "a done");
+        }
+    }
+}
+
+/* After an abort, whatever the cause, the last timestamp is taken again and a lower one is not; late messages of an earlier try do nothing to a later one.
+   The record is that of the transaction above: its serial is 1, its timestamp 5, and it was committed. */
+static void turns(void)
+{
+    uint32_t serial = 2;
+    unsigned cause;
+    refused(begin(ME, SENNA_ALL, sizeof distances, 0), SENNA_OUT_OF_TURN, "no timestamp is 0, after a commit");
+    taken(begin(ME, SENNA_ALL, sizeof distances, 7), 1, "a later timestamp");
+    for (cause = 0; cause < CAUSES; cause++, serial++) {
+        sent_back(cause, serial, 7);
+        check(senna_coordinator_phase(record, sizeof record) == SENNA_IDLE, "idle again");
+        check(senna_coordinator_outcome(record, sizeof record) == SENNA_ABORTED && senna_coordinator_timestamp(record, sizeof record) == 7, "sent back");
+        refused(begin(ME, SENNA_ALL, sizeof distances, 0), SENNA_OUT_OF_TURN, "no timestamp is 0, after an abort");
+        refused(begin(ME, SENNA_ALL, sizeof distances, 6), SENNA_OUT_OF_TURN, "one below the last");
+        taken(begin(ME, SENNA_ALL, sizeof distances, 7), 1, "the last timestamp again");
+        check(senna_coordinator_serial(record, sizeof record) == serial + 1, "with a serial of its own");
+        taken(deliver(senna_write_yield(message, sizeof message, 8, 1, 1, ME, serial)), SENNA_NOTHING, "a yield to the try before");
+    }
+    taken(senna_coordinator_abort(record, sizeof record, ME), 0, "given up");
+    taken(begin(ME, SENNA_ALL, sizeof distances, 8), 1, "or one above the last");
+    senna_blank_record(record, sizeof record);
+    memcpy(before, record, sizeof record);
+    refused(begin(ME, SENNA_ALL, sizeof distances, 0), SENNA_OUT_OF_TURN, "no timestamp is 0, at first");
+}
+
 /* Bytes that are no record. */
 static void damaged(void)
 {
@@ -129,6 +188,7 @@ int main(void)
         distances[2 * at] = 1;
     }
     one_transaction();
+    turns();
     damaged();
     return closing();
 }

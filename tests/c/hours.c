@@ -65,7 +65,8 @@ static void one_node(void)
     check(begin(t + 1, DAY + 1, CLOSES) == SENNA_CLOSED, "the end minute is closed");
     check(begin(t + 1, DAY, OPENS) == SENNA_CLOSED && begin(t + 1, DAY, 0) == SENNA_CLOSED, "a closed date");
     check(begin(t + 1, DAY, 10080) == SENNA_GARBLED, "3 comes before 13");
-    check(begin(t, DAY, OPENS) == SENNA_OUT_OF_TURN, "5 comes before 13");
+    check(begin(t - 1, DAY, OPENS) == SENNA_OUT_OF_TURN, "5 comes before 13");
+    check(begin(t, DAY, OPENS) == SENNA_CLOSED, "after an abort the last timestamp is in turn, and closed");
     check(begin(t + 1, 0x4f51, OPENS) == SENNA_OK, "a closed date with its bytes in another order is open");
     check(load(never, sizeof never) == SENNA_OK && begin(t + 2, 0, OPENS) == SENNA_CLOSED, "no window: always closed");
     check(load(always, sizeof always) == SENNA_OK && begin(t + 2, DAY, 10079) == SENNA_OK, "one window of the whole week: always open");

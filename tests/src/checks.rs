@@ -10,3 +10,4 @@ pub mod quorum;
 pub mod replica;
 pub mod station;
 pub mod station_program;
+pub mod turns;

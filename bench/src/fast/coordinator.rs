@@ -91,6 +91,13 @@ pub fn is_garbled(minute: u16, weights: Weights) -> bool {
     minute > hours::LAST_MINUTE || weights.is_some_and(classes::is_garbled)
 }
 
+/// Whether a timestamp comes too early: below the last one, and at it unless the last transaction was aborted.
+#[inline(always)]
+fn is_early(record: &Record, timestamp: u32) -> bool {
+    let last = get_u32(record, record::TIMESTAMP);
+    timestamp < last || (timestamp == last && record[record::OUTCOME] != ABORTED)
+}
+
 #[inline(always)]
 pub fn begin(
     record: &mut Record,
@@ -112,7 +119,7 @@ pub fn begin(
         return Err(number::BUSY);
     }
     let no_table = || classes::kept(settings).is_none_or(|table| table.is_none());
-    if !on || timestamp <= get_u32(record, record::TIMESTAMP) || (weights.is_some() && no_table()) {
+    if !on || is_early(record, timestamp) || (weights.is_some() && no_table()) {
         return Err(number::OUT_OF_TURN);
     }
     let (quorum, _) = quorum::nearest_read(live, distances, me).ok_or(number::NO_QUORUM)?;

@@ -1,6 +1,6 @@
--- Demand 3, the numbers of deliveries, what late messages do, who wrote last and the sums of every list of the service's steps, from an origin that is at rest: the claims with
--- replay as the machine has it (OnMachine), where replay that adds is the same (Effects). The blank service is an origin, and so is what a list leaves at
--- rest.
+-- Demand 3, the numbers of deliveries, what late messages do, who wrote last and the sums of every list of the service's steps, from an origin that is at
+-- rest: the claims with replay as the machine has it (OnMachine), where replay that adds is the same (Effects). The blank service is an origin, and so is
+-- what a list leaves at rest.
 use mathlib.Core.Path.{_≡_, refl, sym, subst, _∙_}
 use mathlib.Core.Logic.{_≢_, inl, inr}
 use mathlib.Core.List.{List, []}

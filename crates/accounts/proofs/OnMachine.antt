@@ -1,5 +1,6 @@
--- Demand 3, the numbers of deliveries and what late messages do, of the service's lists, with replay as the machine's ledger has it: crate history's claims of the machine's steps
--- that they make. A front end's call makes none ripe, for none of its steps is a delivery; what was found within it is found at its end or was before it.
+-- Demand 3, the numbers of deliveries and what late messages do, of the service's lists, with replay as the machine's ledger has it: crate history's claims
+-- of the machine's steps that they make. A front end's call makes none ripe, for none of its steps is a delivery; what was found within it is found at its
+-- end or was before it.
 use mathlib.Core.Path.{_≡_, refl, sym, subst, toPathP}
 use mathlib.Core.Logic.{_⊎_, inl, inr}
 use mathlib.Core.Bool.{Bool, true, false, cond, Bool-set}

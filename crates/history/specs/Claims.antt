@@ -1,6 +1,6 @@
 -- What is claimed of every list of steps from an origin that is `Rested`, the blank station being one, whichever nodes are on: demand 3, the numbers of
--- deliveries, what a late message does, and who wrote last. It is said once, of whatever steps an `Account` is of: here the station's own, above it those of the service. A list is
--- newest first, so the lists that came before are its ends; what is claimed after every list is claimed after every one of those.
+-- deliveries, what a late message does, and who wrote last. It is said once, of whatever steps an `Account` is of: here the station's own, above it those
+-- of the service. A list is newest first, so the lists that came before are its ends; what is claimed after every list is claimed after every one of those.
 use mathlib.Core.Path.{_≡_}
 use mathlib.Core.Logic.{_≢_, _⊎_}
 use mathlib.Core.Bool.{Bool, true, false, cond}

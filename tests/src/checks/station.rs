@@ -10,6 +10,7 @@ pub mod seen;
 mod stories;
 mod taken;
 mod tampering;
+mod turns;
 
 use crate::model::buffers::{take_in_call, IMAGES};
 use crate::model::history::{History, Order};
@@ -258,8 +259,10 @@ pub fn scenarios(random: &mut Random, rounds: usize, ends: Ends, every: usize) -
         one_scenario(random, &style, Run::new(on, setup, &mut seen))?;
     }
     let (case, least) = seen.rarest();
-    let counted = format!("{}; the rarest ({case}) {least} times; {}", seen.words(), seen.authors.words());
-    ensure!(least > 2 * rounds && seen.of(Case::Committed) > 600 * rounds && seen.authors.rich(rounds), "too poor: {counted}");
+    let (authors, turns) = (seen.authors.words(), seen.turns.words());
+    let counted = format!("{}; the rarest ({case}) {least} times; {authors}; {turns}", seen.words());
+    let rich = least > 2 * rounds && seen.of(Case::Committed) > 600 * rounds;
+    ensure!(rich && seen.authors.rich(rounds) && seen.turns.rich(2 * rounds), "too poor: {counted}");
     Ok(counted)
 }
 
@@ -278,13 +281,15 @@ fn library_scenarios(random: &mut Random, rounds: usize) -> Verdict {
     let (closed, loaded) = (seen.numbers[0][usize::from(number::CLOSED)], seen.numbers[5][0]);
     let batches = [(seen.of(Case::BatchCommitted), 500), (seen.of(Case::BatchGivenUp), 40), (seen.of(Case::ClassesOverTenths), 40)];
     let counted = format!(
-        "{}; {committed} committed; aborted: {called} by a call, {voted} by a no, {yielded} by a yield; the rarest ({case}) {least} times; {}",
+        "{}; {committed} committed; aborted: {called} by a call, {voted} by a no, {yielded} by a yield; the rarest ({case}) {least} times; {}; {}",
         seen.words(),
-        seen.authors.words()
+        seen.authors.words(),
+        seen.turns.words()
     );
     let rich = [(seen.steps(), 1_000_000), (committed, 2000), (called, 2000), (voted, 2000), (yielded, 200), (used_up, 200), (least, 10)];
     let rich = [&rich[..], &batches, &[(closed, 400), (loaded, 4000)]].concat();
-    ensure!(rich.iter().all(|&(count, floor)| count >= floor * rounds) && seen.authors.rich(rounds), "too poor: {counted}");
+    let rich = rich.iter().all(|&(count, floor)| count >= floor * rounds);
+    ensure!(rich && seen.authors.rich(rounds) && seen.turns.rich(20 * rounds), "too poor: {counted}");
     Ok(counted)
 }
 

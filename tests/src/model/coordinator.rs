@@ -107,6 +107,15 @@ fn write_quorum(me: u8, record: &Record) -> Option<u16> {
     nearest(Kind::Write, record.live, &record.distances, me).map(|(_, mask)| mask)
 }
 
+/// "After an abort, begin takes the last stamp or any above it, and gives 5 for a lower one. After a commit the stamp must still rise." So it must before the
+/// first transaction, whose last stamp is 0: no transaction carries 0.
+pub fn in_turn(record: &Record, timestamp: u32) -> bool {
+    match record.outcome {
+        decided::ABORTED => timestamp >= record.timestamp,
+        _ => timestamp > record.timestamp,
+    }
+}
+
 /// The numbers of a call with their conditions, in the order in which they are tried; 13 is "given last at begin". On a batch "the host's own open or value
 /// call gives 5", and so does "a batch before any table".
 fn refusals(record: &Record, settings: &Settings, at: At, call: &Call) -> Vec<(u8, bool)> {
@@ -121,7 +130,7 @@ fn refusals(record: &Record, settings: &Settings, at: At, call: &Call) -> Vec<(u
             (number::GARBLED, call.garbled()),
             (number::STRANGER, stranger || *live > ALL),
             (number::BUSY, record.phase != phase::IDLE),
-            unless(*timestamp > record.timestamp && (matches!(call, Call::Begin { .. }) || settings.classes.is_some())),
+            unless(in_turn(record, *timestamp) && (matches!(call, Call::Begin { .. }) || settings.classes.is_some())),
             (number::NO_QUORUM, read_quorum(at.me, *live, distances).is_none()),
             (number::USED_UP, record.serial == LAST),
             (number::CLOSED, settings.hours.as_ref().is_some_and(|table| table.closed(*day, *minute))),

@@ -2,7 +2,7 @@
 
 use super::tables::{damage_tail, garbled_batch, misfit_batch, some_weights};
 use super::{same_call, same_load, same_step};
-use crate::checks::hours::subsets::{counted, first, has, misfit, named, some_record, Fault};
+use crate::checks::hours::subsets::{counted, first, has, misfit, named, some_outcome, some_record, some_timestamp, Fault};
 use crate::model::buffers::{self, Buffers};
 use crate::model::classes::{encode, encode_weights, Classes};
 use crate::model::coordinator::{Brought, Call};
@@ -76,8 +76,8 @@ fn some_settings(random: &mut Random, wrong: &impl Fn(&str) -> bool) -> Vec<u8> 
     bytes
 }
 
-/// The call, with faults by their names; a name that the subset's list does not have is no fault.
-fn some_call(random: &mut Random, wrong: &impl Fn(&str) -> bool) -> Call {
+/// The call at a record with an outcome, with faults by their names; a name that the subset's list does not have is no fault.
+fn some_call(random: &mut Random, outcome: u8, wrong: &impl Fn(&str) -> bool) -> Call {
     let live = match (wrong("live"), wrong("no quorum")) {
         (false, false) => ALL,
         (false, true) => *random.pick(&[0, 2, 2064]),
@@ -89,7 +89,7 @@ fn some_call(random: &mut Random, wrong: &impl Fn(&str) -> bool) -> Call {
         (false, true) => *random.pick(&[0, 599, 700, LAST_END - 1]),
         (false, false) => *random.pick(&[600, 650, 699]),
     };
-    let timestamp = if wrong("timestamp") { *random.pick(&[0, 8, 9]) } else { *random.pick(&[10, LAST]) };
+    let timestamp = some_timestamp(random, outcome, wrong("timestamp"));
     let mut distances = [1, 0].repeat(NODES);
     if wrong("distances' length") {
         distances.resize(*random.pick(&[0, DISTANCES - 1, DISTANCES + 1]), 0);
@@ -106,7 +106,8 @@ pub fn batches(random: &mut Random, _: usize) -> Verdict {
     let mut numbers = [0; number::COUNT];
     for subset in 0..1 << BATCH.len() {
         let wrong = |name: &str| has(&BATCH, subset, name);
-        let (mut record, mut settings) = (some_record(random, &wrong), some_settings(random, &wrong));
+        let outcome = some_outcome(random);
+        let (mut record, mut settings) = (some_record(random, outcome, &wrong), some_settings(random, &wrong));
         if wrong("record's length") {
             misfit(random, &mut record);
         }
@@ -114,7 +115,7 @@ pub fn batches(random: &mut Random, _: usize) -> Verdict {
             misfit(random, &mut settings);
         }
         let me = if wrong("no node") { 13 + random.below(243) as u8 } else { random.below(NODES) as u8 };
-        let (number, _) = same_call(&mut record, &mut settings, me, &some_call(random, &wrong))?;
+        let (number, _) = same_call(&mut record, &mut settings, me, &some_call(random, outcome, &wrong))?;
         let expected = first(&BATCH, subset, |_| true);
         ensure!(number == expected, "{number}, not {expected}, with {:?}", named(&BATCH, subset));
         numbers[usize::from(number)] += 1;
@@ -158,9 +159,10 @@ pub fn station_batches(random: &mut Random, _: usize) -> Verdict {
     for subset in 0..1 << STATION_BATCH.len() {
         let wrong = |name: &str| ["live", "distances' length"].iter().all(|other| *other != name) && has(&STATION_BATCH, subset, name);
         let mut it = sound.clone();
-        let (record, settings) = (some_record(random, &wrong), some_settings(random, &wrong));
+        let outcome = some_outcome(random);
+        let (record, settings) = (some_record(random, outcome, &wrong), some_settings(random, &wrong));
         let node = put(random, &mut it, &record, &settings, &wrong);
-        let number = same_step(&mut it, &Step::Host { node, call: some_call(random, &wrong) })?;
+        let number = same_step(&mut it, &Step::Host { node, call: some_call(random, outcome, &wrong) })?;
         let expected = first(&STATION_BATCH, subset, looked(wrong("no node")));
         ensure!(number == expected, "{number}, not {expected}, with {:?}", named(&STATION_BATCH, subset));
         numbers[usize::from(number)] += 1;
@@ -233,7 +235,8 @@ pub fn loads(random: &mut Random, rounds: usize) -> Verdict {
     for subset in 0..1 << LOAD.len() {
         let wrong = in_load(subset);
         for _ in 0..10 * rounds {
-            let (mut record, mut settings) = (some_record(random, &wrong), some_settings(random, &wrong));
+            let outcome = some_outcome(random);
+            let (mut record, mut settings) = (some_record(random, outcome, &wrong), some_settings(random, &wrong));
             if wrong("record's length") {
                 misfit(random, &mut record);
             }
@@ -257,7 +260,8 @@ pub fn station_loads(random: &mut Random, rounds: usize) -> Verdict {
         let wrong = |name: &str| STATION_LOAD.iter().any(|(other, _)| *other == name) && has(&STATION_LOAD, subset, name);
         for _ in 0..2 * rounds {
             let mut it = sound.clone();
-            let (record, settings) = (some_record(random, &wrong), some_settings(random, &wrong));
+            let outcome = some_outcome(random);
+            let (record, settings) = (some_record(random, outcome, &wrong), some_settings(random, &wrong));
             let node = put(random, &mut it, &record, &settings, &wrong);
             let number = same_step(&mut it, &Step::LoadClasses { node, list: some_list(random, &wrong) })?;
             let expected = first(&STATION_LOAD, subset, looked(wrong("no node")));

@@ -4,6 +4,7 @@ use crate::checks::classes::tables::some_batch;
 use crate::checks::hours::hours_in;
 use crate::checks::hours::tables::{damaged_settings, some_clock, some_settings};
 use crate::checks::message::records::{other_node, some_byte, some_entries, some_node, some_rivals, some_serial, some_value, valid_object};
+use crate::checks::turns::some_timestamp;
 use crate::model::coordinator::Call;
 use crate::model::message::{self, kind, Entry, Message, Rival, Transaction, ABORT, COMMIT, ENTRIES, LAST, NO, WRITE, YES};
 use crate::model::quorum::{nodes, smallest, Kind, ALL, DISTANCES, NODES};
@@ -166,7 +167,8 @@ pub fn some_call(random: &mut Random, record: &Record, settings: &[u8]) -> Call 
     let object = some_object(random, record);
     match random.below(12) {
         begins @ (0 | 1 | 10 | 11) => {
-            let timestamp = some_near(random, record.timestamp);
+            let near = some_near(random, record.timestamp);
+            let timestamp = if random.once_in(2) { some_timestamp(random, record) } else { near };
             let (day, minute) = some_clock(random, hours_in(settings).as_ref());
             let (live, distances) = (some_live(random), some_distances(random));
             if begins < 10 {

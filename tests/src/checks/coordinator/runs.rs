@@ -1,11 +1,12 @@
 //! Long runs of one record: one transaction after the other, with late, repeated and foreign messages at any time.
 
 use super::records::{some_call, some_distances, some_message, some_object};
-use super::seen::{Case, Seen, Try};
+use super::seen::{Case, Seen, Try, What};
 use crate::checks::classes::tables::some_batch;
 use crate::checks::hours::hours_in;
 use crate::checks::hours::tables::{some_clock, some_settings};
 use crate::checks::message::records::{some_node, some_value};
+use crate::checks::turns::{some_timestamp, Turn};
 use crate::ffi::coordinator as ffi;
 use crate::model::coordinator::{Brought, Call};
 use crate::model::message::{self, kind, Message, LONGEST, WRITE};
@@ -22,7 +23,7 @@ fn next_call(random: &mut Random, record: &Record, settings: &[u8]) -> Call {
     let batch = known.as_ref().is_some_and(|it| it.kind == settings::kind::BATCH);
     match (record.phase, unset) {
         (phase::IDLE, _) => {
-            let timestamp = record.timestamp.saturating_add(1 + random.below(3) as u32);
+            let timestamp = some_timestamp(random, record);
             let (day, minute) = some_clock(random, hours_in(settings).as_ref());
             let distances = some_distances(random);
             let classes = known.and_then(|it| it.classes);
@@ -98,7 +99,10 @@ pub fn long_runs(random: &mut Random, rounds: usize) -> Verdict {
     }
     let commits = seen.of(Case::Brings(kind::VOTE, Brought::Committed));
     let finished = seen.of(Case::Brings(kind::DONE, Brought::Finished));
-    let counted = format!("{runs} runs; {}; {commits} commits, {finished} finished, serials to {highest}", seen.words());
-    ensure!(commits > 50 * rounds && finished > 200 * rounds && highest > 5, "too poor: {counted}");
+    let met = |turn: Turn| [What::Begin, What::Batch].map(|what| seen.of(Case::Turned(what, turn))).iter().sum();
+    let turns: Vec<(Turn, usize)> = Turn::ALL.map(|turn| (turn, met(turn))).to_vec();
+    let counted = format!("{runs} runs; {}; {commits} commits, {finished} finished, serials to {highest}; {turns:?}", seen.words());
+    let rich = turns.iter().all(|&(turn, count)| count >= rounds * if turn == Turn::KeptAfterAbort { 100 } else { 1 });
+    ensure!(rich && commits > 50 * rounds && finished > 200 * rounds && highest > 5, "too poor: {counted}");
     Ok(counted)
 }

@@ -1,7 +1,8 @@
 //! One call by the library and by the model, compared byte by byte; and how often each case of the rules was met.
 
+use crate::checks::turns::Turn;
 use crate::ffi::coordinator as ffi;
-use crate::model::coordinator::{due_call, host_call, misfits, receive_call, Brought, Call, Done, HostLeft, Misfit};
+use crate::model::coordinator::{due_call, host_call, in_turn, misfits, receive_call, Brought, Call, Done, HostLeft, Misfit};
 use crate::model::message::{self, kind, Message, LONGEST, NO, WRITE, YES};
 use crate::model::number;
 use crate::model::quorum::{inside, only};
@@ -66,6 +67,8 @@ pub enum Case {
     RivalLower,
     /// A no of a node that said yes.
     NoAfterYes,
+    /// A case of the turn rule at a begin or a batch, at an idle record.
+    Turned(What, Turn),
     /// A batch before any table; an open or a value call on a batch; votes asked for on one, with its sums and with one past the range.
     NoTable,
     OpenBarred,
@@ -92,6 +95,7 @@ fn cases() -> Vec<Case> {
     let mut all = vec![LateCopy, AgainNewer, AgainOlder, SameVersion, YesAgain, RivalHigher, RivalLower, NoAfterYes];
     all.extend([AbortAtOnce, YieldAtOnce, OutcomeFirst, Unordered]);
     all.extend([NoTable, OpenBarred, SetBarred, Summed, GivenUp, TenthsMoved, TenthsStay]);
+    all.extend([What::Begin, What::Batch].into_iter().flat_map(|what| Turn::ALL.map(|turn| Turned(what, turn))));
     all.extend(NUMBERS.iter().flat_map(|(what, numbers)| numbers.iter().map(|&number| Number(*what, number))));
     let nothing = [kind::COPY, kind::VOTE, kind::DONE, kind::YIELD].map(|kind| Brings(kind, Brought::Nothing));
     all.extend(nothing);
@@ -282,9 +286,10 @@ impl Seen {
         let (Ok(record), Ok(settings)) = (record::load(record), settings::load(settings)) else { return };
         let batch = settings.kind == settings::kind::BATCH;
         let number = expected.as_ref().map_or_else(|number| *number, |left| left.done.number);
+        self.count_turn(&record, call, number);
         match call {
             Call::Batch { timestamp, .. } if number == number::OUT_OF_TURN => {
-                self.add_if(*timestamp > record.timestamp && settings.classes.is_none(), Case::NoTable);
+                self.add_if(in_turn(&record, *timestamp) && settings.classes.is_none(), Case::NoTable);
             }
             Call::Open { .. } if number == number::OUT_OF_TURN => self.add_if(batch && record.phase == phase::OPEN, Case::OpenBarred),
             Call::SetValue { .. } if number == number::OUT_OF_TURN => self.add_if(batch && record.phase == phase::OPEN, Case::SetBarred),
@@ -296,6 +301,17 @@ impl Seen {
             Call::Begin { .. } | Call::Batch { .. } if number == number::OK => self.count_begin(&record, &settings),
             _ => {}
         }
+    }
+
+    /// A begin or a batch with the number that its timestamp alone would have.
+    fn count_turn(&mut self, record: &Record, call: &Call, number: u8) {
+        let (what, timestamp) = match call {
+            Call::Begin { timestamp, .. } => (What::Begin, *timestamp),
+            Call::Batch { timestamp, .. } => (What::Batch, *timestamp),
+            _ => return,
+        };
+        let turn = Turn::of(record, timestamp).filter(|turn| record.phase == phase::IDLE && turn.number() == number);
+        turn.into_iter().for_each(|turn| self.add(Case::Turned(what, turn)));
     }
 
     fn count_begin(&mut self, record: &Record, settings: &Settings) {

@@ -81,10 +81,25 @@ pub fn misfit(random: &mut Random, bytes: &mut Vec<u8>) {
     bytes.resize(*random.pick(&[length - 1, length + 1, length - 1, 0]), 0);
 }
 
+/// What became of the last transaction: either is as likely.
+pub fn some_outcome(random: &mut Random) -> u8 {
+    *random.pick(&[decided::COMMITTED, decided::ABORTED])
+}
+
+/// A timestamp at a record whose last one is 9: 9 itself comes in turn after an abort alone.
+pub fn some_timestamp(random: &mut Random, outcome: u8, wrong: bool) -> u32 {
+    match (wrong, outcome) {
+        (true, decided::ABORTED) => *random.pick(&[0, 1, 8]),
+        (true, _) => *random.pick(&[0, 8, 9]),
+        (false, decided::ABORTED) => *random.pick(&[9, 9, 10, LAST]),
+        (false, _) => *random.pick(&[10, LAST]),
+    }
+}
+
 /// The record that a subset asks for: idle or open, with a last serial of any kind or the last there is; the timestamp is 9.
-pub fn some_record(random: &mut Random, wrong: &impl Fn(&str) -> bool) -> Vec<u8> {
+pub fn some_record(random: &mut Random, outcome: u8, wrong: &impl Fn(&str) -> bool) -> Vec<u8> {
     let serial = if wrong("used up") { LAST } else { 1 + random.below(9) as u32 };
-    let mut record = Record { serial, timestamp: 9, outcome: decided::COMMITTED, ..Record::default() };
+    let mut record = Record { serial, timestamp: 9, outcome, ..Record::default() };
     if wrong("busy") {
         (record.phase, record.live, record.quorum) = (phase::OPEN, ALL, 1);
     }
@@ -110,8 +125,8 @@ fn some_settings(random: &mut Random, wrong: &impl Fn(&str) -> bool) -> Vec<u8> 
     settings
 }
 
-/// The call.
-fn some_begin(random: &mut Random, wrong: &impl Fn(&str) -> bool) -> Call {
+/// The call, at a record with an outcome.
+fn some_begin(random: &mut Random, outcome: u8, wrong: &impl Fn(&str) -> bool) -> Call {
     let live = match (wrong("live"), wrong("no quorum")) {
         (false, false) => ALL,
         (false, true) => *random.pick(&[0, 2, 2064]),
@@ -124,7 +139,7 @@ fn some_begin(random: &mut Random, wrong: &impl Fn(&str) -> bool) -> Call {
         (false, false) => *random.pick(&[600, 650, 699]),
     };
     let day = if wrong("closed date") { *random.pick(&[3, 20]) } else { *random.pick(&[0, 4, 21, u32::MAX]) };
-    let timestamp = if wrong("timestamp") { *random.pick(&[0, 8, 9]) } else { *random.pick(&[10, LAST]) };
+    let timestamp = some_timestamp(random, outcome, wrong("timestamp"));
     let mut distances = [1, 0].repeat(NODES);
     if wrong("distances' length") {
         distances.resize(*random.pick(&[0, DISTANCES - 1, DISTANCES + 1]), 0);
@@ -137,7 +152,8 @@ pub fn begins(random: &mut Random, rounds: usize) -> Verdict {
     for subset in 0..1 << BEGIN.len() {
         let wrong = |name: &str| has(&BEGIN, subset, name);
         for _ in 0..rounds {
-            let (mut record, mut settings) = (some_record(random, &wrong), some_settings(random, &wrong));
+            let outcome = some_outcome(random);
+            let (mut record, mut settings) = (some_record(random, outcome, &wrong), some_settings(random, &wrong));
             if wrong("record's length") {
                 misfit(random, &mut record);
             }
@@ -145,7 +161,7 @@ pub fn begins(random: &mut Random, rounds: usize) -> Verdict {
                 misfit(random, &mut settings);
             }
             let me = if wrong("no node") { 13 + random.below(243) as u8 } else { random.below(NODES) as u8 };
-            let call = some_begin(random, &wrong);
+            let call = some_begin(random, outcome, &wrong);
             let number = same_begin(&record, &settings, me, &call)?;
             let expected = first(&BEGIN, subset, |_| true);
             ensure!(number == expected, "{number}, not {expected}, with {:?}", named(&BEGIN, subset));
@@ -166,8 +182,8 @@ pub fn station_begins(random: &mut Random, _: usize) -> Verdict {
     for subset in 0..1 << STATION_BEGIN.len() {
         let wrong = |name: &str| has(&STATION_BEGIN, subset, name);
         let mut it = sound.clone();
-        let at = random.below(NODES);
-        it.records[at * RECORD..(at + 1) * RECORD].copy_from_slice(&some_record(random, &wrong));
+        let (at, outcome) = (random.below(NODES), some_outcome(random));
+        it.records[at * RECORD..(at + 1) * RECORD].copy_from_slice(&some_record(random, outcome, &wrong));
         it.put_settings(at, &some_settings(random, &wrong));
         let on = if wrong("off") { ALL & !(1 << at) } else { *random.pick(&[ALL, 1 << at]) };
         it.own = (if wrong("damaged mask") { on | 0x2000 } else { on }).to_le_bytes().to_vec();
@@ -178,7 +194,7 @@ pub fn station_begins(random: &mut Random, _: usize) -> Verdict {
             }
         }
         let node = if wrong("no node") { 13 + random.below(243) as u8 } else { at as u8 };
-        let step = Step::Host { node, call: some_begin(random, &wrong) };
+        let step = Step::Host { node, call: some_begin(random, outcome, &wrong) };
         let number = same_step(&mut it, &step)?;
         // Where there is no such node, no record and no settings are looked at.
         let looked = |name: &str| !(wrong("no node") && ["damaged record", "damaged settings"].contains(&name));

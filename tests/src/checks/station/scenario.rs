@@ -3,6 +3,7 @@
 use crate::checks::classes::tables::{classes_among, some_batch, some_list as some_class_list};
 use crate::checks::hours::tables::{some_clock, some_list};
 use crate::checks::message::records::some_byte;
+use crate::checks::turns::some_timestamp;
 use crate::model::classes;
 use crate::model::coordinator::{due, known_rivals, Call};
 use crate::model::hours::{encode, Table, Window, LAST_END};
@@ -233,7 +234,7 @@ fn owner_step(random: &mut Random, station: &Station, style: &Style) -> Step {
             if random.once_in(often) {
                 return Step::LoadClasses { node, list: some_table(random, style) };
             }
-            let timestamp = record.timestamp + 1 + random.below(4) as u32;
+            let timestamp = some_timestamp(random, record);
             let (live, distances) = (some_live(random, station), some_distances(random));
             let (day, minute) = some_clock(random, hours);
             if random.once_in(style.batch) && (settings.classes.is_some() || random.once_in(20)) {

@@ -1,8 +1,9 @@
 //! What the scenarios met: each step's number, and what became of transactions and why.
 
 use super::authors::Authors;
+use super::turns::Turns;
 use crate::model::classes::CLASSES;
-use crate::model::coordinator::{misfits, Brought, Call};
+use crate::model::coordinator::{in_turn, misfits, Brought, Call};
 use crate::model::image::Image;
 use crate::model::message::{kind, Message, NO, WRITE};
 use crate::model::number;
@@ -171,6 +172,8 @@ pub struct Seen {
     batches: BTreeMap<u8, Vec<u8>>,
     /// Who wrote last.
     pub authors: Authors,
+    /// Timestamps at begin.
+    pub turns: Turns,
 }
 
 impl Seen {
@@ -188,6 +191,7 @@ impl Seen {
     pub fn start(&mut self) {
         self.reasons.clear();
         self.batches.clear();
+        self.turns.start();
     }
 
     /// One step, with the station before it.
@@ -196,6 +200,7 @@ impl Seen {
         self.numbers[place(&event.step)][usize::from(number)] += 1;
         self.count_hours(before, &event.step, number);
         self.count_classes(before, &event.step, number);
+        self.turns.count(before, event);
         let Ok(told) = &event.told else { return };
         if told.number != number::OK {
             self.add(Case::BatchGivenUp);
@@ -234,7 +239,7 @@ impl Seen {
                 self.add_if(again && settings.kind == kinds::BATCH, Case::BatchAgain);
             }
             Step::Host { call: Call::Batch { timestamp, .. }, .. } if number == number::OUT_OF_TURN => {
-                let apart = before.is_on(node) && timestamp > record.timestamp;
+                let apart = before.is_on(node) && in_turn(record, timestamp);
                 self.add_if(apart && settings.classes.is_none(), Case::BatchWithoutTable);
             }
             Step::Host { call: Call::Begin { .. }, .. } if number == number::OK => self.add_if(waits, Case::OwnOverTenths),
