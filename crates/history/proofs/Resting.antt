@@ -337,7 +337,7 @@ module _ (st : Station) (L : Ledger) (F : Past) (g : Good st L F) (t : InTurn st
 
 -- THE THEOREM: what a list of steps from an origin leaves at rest is an origin again
 module _ (o : Origin) (r : Rested o) where
-  always-spare : (cs : List Call) → Spare (reached o cs)
+  pub always-spare : (cs : List Call) → Spare (reached o cs)
   always-spare [] = λ n h. r .idle n
   always-spare (c ∷ cs) = spare-next (reached o cs) (always-spare cs) c
 
