@@ -23,6 +23,7 @@ use Rattle.accounts.proofs.Expand.{same-machine}
 use Rattle.accounts.proofs.Typed.{expand-typed}
 use Rattle.accounts.proofs.Claimed.{demand-3, delivery-number, earlier-tries, adds-exactly, last-writers, blank-rested, rests}
 use Rattle.accounts.proofs.Weighed.{weighs}
+use Rattle.progress.proofs.Service.{service-oldest}
 use Rattle.runs.specs.Left.{toldOf, leftOf}
 use Rattle.runs.specs.Held.{Holds, Claimed}
 use Rattle.runs.proofs.Settings.{zeros-long, zeros-fine, zeros-in}
@@ -68,6 +69,7 @@ claimed b c t o cs h =
       last-writers = last-writers o (h .rested) (c ∷ cs) a;
       numbers = delivery-number o (h .rested) (c ∷ cs) a;
       earlier-tries = earlier-tries o (h .rested) (c ∷ cs) a;
+      oldest-through = service-oldest o (h .rested) (c ∷ cs) a;
     }
 
 -- the maker of a blank service leaves what the empty list left

@@ -14,6 +14,8 @@ use Rattle.history.specs.Claims.{Demand3, DeliveryNumbers, EarlierTries, LastWr
 use Rattle.accounts.specs.Accounts.{Origin, RestedAs, Rested, AllTyped, reached, account}
 use Rattle.accounts.specs.Claims.{AddsExactly}
 use Rattle.accounts.specs.Weighed.{Weighs}
+use Rattle.progress.specs.Oldest.{OldestThrough}
+use Rattle.progress.specs.Service.{serviceActs}
 use Rattle.conversion.specs.Converted.{takenService}
 
 -- the origin is at rest, the steps of the list have arguments of their C types, the five buffers are whole, and the service that they are is the one that
@@ -25,8 +27,8 @@ pub record Holds (o : Origin) (cs : List Call) (b : Lent) : Type 0 where
   pub service : serviceOf b ≡ reached o cs
 
 -- after one more step, told r: the buffers hold what the longer list left, the number and the answer are the step's own, and the claims hold of
--- the longer list: demand 3, no sum of a batch wrapped, the weights kept, who wrote last, the numbers of deliveries, and that no
--- late message counts
+-- the longer list: demand 3, no sum of a batch wrapped, the weights kept, who wrote last, the numbers of deliveries, that no
+-- late message counts, and that the oldest gets through
 pub record Next (o : Origin) (cs : List Call) (c : Call) (r : Answer) (b : Lent) : Type 0 where
   pub holds : Holds o (c ∷ cs) b
   pub number : r .number ≡ step (reached o cs) c .number
@@ -37,6 +39,7 @@ pub record Next (o : Origin) (cs : List Call) (c : Call) (r : Answer) (b : Lent)
   pub last-writers : LastWriters (account o) (c ∷ cs)
   pub numbers : DeliveryNumbers (account o) (c ∷ cs)
   pub earlier-tries : EarlierTries (account o) (c ∷ cs)
+  pub oldest-through : OldestThrough (account o) (serviceActs o) (c ∷ cs)
 
 -- whatever origin and list of steps the buffers before hold
 abbrev pub Claimed : Lent → Call → Answer → Lent → Type 0

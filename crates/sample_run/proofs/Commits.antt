@@ -22,11 +22,11 @@ use Rattle.history.specs.Claims.{Settled, reached, account, Demand3}
 use Rattle.history.proofs.Claimed.{demand-3}
 use Rattle.history.proofs.Origins.{blank-rested}
 use Rattle.history.proofs.Resting.{rests}
-use Rattle.sample_run.specs.Sample.{beginning, ready, participants, mask, sample, blank, tells, left, leftReady, transaction, Commits, carrying, reading}
-use Rattle.sample_run.specs.Sample.{Shown}
+use Rattle.sample_run.specs.Sample.{beginning, ready, valued, asking, participants, mask, sample, blank, tells, left, leftReady}
+use Rattle.sample_run.specs.Sample.{transaction, Commits, carrying, reading, Shown}
 use Rattle.sample_run.proofs.Listed.{listed-same}
 use Rattle.sample_run.proofs.Both.{Both, atFirst, Agrees, first-agrees, stepped-agrees, delivered-agrees, exchanged-agrees}
-use Rattle.sample_run.proofs.Computed.{start, is-start, whenReady, whenAsked, atLast, Seen, seen, is-seen, is-shown, whenRead, is-read}
+use Rattle.sample_run.proofs.Computed.{start, is-start, whenReady, whenValued, whenAsked, atLast, Seen, seen, is-seen, is-shown, whenRead, is-read}
 
 -- ---- the passes are those of the lists
 ones : (n i : ℕ) → getD (replicate n 1) i 0 < 2 ^ 16
@@ -34,7 +34,7 @@ ones zero i = lit< tt
 ones (suc n) zero = lit< tt
 ones (suc n) (suc i) = ones n i
 
-abbrev β : Rested blank
+abbrev pub β : Rested blank
 β = blank-rested everyNode
 
 start-agrees : Agrees blank β [] start
@@ -46,11 +46,17 @@ ready-agrees =
     delivered-agrees blank β _ _ (delivered-agrees blank β _ _ (stepped-agrees blank β _ _ (send 4 0 7) tt (stepped-agrees blank β _ _ (openWrite 4 7) tt
     (stepped-agrees blank β _ _ (begin 4 beginning) (lit< tt, (refl, ones nodes)) start-agrees))))
 
-last-agrees : Agrees blank β sample atLast
-unfolding whenAsked atLast
-last-agrees =
-    exchanged-agrees blank β participants _ _ (exchanged-agrees blank β participants _ _ (stepped-agrees blank β _ _ (requestCommit 4) tt
-    (stepped-agrees blank β _ _ (setValue 4 7 500) (lit< tt) (stepped-agrees blank β _ _ (found 4 7) tt ready-agrees))))
+pub valued-agrees : Agrees blank β valued whenValued
+unfolding whenValued
+valued-agrees = stepped-agrees blank β _ _ (setValue 4 7 500) (lit< tt) (stepped-agrees blank β _ _ (found 4 7) tt ready-agrees)
+
+pub asking-agrees : Agrees blank β asking whenAsked
+unfolding whenAsked
+asking-agrees = stepped-agrees blank β _ _ (requestCommit 4) tt valued-agrees
+
+pub last-agrees : Agrees blank β sample atLast
+unfolding atLast
+last-agrees = exchanged-agrees blank β participants _ _ (exchanged-agrees blank β participants _ _ asking-agrees)
 
 -- ---- what was computed
 computed-commits : Commits (atLast .ledger) (atLast .station)

@@ -38,8 +38,11 @@ is-start = ap startFrom blank-quick
 unfoldable pub whenReady : Both
 whenReady = delivered (delivered (stepped (stepped (stepped start (begin 4 beginning)) (openWrite 4 7)) (send 4 0 7)))
 
+unfoldable pub whenValued : Both
+whenValued = stepped (stepped whenReady (found 4 7)) (setValue 4 7 500)
+
 unfoldable pub whenAsked : Both
-whenAsked = stepped (stepped (stepped whenReady (found 4 7)) (setValue 4 7 500)) (requestCommit 4)
+whenAsked = stepped whenValued (requestCommit 4)
 
 unfoldable pub atLast : Both
 atLast = bothExchanged participants (bothExchanged participants whenAsked)
@@ -90,7 +93,7 @@ pub is-seen : seen atLast
       serials = listed (λ n. cond (contains mask n) 1 0) nodes;
       phases = listed (λ n. 0) nodes;
     }
-unfolding computed ℕ-discrete start accepted noted stepped oldest delivered bothExchanged whenReady whenAsked atLast seen
+unfolding computed ℕ-discrete start accepted noted stepped oldest delivered bothExchanged whenReady whenValued whenAsked atLast seen
 is-seen = refl
 
 pub is-shown : Shown (whenReady .station) 4 0
@@ -102,5 +105,5 @@ unfoldable pub whenRead : Both → Both
 whenRead b = delivered (delivered (stepped (stepped (stepped b (begin 5 beginning)) (openRead 5 7)) (send 5 0 7)))
 
 pub is-read : (L : Ledger) → Shown (whenRead (record { ledger = L; station = atLast .station }) .station) 5 500
-unfolding computed ℕ-discrete start accepted noted stepped oldest delivered bothExchanged whenReady whenAsked atLast whenRead
+unfolding computed ℕ-discrete start accepted noted stepped oldest delivered bothExchanged whenReady whenValued whenAsked atLast whenRead
 is-read L = record { number = refl; answer = refl }

@@ -25,9 +25,12 @@ beginning = record { live = everyNode; distances = replicate nodes 1; timestamp 
 abbrev pub ready : List Call
 ready = delivery 0 false ∷ delivery 0 false ∷ send 4 0 7 ∷ openWrite 4 7 ∷ begin 4 beginning ∷ []
 
--- it looks at the value found, gives the new one, and asks for votes
+-- it looks at the value found and gives the new one, then asks for votes
+abbrev pub valued : List Call
+valued = setValue 4 7 500 ∷ found 4 7 ∷ ready
+
 abbrev pub asking : List Call
-asking = requestCommit 4 ∷ setValue 4 7 500 ∷ found 4 7 ∷ ready
+asking = requestCommit 4 ∷ valued
 
 -- the participants that this answers, the nearest write quorum; a message goes to each of them, and its answer comes back
 abbrev pub participants : List ℕ
