@@ -651,6 +651,22 @@ senna_called senna_coordinator_waiting(const uint8_t *record, size_t length, con
  * back keeps his place: after an abort, whatever its cause (a no, a yield, senna_coordinator_abort, a batch given up), a begin takes the last timestamp
  * again, or any above it, and refuses a lower one. After a commit, and before the first transaction, it must be above the last. 0 is never taken. Each begin
  * has a serial of its own, so a late message of one try never counts for the next.
+ *
+ * How a host gets through where others want the same objects:
+ *   1. It keeps the timestamp. A record that is idle with the outcome SENNA_ABORTED has it (senna_coordinator_timestamp): begin the same work again with it,
+ *      until it is committed. New work takes a new one, such as from a clock: what comes later is younger.
+ *   2. It asks node 0 first. While SENNA_VOTING it sends the ask to node 0 alone, as long as one is due to it; once node 0's yes has come nothing is due to
+ *      it, and the others are asked. Node 0 votes on every transaction, so of two that meet one is voted down there, and holds nothing elsewhere that
+ *      the other needs. Two hosts that ask all at once can send each other back in every try, each by what it holds, with new timestamps or kept ones.
+ *   3. It tries again soon, but not in step with others. After an abort it sends what is due to the last done, waits for a short time that is another at each
+ *      node, such as one turn and as many as its number, and begins again. While it waits it is listed nowhere, so others may be booked before it.
+ * All three are advice: whatever hosts do, no booking is lost or done twice.
+ *
+ * What an old transaction may count on. Let votes have been asked for it, and let it be, at every participant, older than each other that is listed there;
+ * let nobody hold one of its objects there, and no copy of one there have a higher version than was found; let the participants and its own node be on and
+ * stay so, and its host not give up; and from then on let no message but its own reach a participant or its own node. Then every vote is yes. With p
+ * participants it is committed after 2 x p deliveries, each ask and each vote once, and finished after 4 x p, each outcome and each done once, in whatever
+ * order they come and whatever happens elsewhere. It is so of every station that began blank.
  */
 
 /*

@@ -5,6 +5,7 @@ mod bad;
 mod closing_time;
 mod compiled;
 pub mod ends;
+mod oldest;
 pub mod scenario;
 pub mod seen;
 mod stories;
@@ -13,12 +14,13 @@ mod tampering;
 mod turns;
 
 use crate::model::buffers::{take_in_call, IMAGES};
+use crate::model::coordinator::Call;
 use crate::model::history::{History, Order};
 use crate::model::image::{Layout, IMAGE};
 use crate::model::message::{Message, LAST};
 use crate::model::quorum::ALL;
 use crate::model::record::RECORD;
-use crate::model::station::{blank, Station, Step};
+use crate::model::station::{blank, Event, Station, Step};
 use crate::model::{image, number, record, Fault};
 use crate::random::Random;
 use crate::runner::{ensure, Runner, Verdict};
@@ -102,8 +104,18 @@ struct Run<'a> {
     /// What the events tell; none where the scenario does not begin with a blank station.
     history: Option<History>,
     compiled: Option<Compiled>,
+    /// The node for whose transaction the last step asked for votes, where it was accepted.
+    asked: Option<u8>,
     setup: Setup,
     seen: &'a mut Seen,
+}
+
+/// The node at which votes were asked for.
+fn asks(event: &Event) -> Option<u8> {
+    match (&event.step, &event.told) {
+        (Step::Host { node, call: Call::RequestCommit }, Ok(told)) if told.number == number::OK => Some(*node),
+        _ => None,
+    }
 }
 
 impl Run<'_> {
@@ -111,7 +123,7 @@ impl Run<'_> {
         seen.start();
         let station = blank(on);
         let compiled = setup.library.then(|| Compiled::new(&station));
-        Run { station, history: Some(History::new(on, setup.meaning)), compiled, setup, seen }
+        Run { station, history: Some(History::new(on, setup.meaning)), compiled, asked: None, setup, seen }
     }
 
     /// A scenario that begins with last serials and versions near their last number.
@@ -134,6 +146,7 @@ impl Run<'_> {
         let waiting = self.station.pool.len();
         let before = self.station.clone();
         let event = self.station.step(step, self.setup.fault);
+        self.asked = asks(&event);
         self.seen.count(&before, &event);
         self.seen.count_more(&before, &event, &self.station);
         if let (Step::Deliver { at, .. }, Err(number), Fault::None) = (&event.step, &event.told, self.setup.fault) {
@@ -216,6 +229,9 @@ fn one_scenario(random: &mut Random, style: &Style, mut run: Run) -> Result<(), 
     for at in 0..2000 {
         let step = next_step(random, &run.station, style);
         run.take(step)?;
+        if let Some(owner) = run.asked {
+            oldest::carry_copy(random, &mut run, owner, style)?;
+        }
         if at % 100 == 0 {
             run.check()?;
         }
@@ -266,8 +282,8 @@ pub fn scenarios(random: &mut Random, rounds: usize, ends: Ends, every: usize) -
     Ok(counted)
 }
 
-/// The library's station beside the model's, compared after every step; one scenario in ten begins near the last numbers. Floors on what
-/// was met keep the scenarios rich.
+/// The library's station beside the model's, compared after every step; one scenario in ten begins near the last numbers. What is asked for and unopposed
+/// is carried through on a copy. Floors on what was met keep the scenarios rich.
 fn library_scenarios(random: &mut Random, rounds: usize) -> Verdict {
     let setup = Setup { library: true, ..SETUP };
     let mut seen = Seen::default();
@@ -281,15 +297,17 @@ fn library_scenarios(random: &mut Random, rounds: usize) -> Verdict {
     let (closed, loaded) = (seen.numbers[0][usize::from(number::CLOSED)], seen.numbers[5][0]);
     let batches = [(seen.of(Case::BatchCommitted), 500), (seen.of(Case::BatchGivenUp), 40), (seen.of(Case::ClassesOverTenths), 40)];
     let counted = format!(
-        "{}; {committed} committed; aborted: {called} by a call, {voted} by a no, {yielded} by a yield; the rarest ({case}) {least} times; {}; {}",
+        "{}; {committed} committed; aborted: {called} by a call, {voted} by a no, {yielded} by a yield; the rarest ({case}) {least} times; {}; {}; {}",
         seen.words(),
         seen.authors.words(),
-        seen.turns.words()
+        seen.turns.words(),
+        seen.oldest.words()
     );
     let rich = [(seen.steps(), 1_000_000), (committed, 2000), (called, 2000), (voted, 2000), (yielded, 200), (used_up, 200), (least, 10)];
     let rich = [&rich[..], &batches, &[(closed, 400), (loaded, 4000)]].concat();
     let rich = rich.iter().all(|&(count, floor)| count >= floor * rounds);
-    ensure!(rich && seen.authors.rich(rounds) && seen.turns.rich(20 * rounds), "too poor: {counted}");
+    ensure!(rich && seen.authors.rich(rounds), "too poor: {counted}");
+    ensure!(seen.turns.rich(20 * rounds) && seen.oldest.rich(rounds), "too poor: {counted}");
     Ok(counted)
 }
 

@@ -16,6 +16,7 @@ use crate::model::{message, number, record, Fault};
 use crate::random::Random;
 use crate::runner::{ensure, Verdict};
 
+#[derive(Clone)]
 pub struct Compiled {
     /// The library's buffers.
     is: Buffers,

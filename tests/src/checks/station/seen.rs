@@ -1,6 +1,7 @@
 //! What the scenarios met: each step's number, and what became of transactions and why.
 
 use super::authors::Authors;
+use super::oldest::Oldest;
 use super::turns::Turns;
 use crate::model::classes::CLASSES;
 use crate::model::coordinator::{in_turn, misfits, Brought, Call};
@@ -174,6 +175,8 @@ pub struct Seen {
     pub authors: Authors,
     /// Timestamps at begin.
     pub turns: Turns,
+    /// Transactions that nothing stood against.
+    pub oldest: Oldest,
 }
 
 impl Seen {
