@@ -1,6 +1,7 @@
 // What a delivered message does: the kind decides, and a message that does not fit changes nothing. `booking` runs this step by value on a record that is
 // lent. A delivery from C works on the record's bytes instead, in `record_arrive`, which takes the message's number, an object with its copy and the raised
 // rivals from here.
+#![tactic(auto)]
 ghost use Rattle.std.specs.Prelude.{◌≡◌};
 ghost use Rattle.numbers.specs.Refusal.{first_of};
 ghost use Rattle.wire.specs.Decode.{rival_count};

@@ -1,1 +1,2 @@
 // No code: the laws of the clauses under a delivery.
+#![tactic(auto)]

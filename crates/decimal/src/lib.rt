@@ -1,4 +1,5 @@
 // The canonical decimal text of a number, put into a lent buffer.
+#![tactic(auto)]
 ghost use Rattle.std.specs.Prelude.{◌≡◌, ◌≤◌, length, drop};
 ghost use Rattle.decimal.specs.Decimal.{decimal, put_at, next_at};
 

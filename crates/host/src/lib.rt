@@ -1,4 +1,5 @@
 // The library's functions for C: numbers and byte slices (a slice is a pointer and a size_t), no heap, no state of their own.
+#![tactic(auto)]
 
 mod images;
 mod messages;

@@ -1,5 +1,6 @@
 // The stored image of a replica, in lent bytes: checked, made blank, read and changed in place.
 // Bytes of any length are taken. An object or an owner that is not there reads as 0, and setting it does nothing.
+#![tactic(auto)]
 mod change;
 mod fields;
 mod read;

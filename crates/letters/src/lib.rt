@@ -1,4 +1,5 @@
 // Messages written into lent bytes.
+#![tactic(auto)]
 mod write;
 
 pub use write::{

@@ -1,4 +1,5 @@
 // The list of numbers of a scenario, and what is laid in bytes from it: a table of packing hours, a table of classes, or weights.
+#![tactic(auto)]
 ghost use Rattle.std.specs.Prelude.{◌≡◌, cond, [], ◌+◌, ◌≤◌, ◌<◌, min, leb, length, take};
 ghost use Rattle.lists.specs.Lists.{has_room, appended, hours_width, classes_width, width, limit, counted, first, fits, laid};
 

@@ -1,4 +1,5 @@
 // A step of any kind, given as one order.
+#![tactic(auto)]
 use coordinator::BeginWith;
 
 // The kinds of steps.

@@ -1,4 +1,5 @@
 // The tree of thirteen nodes, its read and write quorums, and the nearest of them within the live nodes.
+#![tactic(auto)]
 ghost use Rattle.std.specs.Prelude.{◌≡◌, cond, ◌+◌, ◌*◌, ◌^◌, ◌<◌, ◌≤◌};
 ghost use Rattle.numbers.specs.Sizes.{nodes};
 ghost use Rattle.numbers.specs.Numbers.{no_quorum};

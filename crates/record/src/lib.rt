@@ -1,6 +1,7 @@
 // The coordinator's record as bytes: checked, read, written and shown. The calls on these bytes are in `record_calls`, `record_arrive` and `record_due`,
 // which read and change single pieces of them by the functions of `load`, `look` and `store`. Some of these ask a plain fact of the bytes: their length, a
 // count, that the check passed. Their callers prove it.
+#![tactic(auto)]
 ghost use Rattle.std.specs.Prelude.{◌≡◌};
 ghost use Rattle.record.specs.Call.{called};
 

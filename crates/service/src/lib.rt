@@ -1,1 +1,2 @@
 // The station with thirteen front ends and its steps: definitions, no code.
+#![tactic(auto)]

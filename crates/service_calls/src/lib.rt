@@ -1,5 +1,6 @@
 // The station with thirteen front ends, over five lent buffers: the station's four and the settings. A host's call goes by its node's front end, hours are
 // loaded, and a blank service is made; every other step is the station's own.
+#![tactic(auto)]
 ghost use Rattle.std.specs.Prelude.{◌≡◌, []};
 ghost use Rattle.frontend.specs.Asked.{call_of};
 ghost use Rattle.record.specs.declared.Called.{Called};

@@ -1,5 +1,6 @@
 // The station program: reads scenarios as text, and writes what their steps answered and how each scenario ends.
 // It moves bytes only: what is done and written for what is read is `scenario`.
+#![tactic(auto)]
 use libc::{STDIN_FILENO, STDOUT_FILENO};
 use numbers::EVERY_NODE;
 use reading::Reader;

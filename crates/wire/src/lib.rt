@@ -1,4 +1,5 @@
 // Messages: bytes checked and read in place. The tests of a message's counts, header, entries and rivals are for its writers too.
+#![tactic(auto)]
 mod read;
 mod verify;
 

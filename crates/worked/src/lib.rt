@@ -1,1 +1,2 @@
 // No code: one transaction at a replica, computed on the bytes of its image.
+#![tactic(auto)]
