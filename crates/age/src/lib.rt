@@ -1,5 +1,6 @@
 // Which of two transactions is older, and which timestamp comes too early for a node's next one.
 #![tactic(auto)]
+
 ghost use Rattle.std.specs.Prelude.{◌≡◌};
 ghost use Rattle.age.specs.Age.{older, too_early};
 

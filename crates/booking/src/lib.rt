@@ -11,7 +11,7 @@ use coordinator::{BeginWith, Coordinator};
 use numbers::NODES;
 
 // What a call answers: its number, and its answer (0 where there is none).
-#[derive(Drop)]
+#[derive(Clone, Copy)]
 pub struct Called {
     pub number: u8,
     pub answer: u64,

@@ -9,7 +9,7 @@ use numbers::{EVERY_NODE, either, refuse};
 
 // What a step answers: its number, and its answer (0 where there is none).
 #[repr(C)]
-#[derive(Drop)]
+#[derive(Clone, Copy)]
 pub struct Answer {
     pub number: u8,
     pub answer: u64,

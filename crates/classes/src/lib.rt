@@ -281,7 +281,7 @@ fn weigh(kept: &[u8], list: &[u8]) -> [u32; MOST_CLASSES]
 }
 
 // What is booked of a batch, in whole grams, and the tenths left over, by class.
-#[derive(Drop)]
+#[derive(Clone, Copy)]
 pub struct Sorted {
     pub grams: [u64; MOST_CLASSES],
     pub left: [u8; MOST_CLASSES],

@@ -14,7 +14,7 @@ use state::{at_rest, settled};
 use tenths::waiting;
 
 // The newest copy of an object, the nodes that have it, and its author at the first of them: owner and serial.
-#[derive(Drop)]
+#[derive(Clone, Copy)]
 pub struct Best {
     pub version: u32,
     pub value: u64,

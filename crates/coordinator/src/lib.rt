@@ -35,7 +35,7 @@ pub const FINISHED: u8 = 4;
 
 // One opened object (document 01: tally): which, in which mode (0 read, 1 write), the nodes whose copies came, the version and value found,
 // whether a new value was given, and that value.
-#[derive(Drop)]
+#[derive(Clone, Copy)]
 pub struct Object {
     pub object: u8,
     pub mode: u8,
@@ -49,7 +49,7 @@ pub struct Object {
 // The record. The lasting part: the last serial and timestamp, the last outcome. The rest is the transaction, blank while idle: its phase; the
 // live nodes and distances last given; the present read quorum; the contacted nodes; how many objects are open, in the order of opening; the
 // participants, who voted yes, who said done; for each owner the highest serial of a rival that was named, 0 for none.
-#[derive(Drop)]
+#[derive(Clone, Copy)]
 pub struct Coordinator {
     pub serial: u32,
     pub timestamp: u32,
@@ -68,7 +68,7 @@ pub struct Coordinator {
 }
 
 // What the host gives at begin.
-#[derive(Drop)]
+#[derive(Clone, Copy)]
 pub struct BeginWith {
     pub live: u16,
     pub distances: [u16; NODES],
@@ -76,7 +76,7 @@ pub struct BeginWith {
 }
 
 // What a call gives: its number, its answer (0 where there is none), and the record after it.
-#[derive(Drop)]
+#[derive(Clone, Copy)]
 pub struct Step {
     pub number: u8,
     pub answer: u64,

@@ -1,10 +1,11 @@
 // The canonical decimal text of a number, put into a lent buffer.
 #![tactic(auto)]
+
 ghost use Rattle.std.specs.Prelude.{◌≡◌, ◌≤◌, length, drop};
 ghost use Rattle.decimal.specs.Decimal.{decimal, put_at, next_at};
 
 // The text of a number: the bytes from `from` on.
-#[derive(Drop)]
+#[derive(Clone, Copy)]
 struct Text {
     from: usize,
     bytes: [u8; 20],

@@ -19,14 +19,14 @@ use numbers::{MOST_OPEN, OBJECTS, both};
 use wire::Entry;
 
 // What is due to a node: the call's number, and the kind of message, 0 where nothing is due.
-#[derive(Drop)]
+#[derive(Clone, Copy)]
 pub struct Duty {
     pub number: u8,
     pub kind: u8,
 }
 
 // The first `count` of eight entries.
-#[derive(Drop)]
+#[derive(Clone, Copy)]
 pub struct Gathered {
     pub entries: [Entry; MOST_OPEN],
     pub count: usize,

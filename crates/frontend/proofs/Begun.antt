@@ -242,8 +242,8 @@ module _ (l s : List ℕ) (me : ℕ) (w : BeginWith) (day minute : ℕ) (list : 
             late_so e = late_number s day minute (ltb-true last_minute minute e) _
 
     module _ (light : overweight list ≡ false) (early : minute ≤ last_minute) where
-      pub no_table : no_table (classes_in s) ≡ true → N ≡ out_of_turn_after own
-      no_table e = number_is light (out_of_turn_after own)
+      pub no_table_lem : no_table (classes_in s) ≡ true → N ≡ out_of_turn_after own
+      no_table_lem e = number_is light (out_of_turn_after own)
           (ap (λ (x : Bool). begin_number s day minute (barred x own)) e ∙ turned_number s day minute early (out_of_turn_after own) (out_of_turn_lem own))
 
       module _ (table : no_table (classes_in s) ≡ false) where

@@ -11,7 +11,7 @@ pub use tell::waiting;
 pub use whole::{front, list_number, nowhere_number, off_number};
 
 // What a host may ask of a front end.
-#[derive(Drop)]
+#[derive(Clone, Copy)]
 pub enum Act {
     Begin,
     Batch,
@@ -23,7 +23,7 @@ pub enum Act {
 }
 
 // One call: what is asked, and what that needs. The rest is not looked at.
-#[derive(Drop)]
+#[derive(Clone, Copy)]
 pub struct Ask {
     pub act: Act,
     pub with: BeginWith,

@@ -23,7 +23,7 @@ const DISTANCES: usize = 26;
 
 // What a call for the nearest quorum answers: a number, and where it is 0 the set and its sum of distances.
 #[repr(C)]
-#[derive(Drop)]
+#[derive(Clone, Copy)]
 pub struct Chosen {
     pub number: u8,
     pub mask: u16,
@@ -32,7 +32,7 @@ pub struct Chosen {
 
 // Who wrote a copy last: owner and serial of the transaction, or the number of a refusal.
 #[repr(C)]
-#[derive(Drop)]
+#[derive(Clone, Copy)]
 pub struct Author {
     pub number: u8,
     pub owner: u8,

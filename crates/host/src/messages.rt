@@ -9,7 +9,7 @@ use wire::Entry;
 
 // Up to eight entries: the first count. A count above 8 is one of more entries than a message has.
 #[repr(C)]
-#[derive(Drop)]
+#[derive(Clone, Copy)]
 pub struct Entries {
     pub entry: [Entry; MOST_OPEN],
     pub count: u8,
@@ -17,7 +17,7 @@ pub struct Entries {
 
 // A serial for each owner; 0 where it is no rival.
 #[repr(C)]
-#[derive(Drop)]
+#[derive(Clone, Copy)]
 pub struct Serials {
     pub serial: [u32; NODES],
 }

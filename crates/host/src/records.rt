@@ -23,7 +23,7 @@ use record::Called;
 
 // What a call for a value answers: a number, and where it is 0 the value.
 #[repr(C)]
-#[derive(Drop)]
+#[derive(Clone, Copy)]
 pub struct Value {
     pub number: u8,
     pub value: i64,

@@ -23,7 +23,7 @@ use numbers::NODES;
 
 // Where a waiting message stands in the pool and how long it is; on a refusal both are 0.
 #[repr(C)]
-#[derive(Drop)]
+#[derive(Clone, Copy)]
 pub struct Waiting {
     pub number: u8,
     pub place: usize,

@@ -100,8 +100,8 @@ module _ (states : ℕ → ℕ) (h : ℕ) where
       (λ s. inl (eqb→eq h nobody s)) a)
       b
 
-  pub holder_ok : HolderSound states h → T (holder_ok h)
-  holder_ok s =
+  pub holder_ok_lem : HolderSound states h → T (holder_ok h)
+  holder_ok_lem s =
       ⊎_elim (λ (e : h ≡ nobody). or_right (ltb h nodes) (eqb h nobody) (eq-T h nobody e))
       (λ e. or_left (ltb h nodes) (eqb h nobody) (lt→ltb h nodes e.0)) s
 
@@ -210,7 +210,7 @@ module _ (l : List ℕ) where
       let a = and_both (eqb (field_of object_count l 0) shape.objects) (eqb (field_of (owner_count shape) l 0) nodes)
       (eq-T (field_of object_count l 0) shape.objects s.objects_counted) (eq-T (field_of (owner_count shape) l 0) nodes s.owners_counted) in
       let b = and_both counts holders a
-      (each_all (λ t. holder_ok (holder l t)) shape.objects (λ t k. holder_ok (state l) (holder l t) (cs t k).holding)) in
+      (each_all (λ t. holder_ok (holder l t)) shape.objects (λ t k. holder_ok_lem (state l) (holder l t) (cs t k).holding)) in
       let c = and_both (counts && holders) states b
       (each_all (λ o. state_ok (state l o)) nodes (λ o k. le→leb (state l o) refused (s.owners_sound o k).small)) in
       let d = and_both (counts && holders && states) masks c

@@ -1,6 +1,7 @@
 // The stored image of a replica, in lent bytes: checked, made blank, read and changed in place.
 // Bytes of any length are taken. An object or an owner that is not there reads as 0, and setting it does nothing.
 #![tactic(auto)]
+
 mod change;
 mod fields;
 mod read;
@@ -19,7 +20,7 @@ pub use write::{
 };
 
 // The copy of an object (document 01: tally). The value is the 64 bits of a signed number.
-#[derive(Drop)]
+#[derive(Clone, Copy)]
 pub struct Copy {
     pub value: u64,
     pub version: u32,
@@ -32,7 +33,7 @@ pub struct Copy {
 }
 
 // What is kept of an owner: its last serial, the state of that transaction, and its stamp.
-#[derive(Drop)]
+#[derive(Clone, Copy)]
 pub struct Owner {
     pub serial: u32,
     pub state: u8,
@@ -40,7 +41,7 @@ pub struct Owner {
 }
 
 // What a walk over the owners finds: whether each alone is in order, and the masks of those in states 1 and 2.
-#[derive(Drop)]
+#[derive(Clone, Copy)]
 struct Walk {
     ok: bool,
     listed: u16,
@@ -73,7 +74,7 @@ pub const HELD: u8 = 2;
 pub const REFUSED: u8 = 3;
 
 // A field: `items` items of `stride` bytes each from byte `base` on; in each the `width` bytes from byte `offset` on.
-#[derive(Drop)]
+#[derive(Clone, Copy)]
 pub struct Field {
     pub items: u8,
     pub base: usize,

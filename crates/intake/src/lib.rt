@@ -14,7 +14,7 @@ use read::{counts_ok, old_copy, old_owner};
 mod read;
 
 // The shape of an older image: how many objects, and how many bytes a copy has.
-#[derive(Drop)]
+#[derive(Clone, Copy)]
 struct Older {
     objects: u8,
     width: usize,

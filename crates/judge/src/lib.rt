@@ -7,14 +7,14 @@ pub use judge::{judged, serials_of};
 pub use standings::{enter, is_active, standing};
 
 // What an ask's entries meet here: whether one of them bars a yes, and the rivals as a mask.
-#[derive(Drop)]
+#[derive(Clone, Copy)]
 struct Weighed {
     barred: bool,
     rivals: u16,
 }
 
 // How an ask is judged: whether the vote is no, and the rivals as a mask, whom a yes names.
-#[derive(Drop)]
+#[derive(Clone, Copy)]
 pub struct Verdict {
     pub no: bool,
     pub rivals: u16,

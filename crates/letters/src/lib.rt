@@ -8,7 +8,7 @@ pub use write::{
 
 // What a writer answers: a number, and how many bytes it filled.
 #[repr(C)]
-#[derive(Drop)]
+#[derive(Clone, Copy)]
 pub struct Written {
     pub number: u8,
     pub length: u8,

@@ -1,5 +1,6 @@
 // The list of numbers of a scenario, and what is laid in bytes from it: a table of packing hours, a table of classes, or weights.
 #![tactic(auto)]
+
 ghost use Rattle.std.specs.Prelude.{◌≡◌, cond, [], ◌+◌, ◌≤◌, ◌<◌, min, leb, length, take};
 ghost use Rattle.lists.specs.Lists.{has_room, appended, hours_width, classes_width, width, limit, counted, first, fits, laid};
 
@@ -11,7 +12,7 @@ pub const MOST_AT_ONCE: usize = 16;
 pub const SIZE: usize = 16392;
 
 // What is laid: packing hours, classes, or the weights of a batch.
-#[derive(Drop)]
+#[derive(Clone, Copy)]
 pub enum Shape {
     Hours,
     Classes,
@@ -19,7 +20,7 @@ pub enum Shape {
 }
 
 // Whether every number fits its place, and how many bytes were laid.
-#[derive(Drop)]
+#[derive(Clone, Copy)]
 pub struct Laid {
     pub fits: bool,
     pub long: usize,

@@ -1,5 +1,6 @@
 // Sets of nodes (document 01: controllers) as 16-bit masks, bit i for node i.
 #![tactic(auto)]
+
 ghost use Rattle.std.specs.Prelude.{◌≡◌};
 ghost use Rattle.mask.specs.Mask.{contains, only, joined, minus, within};
 

@@ -1,5 +1,6 @@
 // Document 01's numbers and document 02's, by their words, and how a call's number is found; 0 is no refusal. The sizes that everything is built to.
 #![tactic(auto)]
+
 ghost use Rattle.std.specs.Prelude.{◌≡◌, cond, ◌&&◌, ◌||◌};
 ghost use Rattle.numbers.specs.Refusal.{lower};
 

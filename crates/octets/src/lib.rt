@@ -1,6 +1,7 @@
 // Little-endian numbers in lent bytes, and the signed number that 64 bits are.
 // Bytes past the end are not there: they read as 0, and writing them does nothing.
 #![tactic(auto)]
+
 ghost use Rattle.std.specs.Prelude.{◌≡◌, ◌+◌, ◌-◌, ◌≤◌, ◌<◌, ◌^◌, min, leb, length, get_or, set};
 ghost use Rattle.octets.specs.Octets.{get, put};
 ghost use Rattle.octets.specs.Signed.{signed_of, bits_of};

@@ -3,7 +3,7 @@
 use coordinator::BeginWith;
 
 // The kinds of steps.
-#[derive(Drop)]
+#[derive(Clone, Copy)]
 pub enum Kind {
     Begin,
     Batch,
@@ -23,7 +23,7 @@ pub enum Kind {
 }
 
 // A step: its kind, and what that kind needs. The rest is not looked at.
-#[derive(Drop)]
+#[derive(Clone, Copy)]
 pub struct Order {
     pub kind: Kind,
     pub node: u8,

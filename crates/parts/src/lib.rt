@@ -1,6 +1,7 @@
 // Parts of lent bytes: the definitions that say what a lender's bytes are after a part was lent on, with their laws; bytes made zero,
 // and a list laid into bytes.
 #![tactic(auto)]
+
 ghost use Rattle.std.specs.Prelude.{◌≡◌, length, replicate};
 ghost use Rattle.parts.specs.Parts.{padded};
 

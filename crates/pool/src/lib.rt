@@ -1,5 +1,6 @@
 // The pool (document 01): the messages that wait, in lent bytes: a count, then 128 slots of a length and 128 bytes.
 #![tactic(auto)]
+
 ghost use Rattle.std.specs.Prelude.{◌≡◌, ◌+◌, ◌≤◌, ◌<◌, length};
 ghost use Rattle.numbers.specs.Sizes.{longest_message};
 ghost use Rattle.pool.specs.Pool.{message_place, count, length_at, check, slot_place, slot_size};

@@ -1,5 +1,6 @@
 // The tree of thirteen nodes, its read and write quorums, and the nearest of them within the live nodes.
 #![tactic(auto)]
+
 ghost use Rattle.std.specs.Prelude.{◌≡◌, cond, ◌+◌, ◌*◌, ◌^◌, ◌<◌, ◌≤◌};
 ghost use Rattle.numbers.specs.Sizes.{nodes};
 ghost use Rattle.numbers.specs.Numbers.{no_quorum};
@@ -15,14 +16,14 @@ ghost use Rattle.quorum.specs.Key.{Means, height_of, AllMean, AllSmall, lesser_o
 use numbers::NODES;
 
 // Which quorums are meant.
-#[derive(Drop)]
+#[derive(Clone, Copy)]
 pub enum Kind {
     Read,
     Write,
 }
 
 // A set of nodes with its sum of distances, or nothing where there is no quorum.
-#[derive(Drop)]
+#[derive(Clone, Copy)]
 pub enum Choice {
     Quorum(u16, u32),
     Nothing,

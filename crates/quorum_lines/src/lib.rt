@@ -21,7 +21,7 @@ const MOST_LIVE: u32 = EVERY_NODE as u32;
 const ASKERS_END: u16 = NODES_END as u16;
 
 // A line that is being read, byte by byte.
-#[derive(Drop)]
+#[derive(Clone, Copy)]
 pub struct Line {
     // How many numbers are complete.
     pub count: usize,
@@ -253,7 +253,7 @@ fn put_reply(out: &mut [u8], at: usize, line: Line) -> usize
 }
 
 // A line, and how far the replies go.
-#[derive(Drop)]
+#[derive(Clone, Copy)]
 struct Taken {
     line: Line,
     at: usize,
@@ -278,7 +278,7 @@ fn take_byte(line: Line, b: u8, out: &mut [u8], at: usize) -> Taken
 
 // What a piece of the input comes to: the line after it, how many bytes of the input it has, and how many bytes of replies are
 // written.
-#[derive(Drop)]
+#[derive(Clone, Copy)]
 pub struct Fed {
     pub line: Line,
     pub used: usize,

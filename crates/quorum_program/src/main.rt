@@ -5,7 +5,7 @@ use libc::{STDIN_FILENO, STDOUT_FILENO};
 use quorum_lines::Line;
 
 // The line that is being read, and whether to go on.
-#[derive(Drop)]
+#[derive(Clone, Copy)]
 struct Went {
     line: Line,
     on: bool,

@@ -11,7 +11,7 @@ use script::Said;
 pub const LONGEST_LINE: usize = 160;
 
 // A line that is being read, its bytes so far, its number, and whether a scenario runs; the clock, and how many numbers are listed.
-#[derive(Drop)]
+#[derive(Clone, Copy)]
 pub struct Reader {
     pub said: Said,
     pub text: [u8; LONGEST_LINE],
@@ -24,7 +24,7 @@ pub struct Reader {
 }
 
 // What a byte of the input comes to: the reader after it, and how many bytes of output there are.
-#[derive(Drop)]
+#[derive(Clone, Copy)]
 pub struct Taken {
     pub reader: Reader,
     pub written: usize,

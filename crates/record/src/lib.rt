@@ -19,7 +19,7 @@ pub use verify::check;
 
 // What a call answers: its number, and its answer (0 where there is none).
 #[repr(C)]
-#[derive(Drop)]
+#[derive(Clone, Copy)]
 pub struct Called {
     pub number: u8,
     pub answer: u64,

@@ -9,7 +9,7 @@ pub use delivery::{answers, receive};
 
 // What a delivery answers: a number, and how many bytes of the buffer the answer fills.
 #[repr(C)]
-#[derive(Drop)]
+#[derive(Clone, Copy)]
 pub struct Received {
     pub number: u8,
     pub length: u8,

@@ -11,7 +11,7 @@ use orders::Order;
 pub const MOST_NUMBERS: usize = 16;
 
 // What the bytes of a line say so far.
-#[derive(Drop)]
+#[derive(Clone, Copy)]
 pub struct Said {
     // Where in the line the next byte is.
     pub part: u8,
@@ -26,7 +26,7 @@ pub struct Said {
 
 // What a line is: 0 it says nothing, 1 it is bad, 2 `blank` with its mask as the order's live mask, 3 a step, 4 `clock` with its day and its minute as the
 // order's, 5 `list` with its numbers, 6 `hours`, `classes` or `batch`, a step that takes what is listed.
-#[derive(Drop)]
+#[derive(Clone, Copy)]
 pub struct Parsed {
     pub what: u8,
     pub order: Order,

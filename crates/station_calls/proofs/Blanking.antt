@@ -33,7 +33,7 @@ use Rattle.buffers.specs.Buffers.{own_damaged, on_of, station_of, all, Whole, Bl
 use Rattle.station_calls.specs.Calls.{each_part, images_blank, records_blank, blank_number, blank_after}
 use Rattle.buffers.proofs.First.{long}
 use Rattle.pool.specs.Pool.{pool_size}
-use Rattle.station_calls.proofs.Parted.{each_length, each_part}
+use Rattle.station_calls.proofs.Parted.{each_length, each_part_lem}
 
 pub record Sized (b : Buffers) (on : ℕ) : Type 0 where
   pub images : length b.images ≡ images_size
@@ -92,11 +92,11 @@ module _ (b : Buffers) (on : ℕ) (s : Sized b on) where
 
   image_is : (n : ℕ) → n < nodes → image_at made.images n ≡ blank_as shape
   unfolding image_at
-  image_is n h = each_part (image_size shape) nodes (blank_as shape) b.images length_blank s.images nodes (omega arith) n h
+  image_is n h = each_part_lem (image_size shape) nodes (blank_as shape) b.images length_blank s.images nodes (omega arith) n h
 
   record_is : (n : ℕ) → n < nodes → record_at made.records n ≡ bytes_of blank_record
   unfolding record_at
-  record_is n h = each_part record_size nodes (bytes_of blank_record) b.records record_long s.records nodes (omega arith) n h
+  record_is n h = each_part_lem record_size nodes (bytes_of blank_record) b.records record_long s.records nodes (omega arith) n h
 
   images_are : (n : ℕ) → image_in made.images n ≡ blank_as shape
   unfolding image_in

@@ -42,10 +42,10 @@ module _ (w k : ℕ) (m l : List ℕ) (e : length m ≡ w) (h : length l ≡ w *
   each_length zero p = h
   each_length (suc n) p = part_length w k (each_part w m n l) m e (each_length n (omega arith)) n (omega arith)
 
-  pub each_part : (n : ℕ) → n ≤ k → (i : ℕ) → i < n → part w (w * i) (each_part w m n l) ≡ m
+  pub each_part_lem : (n : ℕ) → n ≤ k → (i : ℕ) → i < n → part w (w * i) (each_part w m n l) ≡ m
   unfolding each_part
-  each_part zero p i q = absurd (let z : ⊥ = omega arith in z)
-  each_part (suc n) p i q = go (same_or_not i n) (each_part n (omega arith) i)
+  each_part_lem zero p i q = absurd (let z : ⊥ = omega arith in z)
+  each_part_lem (suc n) p i q = go (same_or_not i n) (each_part_lem n (omega arith) i)
     where
       below : (i ≡ n → ⊥) → i < n
       below s = ⊎_elim (λ a. a) (λ a. absurd (s (let z : i ≡ n = omega arith in z))) (lt_or_le i n)

@@ -9,7 +9,7 @@ use reading::Reader;
 const OUT: usize = 32768;
 
 // The reader, and whether to go on.
-#[derive(Drop)]
+#[derive(Clone, Copy)]
 struct Went {
     reader: Reader,
     on: bool,
@@ -24,7 +24,7 @@ fn put(out: &[u8], n: usize) -> bool {
 }
 
 // A byte of the input, and whether one came.
-#[derive(Drop)]
+#[derive(Clone, Copy)]
 struct Got {
     byte: u8,
     came: bool,

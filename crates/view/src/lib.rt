@@ -10,7 +10,7 @@ pub use sections::{counts_in, entry_in, header_of, places_of, rival_in, word_in}
 use wire::{Entry, Rival};
 
 // A view: the bytes, and the place of each section's count, behind which its items stand.
-#[derive(Drop)]
+#[derive(Clone, Copy)]
 pub struct View<'a> {
     pub bytes: &'a [u8],
     pub entries: u16,
@@ -19,7 +19,7 @@ pub struct View<'a> {
 }
 
 // Where the sections stand.
-#[derive(Drop)]
+#[derive(Clone, Copy)]
 pub struct Places {
     pub entries: u16,
     pub rivals: u16,
@@ -27,7 +27,7 @@ pub struct Places {
 }
 
 // The header of a message.
-#[derive(Drop)]
+#[derive(Clone, Copy)]
 pub struct Header {
     pub kind: u8,
     pub from: u8,
@@ -38,7 +38,7 @@ pub struct Header {
 }
 
 // How many items each section has.
-#[derive(Drop)]
+#[derive(Clone, Copy)]
 pub struct Counts {
     pub entries: u8,
     pub rivals: u8,
@@ -46,7 +46,7 @@ pub struct Counts {
 }
 
 // What a message shows: its header, how many items each section has, its i-th entry and its i-th rival, and its word; zeros where there is none.
-#[derive(Drop)]
+#[derive(Clone, Copy)]
 pub struct Shown {
     pub header: Header,
     pub counts: Counts,

@@ -1,5 +1,6 @@
 // Messages: bytes checked and read in place. The tests of a message's counts, header, entries and rivals are for its writers too.
 #![tactic(auto)]
+
 mod read;
 mod verify;
 
@@ -8,7 +9,7 @@ pub use verify::{above, check, counts_ok, entry_fits, entry_ok, head_ok, rival_o
 
 // One object of a message (document 01: tally): which, in which mode (0 read, 1 write), the version and the value.
 #[repr(C)]
-#[derive(Drop)]
+#[derive(Clone, Copy)]
 pub struct Entry {
     pub object: u8,
     pub mode: u8,
@@ -17,14 +18,14 @@ pub struct Entry {
 }
 
 // One rival: the owner and serial of another transaction.
-#[derive(Drop)]
+#[derive(Clone, Copy)]
 pub struct Rival {
     pub owner: u8,
     pub serial: u32,
 }
 
 // The header of a message: kind, from, to, and the transaction that it speaks of.
-#[derive(Drop)]
+#[derive(Clone, Copy)]
 pub struct Head {
     pub kind: u8,
     pub from: u8,

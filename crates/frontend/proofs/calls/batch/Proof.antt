@@ -15,7 +15,7 @@ use Rattle.record.proofs.Kept.{same_bytes}
 use Rattle.settings.proofs.Sound.{sound_parts}
 use Rattle.frontend.specs.Plan.{Call, batch, out_of_turn_after, list_number}
 use Rattle.frontend.proofs.Does.{refused_first, list_first, first_fine}
-use Rattle.frontend.proofs.Begun.{own_number_lem, out_of_turn_lem, batch_refuses, overweight_three, no_table, shut_batch, open_batch, neither}
+use Rattle.frontend.proofs.Begun.{own_number_lem, out_of_turn_lem, batch_refuses, overweight_three, no_table_lem, shut_batch, open_batch, neither}
 use borrow.Author.Rules.{rules}
 use Rattle.frontend.proofs.calls.batch.Statement.{statement}
 use Rattle.frontend.proofs.calls.batch.Tie as tie
@@ -147,7 +147,7 @@ returns-3 c =
     let own = own_number_lem (λ (k : Coordinator). begin_of tree k x.me x.w) l e _ c.before.before.begin-number.ensures in
     let t = c.before.late.ensures ∙ ap out_of_turn_after (sym own) in
     let d = batch_refuses l s x.me x.w x.day x.minute x.list.now same z _
-    (no_table l s x.me x.w x.day x.minute x.list.now same z n.0 n.1 (sym c4.before.is_none.ensures ∙ c4.if3.true) ∙ sym t)
+    (no_table_lem l s x.me x.w x.day x.minute x.list.now same z n.0 n.1 (sym c4.before.is_none.ensures ∙ c4.if3.true) ∙ sym t)
     (λ q. out_of_turn_lem (begin_of tree (record_of l) x.me x.w).number (sym t ∙ q)) in
     (c.refused3.ensures ∙ d.told, (d.its_record, d.settings))
 

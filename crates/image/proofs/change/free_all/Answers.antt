@@ -1,0 +1,24 @@
+-- `image::change::free_all`: the holders of the objects passed are freed.
+use native.Mathlib.Omega.{arith}
+use mathlib.Core.Path.{◌≡◌, refl, sym, ◌∙◌}
+use Rattle.image.specs.Field.{changed_all}
+use Rattle.image.specs.Layout.{shape, holder_field}
+use Rattle.image.specs.Change.{freeing, free}
+use Rattle.image.proofs.Lens.{all_more}
+use Rattle.image.proofs.change.free_all.Goals as goal
+
+pub loop-t-init : goal.loop-t-init
+unfolding changed_all
+loop-t-init c = (omega arith, refl, refl)
+
+pub free_here-requires : goal.free_here-requires
+free_here-requires c = let l = c.loop-t in (omega arith, l.invariant.1 ∙ c.requires)
+
+pub shape_of-image : goal.shape_of-image
+shape_of-image c = c.loop-t.invariant.1
+
+pub returns : goal.returns
+unfolding free
+returns c = let l = c.loop-t in
+    let e : l.t ≡ shape.objects = omega arith in
+    rw e at l.invariant.2

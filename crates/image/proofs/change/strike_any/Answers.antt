@@ -1,0 +1,21 @@
+-- `image::change::strike_any`: the owner has left the lists of the objects passed.
+use native.Mathlib.Omega.{arith}
+use mathlib.Core.Path.{◌≡◌, refl, ◌∙◌}
+use Rattle.image.specs.Field.{changed_all}
+use Rattle.image.specs.Layout.{shape}
+use Rattle.image.specs.Change.{leave, unlist}
+use Rattle.image.proofs.Whole.{struck_next}
+use Rattle.image.proofs.change.strike_any.Goals as goal
+
+pub loop-t-init : goal.loop-t-init
+unfolding changed_all
+loop-t-init c = (omega arith, refl, refl)
+
+pub shape_of-image : goal.shape_of-image
+shape_of-image c = c.loop-t.invariant.1
+
+pub returns : goal.returns
+unfolding unlist leave
+returns c = let l = c.loop-t in
+    let e : l.t ≡ shape.objects = omega arith in
+    rw e at l.invariant.2

@@ -1,0 +1,7 @@
+-- `octets::put_u64`: all bytes there, or one by one.
+use mathlib.Core.Path.{sym, ◌∙◌}
+use borrow.Author.Tests.{leb-true}
+use Rattle.octets.proofs.put_u64.Goals as goal
+
+pub put_eight-requires : goal.put_eight-requires
+put_eight-requires c = leb-true _ _ (sym c.within.ensures ∙ c.if-within.true)
