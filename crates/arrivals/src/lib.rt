@@ -2,6 +2,7 @@
 // lent. A delivery from C works on the record's bytes instead, in `record_arrive`, which takes the message's number, an object with its copy and the raised
 // rivals from here.
 #![tactic(auto)]
+
 ghost use Rattle.std.specs.Prelude.{◌≡◌};
 ghost use Rattle.numbers.specs.Refusal.{first_of};
 ghost use Rattle.wire.specs.Decode.{rival_count};

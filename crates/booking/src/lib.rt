@@ -2,6 +2,7 @@
 // the coordinator's step by value, with the record before it taken out and the record after it put back. Where the number is not 0 the record is
 // as before. Document 01 asks for the step in this form; a call from C works on the record's bytes instead, in `record_calls` and `record_arrive`.
 #![tactic(auto)]
+
 ghost use Rattle.coordinator.specs.System.{tree};
 ghost use Rattle.coordinator.specs.Calls.{begin_of, open_of, set_of, reselect_of, request_commit_of, abort_of};
 ghost use Rattle.arrivals.specs.Receive.{receive_of};

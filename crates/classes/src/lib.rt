@@ -1,5 +1,6 @@
 // Weight classes: a table of bounds and tallies, as it is lent and as a node keeps it in lent bytes; a batch of weights sorted into the classes.
 #![tactic(auto)]
+
 ghost use Rattle.std.specs.Prelude.{◌≡◌, true, cond, ℕ, ◌+◌, ◌/◌, ◌%◌, ◌≤◌, ◌<◌, ltb, leb, get_or};
 ghost use Rattle.wire.specs.Formed.{every};
 ghost use Rattle.wire.specs.Decode.{items_from};

@@ -1,6 +1,7 @@
 // A node's own transaction (document 01: the booking end): a record by value, and the host's calls. `booking` runs these steps on a record that is lent,
 // and the definitions here are what every call must meet. A call from C works on the record's bytes instead, in `record_calls`.
 #![tactic(auto)]
+
 mod calls;
 mod common;
 mod objects;

@@ -1,5 +1,6 @@
 // Packing hours: a table of weekly windows and closed dates, as it is lent and as a node keeps it in lent bytes.
 #![tactic(auto)]
+
 ghost use Rattle.std.specs.Prelude.{◌≡◌, ◌<◌, eqb, length};
 ghost use Rattle.wire.specs.Formed.{every};
 ghost use Rattle.hours.specs.Hours.{window_count, dates_place, date_count, windows, dates, window_ok, faulty, table_number, any_of, in_window, closed_by};

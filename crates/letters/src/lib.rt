@@ -1,5 +1,6 @@
 // Messages written into lent bytes.
 #![tactic(auto)]
+
 mod write;
 
 pub use write::{

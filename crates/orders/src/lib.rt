@@ -1,5 +1,6 @@
 // A step of any kind, given as one order.
 #![tactic(auto)]
+
 use coordinator::BeginWith;
 
 // The kinds of steps.

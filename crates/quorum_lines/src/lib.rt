@@ -1,5 +1,6 @@
 // The lines of the quorum program: what a line says, the reply to it, and the replies to input that comes in pieces.
 #![tactic(auto)]
+
 ghost use Rattle.std.specs.Prelude.{◌≡◌, ◌+◌, ◌≤◌, ◌<◌, length};
 ghost use Rattle.numbers.specs.Sizes.{nodes};
 ghost use Rattle.decimal.specs.Decimal.{put_at, next_at};

@@ -2,6 +2,7 @@
 // Each function takes one thing that an event may tell; the caller tells them in the order of the events. Crate history proves that the sheet's last
 // values are then those of the definition.
 #![tactic(auto)]
+
 ghost use Rattle.std.specs.Prelude.{◌≡◌, ◌≤◌, ◌<◌, length, set, get_or};
 ghost use Rattle.numbers.specs.Sizes.{objects};
 ghost use Rattle.replay.specs.Digest.{next, first_yes, takes};

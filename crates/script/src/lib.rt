@@ -1,5 +1,6 @@
 // What a line of a scenario says, byte by byte, and the step that it names.
 #![tactic(auto)]
+
 mod line;
 mod naming;
 

@@ -1,3 +1,2 @@
--- Walking lists what the walks name; Equal has what the proofs share.
-pub mod Walking
+-- Equal has what the proofs share.
 pub mod Equal

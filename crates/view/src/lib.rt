@@ -1,6 +1,7 @@
 // A received message is shown as a view over its bytes: the slice and where its three sections stand. The functions over a view are thin; the work is
 // done on the slice and the places (sections). `show` has plain parameters, so its callers see no view.
 #![tactic(auto)]
+
 mod sections;
 
 ghost use Rattle.std.specs.Prelude.{◌≡◌};

@@ -14,6 +14,15 @@ loop-t-init c = (omega arith, refl, refl)
 pub free_here-requires : goal.free_here-requires
 free_here-requires c = let l = c.loop-t in (omega arith, l.invariant.1 ∙ c.requires)
 
+pub loop-t-preserved : goal.loop-t-preserved
+loop-t-preserved c = let l = c.loop-t in
+    let k = c.free_here in
+    let x = c.args in (
+      omega arith,
+      k.auto.image ∙ l.invariant.1,
+      rw (k.ensures, l.invariant.2) (sym (all_more (holder_field shape) (freeing x.o) l.t x.image.now)),
+    )
+
 pub shape_of-image : goal.shape_of-image
 shape_of-image c = c.loop-t.invariant.1
 

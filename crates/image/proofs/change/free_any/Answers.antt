@@ -11,6 +11,15 @@ pub loop-t-init : goal.loop-t-init
 unfolding changed_all
 loop-t-init c = (omega arith, refl, refl)
 
+pub loop-t-preserved : goal.loop-t-preserved
+loop-t-preserved c = let l = c.loop-t in
+    let k = c.free_one in
+    let x = c.args in (
+      omega arith,
+      k.auto.image ∙ l.invariant.1,
+      rw (k.ensures, l.invariant.2) (sym (all_more (holder_field shape) (freeing x.o) l.t x.image.now)),
+    )
+
 pub shape_of-image : goal.shape_of-image
 shape_of-image c = c.loop-t.invariant.1
 

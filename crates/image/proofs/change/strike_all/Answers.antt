@@ -14,6 +14,13 @@ loop-t-init c = (omega arith, refl, refl)
 pub strike_here-requires : goal.strike_here-requires
 strike_here-requires c = let l = c.loop-t in (omega arith, l.invariant.1 ∙ c.requires)
 
+pub loop-t-preserved : goal.loop-t-preserved
+loop-t-preserved c = let l = c.loop-t in
+    let k = c.strike_here in
+    let x = c.args in
+    let own = c.single-own.ensures in
+    (omega arith, k.auto.image ∙ l.invariant.1, rw (k.ensures, own, l.invariant.2) (struck_next x.image.now x.o l.t))
+
 pub shape_of-image : goal.shape_of-image
 shape_of-image c = c.loop-t.invariant.1
 

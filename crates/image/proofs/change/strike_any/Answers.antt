@@ -11,6 +11,13 @@ pub loop-t-init : goal.loop-t-init
 unfolding changed_all
 loop-t-init c = (omega arith, refl, refl)
 
+pub loop-t-preserved : goal.loop-t-preserved
+loop-t-preserved c = let l = c.loop-t in
+    let k = c.strike_one in
+    let x = c.args in
+    let own = c.single-own.ensures in
+    (omega arith, k.auto.image ∙ l.invariant.1, rw (k.ensures, own, l.invariant.2) (struck_next x.image.now x.o l.t))
+
 pub shape_of-image : goal.shape_of-image
 shape_of-image c = c.loop-t.invariant.1
 

@@ -12,6 +12,12 @@ pub loop-t-init : goal.loop-t-init
 unfolding changed_all
 loop-t-init c = (omega arith, refl, refl)
 
+pub loop-t-preserved : goal.loop-t-preserved
+loop-t-preserved c = let l = c.loop-t in
+    let k = c.set_holder in
+    let a = c.args.image.now in
+    (omega arith, k.auto.image ∙ l.invariant.1, rw (k.ensures, l.invariant.2) (sym (all_more (holder_field shape) (λ h. nobody) l.t a)))
+
 pub shape_of-image : goal.shape_of-image
 shape_of-image c = c.loop-t.invariant.1
 

@@ -13,6 +13,31 @@ pub loop-t-init : goal.loop-t-init
 unfolding each
 loop-t-init c = (omega arith, refl)
 
+pub returns-then-not-author_ok : goal.returns-then-not-author_ok
+returns-then-not-author_ok c = let l = c.loop-t in
+    let image = c.args.image.now in
+    let said : c.author_ok.result ≡ fine image l.t = rw (
+      c.author_ok.ensures,
+      c.here_u8.ensures,
+      c.both-none.ensures,
+      c.here_u16-high.ensures,
+      c.here_u16-low.ensures,
+    ) (author_by image l.t (omega arith)) in
+    sym (each_fails (fine image) shape.objects l.t (omega arith) (sym said ∙ c.if-not-author_ok.true))
+
+pub loop-t-preserved : goal.loop-t-preserved
+loop-t-preserved c = let l = c.loop-t in
+    let image = c.args.image.now in
+    let said : c.author_ok.result ≡ fine image l.t = rw (
+      c.author_ok.ensures,
+      c.here_u8.ensures,
+      c.both-none.ensures,
+      c.here_u16-high.ensures,
+      c.here_u16-low.ensures,
+    ) (author_by image l.t (omega arith)) in
+    let e : fine image l.t ≡ true = sym said ∙ c.if-not-author_ok.false in
+    (omega arith, each_more (fine image) l.t ∙ rw (l.invariant.1, e))
+
 pub returns : goal.returns
 returns c = let l = c.loop-t in
     let e : l.t ≡ shape.objects = omega arith in

@@ -15,6 +15,28 @@ pub loop-t-init : goal.loop-t-init
 unfolding each
 loop-t-init c = (omega arith, refl, refl)
 
+pub returns-then-not-holder_ok : goal.returns-then-not-holder_ok
+returns-then-not-holder_ok c = let l = c.loop-t in
+    let x = c.args in
+    let e : fit x.held x.image.now l.t ≡ false =
+    ap (holder_fits x.held) (sym c.here_u8.ensures) ∙ sym c.holder_ok.ensures ∙ c.if-not-holder_ok.true in
+    let q = inside x.listed x.image.now l.t in
+    sym (each_fails (copy_fits x.listed x.held x.image.now) shape.objects l.t (omega arith) (ap (λ (b : Bool). b && q) e))
+
+pub loop-t-preserved : goal.loop-t-preserved
+loop-t-preserved c = let l = c.loop-t in
+    let x = c.args in
+    let p = fit x.held x.image.now in
+    let q = inside x.listed x.image.now in
+    let e : p l.t ≡ true =
+    ap (holder_fits x.held) (sym c.here_u8.ensures) ∙ sym c.holder_ok.ensures ∙ c.if-not-holder_ok.false in (
+      omega arith,
+      each_more p l.t ∙ rw (l.invariant.1, e),
+      rw (c.join-lists.ensures, c.join.ensures, c.here_u16-w.ensures, c.here_u16-r.ensures)
+          (within_joined l.lists (joined (readers x.image.now l.t) (writers x.image.now l.t)) x.listed
+          ∙ ap (λ (b : Bool). b && q l.t) l.invariant.2 ∙ sym (each_more q l.t)),
+    )
+
 pub returns : goal.returns
 returns c = let l = c.loop-t in
     let x = c.args in

@@ -22,7 +22,7 @@ returns-then-not-entry_fits c = let l = c.loop-left in
     let z : k ≡ 14 = omega arith in
     let step = items_step entry_at 14 s l.left l.at c.loop-left-test.true
     ∙ ap (λ (y : Entry). y ∷ items_from entry_at 14 (l.left - 1) s (l.at + 14)) (sym (c.entry_at-e.ensures ∙ entry_in s l.at k z)) in
-    run_stop object_of (entry_ok x.kind) l.lo c.entry_fits.result _ _ _ _ step c.entry_fits.ensures (c.if-not-entry_fits.true l.invariant.1
+    run_stop object_of (entry_ok x.kind) l.lo c.entry_fits.result _ _ _ _ step c.entry_fits.ensures c.if-not-entry_fits.true l.invariant.1
 
 pub loop-left-preserved : goal.loop-left-preserved
 loop-left-preserved c = let l = c.loop-left in
@@ -33,7 +33,7 @@ loop-left-preserved c = let l = c.loop-left in
     let step = items_step entry_at 14 s l.left l.at c.loop-left-test.true
     ∙ ap (λ (y : Entry). y ∷ items_from entry_at 14 (l.left - 1) s (l.at + 14)) (sym (c.entry_at-e.ensures ∙ entry_in s l.at k z)) in (
       omega arith,
-      run_again object_of (entry_ok x.kind) l.lo c.entry_fits.result _ _ _ _ _ step c.entry_fits.ensures (c.if-not-entry_fits.false
+      run_again object_of (entry_ok x.kind) l.lo c.entry_fits.result _ _ _ _ _ step c.entry_fits.ensures c.if-not-entry_fits.false
           c.above-lo.ensures l.invariant.1,
     )
 

@@ -14,18 +14,18 @@ unfolding counts_ok
 returns-in-1-to-8 c = simp (
   c.both-rest.ensures,
   c.in-1.is,
-  le-leb 1 _ c.if-entries-lt1.false,
-  le-leb _ most_open (le_of_suc-le-suc c.if-entries-lt9.true),
+  le-leb 1 _ c.in-1-to-8.if-entries-lt1-own.false,
+  le-leb _ most_open (le_of_suc-le-suc c.in-1-to-8.if-entries-lt9-own.true),
 )
 
 pub returns-in_default-entries : goal.returns-in_default-entries
 unfolding counts_ok
-returns-in_default-entries c = simp (c.in-1.is, lt-leb 1 _ c.if-entries-lt1.true)
+returns-in_default-entries c = simp (c.in-1.is, lt-leb 1 _ c.in_default-entries.if-entries-lt1-own.true)
 
 pub returns-in_default-entries-2 : goal.returns-in_default-entries-2
 unfolding counts_ok
-returns-in_default-entries-2 c = simp (c.in-1.is, le-leb 1 _ c.if-entries-lt1.false, lt-leb _ most_open c.if-entries-lt9.false)
+returns-in_default-entries-2 c = simp (c.in-1.is, le-leb 1 _ c.in_default-entries.if-entries-lt1-own.false, lt-leb _ most_open c.in_default-entries.if-entries-lt9-own.false)
 
 pub returns-in_default : goal.returns-in_default
 unfolding counts_ok
-returns-in_default c = simp (ne_eqb _ 0 c.in_default.rest.0.1, ne_eqb _ 1 c.in_default.rest.1)
+returns-in_default c = simp (ne_eqb _ 0 c.in_default.in_default-own.rest.0.1, ne_eqb _ 1 c.in_default.in_default-own.rest.1)

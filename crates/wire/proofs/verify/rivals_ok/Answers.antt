@@ -23,7 +23,7 @@ returns-then-not-rival_fits c = let l = c.loop-left in
     let step = items_step rival_at 5 s l.left l.at c.loop-left-test.true
     ∙ ap (λ (y : Rival). y ∷ items_from rival_at 5 (l.left - 1) s (l.at + 5)) (sym (c.rival_at-r.ensures ∙ rival_in_lem s l.at k z)) in
     run_stop owner_in (rival_ok x.kind x.owner x.to) l.lo c.rival_fits.result _ _ _ _ step c.rival_fits.ensures
-    (c.if-not-rival_fits.true l.invariant.1
+    c.if-not-rival_fits.true l.invariant.1
 
 pub loop-left-preserved : goal.loop-left-preserved
 loop-left-preserved c = let l = c.loop-left in
@@ -35,7 +35,7 @@ loop-left-preserved c = let l = c.loop-left in
     ∙ ap (λ (y : Rival). y ∷ items_from rival_at 5 (l.left - 1) s (l.at + 5)) (sym (c.rival_at-r.ensures ∙ rival_in_lem s l.at k z)) in (
       omega arith,
       run_again owner_in (rival_ok x.kind x.owner x.to) l.lo c.rival_fits.result _ _ _ _ _ step c.rival_fits.ensures
-          (c.if-not-rival_fits.false c.above-lo.ensures l.invariant.1,
+          c.if-not-rival_fits.false c.above-lo.ensures l.invariant.1,
     )
 
 pub returns : goal.returns

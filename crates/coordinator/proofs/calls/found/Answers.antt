@@ -1,0 +1,16 @@
+-- `coordinator::calls::found`: a number refuses; 0 does the deed.
+use borrow.Author.Tests.{eq-eqb, ne_eqb}
+use mathlib.Core.Path.{sym}
+use Rattle.coordinator.specs.State.{step_of}
+use Rattle.coordinator.specs.Calls.{found_of}
+use Rattle.coordinator.proofs.calls.found.Goals as goal
+
+pub returns-then-number-ne0 : goal.returns-then-number-ne0
+unfolding found_of step_of
+returns-then-number-ne0 c = simp
+    (c.refused.ensures, sym c.found_number-number.ensures, ne_eqb _ 0 c.if-number-ne0.true)
+
+pub returns : goal.returns
+unfolding found_of step_of
+returns c = simp
+    (c.taken.ensures, c.at_place-x.ensures, sym c.found_number-number.ensures, eq-eqb _ 0 c.if-number-ne0.false)

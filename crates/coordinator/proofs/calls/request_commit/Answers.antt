@@ -1,0 +1,27 @@
+-- `coordinator::calls::request_commit`: a number refuses; 0 does the deed.
+use borrow.Author.Tests.{eq-eqb, ne_eqb}
+use mathlib.Core.Path.{sym}
+use Rattle.coordinator.specs.State.{step_of}
+use Rattle.coordinator.specs.Calls.{request_commit_of, requested}
+use Rattle.coordinator.proofs.calls.request_commit.Goals as goal
+
+pub returns-then-number-ne0 : goal.returns-then-number-ne0
+unfolding request_commit_of step_of
+returns-then-number-ne0 c = simp (
+  c.refused.ensures,
+  sym c.nearest-chosen.ensures.value,
+  sym c.request_number-number.ensures,
+  ne_eqb _ 0 c.if-number-ne0.true,
+)
+
+pub returns : goal.returns
+unfolding request_commit_of requested step_of
+returns c = simp (
+  c.taken.ensures,
+  c.wide.ensures,
+  c.join-participants.ensures,
+  c.mask_of.ensures,
+  sym c.nearest-chosen.ensures.value,
+  sym c.request_number-number.ensures,
+  eq-eqb _ 0 c.if-number-ne0.false,
+)

@@ -1,0 +1,12 @@
+-- `script::negated`: each way through the tests computes the definition.
+use borrow.Author.Tests.{eq-eqb, ne_eqb}
+use Rattle.script.specs.Said.{negated}
+use Rattle.script.proofs.line.negated.Goals as goal
+
+pub returns-then-v-eq0 : goal.returns-then-v-eq0
+unfolding negated
+returns-then-v-eq0 c = simp (eq-eqb _ _ c.if-v-eq0.true)
+
+pub returns-else-v-eq0 : goal.returns-else-v-eq0
+unfolding negated
+returns-else-v-eq0 c = simp (ne_eqb _ _ c.if-v-eq0.false)
