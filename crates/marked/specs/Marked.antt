@@ -1,5 +1,5 @@
--- The nine marked cases of document 01, whose asker is node 0, and the one of document 02: one table, and one fact over all of its rows, by computation.
-use Rattle.std.specs.Prelude.{Bool, true, false, ◌&&◌, List, [], ◌∷◌, ℕ, T, eqb, replicate}
+-- The nine marked cases of document 01, whose asker is node 0, and the one of document 02: one table. The one fact over all of its rows is in proofs/Marked.
+use Rattle.std.specs.Prelude.{Bool, true, false, ◌&&◌, List, [], ◌∷◌, ℕ, eqb, replicate}
 use Rattle.std.specs.Bool.{beq}
 use Rattle.age.specs.Age.{older}
 use Rattle.quorum.specs.declared.Choice.{Choice}
@@ -46,7 +46,3 @@ rows =
 abbrev pub all_right : List Row → Bool
 all_right [] = true
 all_right (r ∷ rs) = right r && all_right rs
-
-pub marked_cases : T (all_right rows)
-unfolding smallest
-marked_cases = tt

@@ -87,7 +87,7 @@ pub record OrderInv {A : Type 0} (R : Rules A) (h : History A) (l : Chain A) : T
   pub o_decided : (x : Tx) → h.phase x ≡ committed → In x h.decisions
   -- it was voting until then, so it was not decided before
   pub o_once : (x : Tx) → AtMostOnce x h.decisions
-  -- it was held where participants met, and the last writer before it was applied there (Proof.Commit: found_is_last)
+  -- it was held where participants met, and the last writer before it was applied there (proofs/Commit: found_is_last)
   pub o_found : (x : Tx) (m : List Tx) (o : Object) → Suffix (x ∷ m) h.decisions → Keeps R h.contents x o
       → (h.contents x).version o ≡ count (wrote h) m o
   -- each committed writer added one entry, its new value

@@ -1,4 +1,4 @@
--- The protocol of quorum replication in the abstract, and its safety theorem. No code: definitions and proofs only.
+-- The protocol of quorum replication in the abstract, and what its safety theorem claims. No code: definitions here, theorems and proofs in proofs/.
 --
 -- TO BELIEVE THE THEOREM, read these, in this order; they are definitions, short, against document 01 and document 000's Algorithms 1 to 3:
 --   Table        functions changed at one place, members and ends of lists
@@ -9,16 +9,13 @@
 --   Replay       replay of any list of transactions
 --   Claims       what is claimed of every reachable state: once, (a), (b), (c), in the order of the decisions
 --   Log          the base's order, that of the root's first yes, and what is claimed of replay in it
--- and then the statements of
---   Theorems     the claims hold in every reachable state
---   Tree         the base's rules as an instance, with its claims
---   Own          own quorums (document 02, 2.9) as a second instance, with its claims: a few lines, and none of the core
---   Example      a run; it also shows that the base's order is not that of the decisions
+-- and then the statements of the theorems, which are in proofs/ (Theorems, Tree, Own, Example); of them here
+--   Tree         the base's rules as an instance
+--   Own          own quorums (document 02, 2.9) as a second instance
 --
--- TO UNDERSTAND WHY, read Invariant, and then Proof in its order: Commit has the key lemma, Log what only the base needs.
+-- TO UNDERSTAND WHY, read Invariant, and then proofs/ in the order that its Lib gives; here, Proof has what definitions take of it.
 --
--- TO REFINE A STATION to the protocol, see Refine: what never goes back, what messages tell, the images' holders, one transition forward;
--- and how a swapped memory (2.10) and a conversion at rest (2.9) keep the invariant.
+-- TO REFINE A STATION to the protocol, see proofs/Refine; here, Refine has what its statements speak of.
 --
 -- WORDS. x, y a transaction; n, m a node; o an object; w an owner; σ a state; h a history; k the contents by transaction; l, m lists, newest first.
 -- A field of the invariant begins with its record's letter: v- votes, h- holds, c- chain, o- order, l- log; f- and g- what goes forward and grows.
@@ -32,8 +29,6 @@ pub mod Claims
 pub mod Log
 pub mod Invariant
 pub mod Proof
-pub mod Theorems
 pub mod Tree
 pub mod Own
-pub mod Example
 pub mod Refine

@@ -1,11 +1,6 @@
--- The proofs, in reading order: tools; each transition keeps the invariant; so every reachable state has it; so the claims hold; the base's order.
+-- What definitions take of the proofs, which are in proofs/: what a history never takes back (AskAbort), what is kept of the log (Log), and two facts that
+-- rules need (Tables, Yes).
 pub mod Tables
-pub mod Lists
 pub mod AskAbort
-pub mod ListNoDropCopy
 pub mod Yes
-pub mod Commit
-pub mod Apply
-pub mod Runs
-pub mod Core
 pub mod Log

@@ -1,2 +1,2 @@
-// No code: the protocol, its safety theorem and the proofs are in specs/.
+// No code: the protocol is in specs/, its safety theorem and the proofs are in proofs/.
 #![tactic(auto)]

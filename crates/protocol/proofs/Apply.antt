@@ -9,9 +9,10 @@ use Rattle.protocol.specs.State.{Writes, Keeps, writes?, Held}
 use Rattle.protocol.specs.Chain.{Entry}
 use Rattle.protocol.specs.Transitions.{with_state, with_applied, stored, do_apply, CanApply}
 use Rattle.protocol.specs.Invariant.{Settled, NotAgain, ChainInv, Inv}
-use Rattle.protocol.specs.Proof.Tables.{on, clash, Changed, put2_cases, mark_stays, put_row_cases, put_row_both}
-use Rattle.protocol.specs.Proof.ListNoDropCopy.{state_cases}
-use Rattle.protocol.specs.Proof.Commit.{keeps_what_it_writes}
+use Rattle.protocol.specs.Proof.Tables.{clash}
+use Rattle.protocol.proofs.Tables.{on, Changed, put2_cases, mark_stays, put_row_cases, put_row_both}
+use Rattle.protocol.proofs.ListNoDropCopy.{state_cases}
+use Rattle.protocol.proofs.Commit.{keeps_what_it_writes}
 
 -- Other copies, which are entries too.
 pub chain_copies : {A : Type 0} (R : Rules A) (s s' : Store A) (m : List (Copy A)) (h : History A) (l : Chain A) → ChainInv R s m h l

@@ -9,7 +9,8 @@ use Rattle.protocol.specs.State.{Tx, tx_path, Copy, OwnerState, over, listed, re
 use Rattle.protocol.specs.Chain.{Entry}
 use Rattle.protocol.specs.Transitions.{by_replica, with_state, with_last, do_list, CanList, do_no, CanNo, do_drop, CanDrop, do_copy}
 use Rattle.protocol.specs.Invariant.{Settled, NotAgain, Inv}
-use Rattle.protocol.specs.Proof.Tables.{on, clash, Changed, Changed2, put2_cases, put2_both}
+use Rattle.protocol.specs.Proof.Tables.{clash}
+use Rattle.protocol.proofs.Tables.{on, Changed, Changed2, put2_cases, put2_both}
 
 -- The two ways in which an owner's state changes.
 pub state_cases : (e : Ends) (n w : Node) (s : OwnerState) (m u : Node)

@@ -8,9 +8,10 @@ use Rattle.protocol.specs.Transitions.{Step, Run}
 use Rattle.protocol.specs.Claims.{AllApplied, MeetsAll, Newest, Claims}
 use Rattle.protocol.specs.Log.{RootInAll, logged, log, fed, BaseClaims}
 use Rattle.protocol.specs.Invariant.{Inv}
-use Rattle.protocol.specs.Proof.Runs.{step_ok, run_ok}
-use Rattle.protocol.specs.Proof.Core.{claims, committed_good}
-use Rattle.protocol.specs.Proof.Log.{LogInv, step_log, run_log, base_claims}
+use Rattle.protocol.proofs.Runs.{step_ok, run_ok}
+use Rattle.protocol.proofs.Core.{claims, committed_good}
+use Rattle.protocol.specs.Proof.Log.{LogInv}
+use Rattle.protocol.proofs.Log.{step_log, run_log, base_claims}
 
 -- The core, in the order of the decisions.
 pub safe : {A : Type 0} {R : Rules A} {σ : State A} → Run R σ → Claims R σ

@@ -9,10 +9,11 @@ use Rattle.protocol.specs.Chain.{Entry}
 use Rattle.protocol.specs.Replay.{replay, turn, last_value, given_to, committed?}
 use Rattle.protocol.specs.Claims.{Sourced, AppliedIn, AllApplied, MeetsAll, Newest, Claims}
 use Rattle.protocol.specs.Invariant.{effect, Inv}
-use Rattle.protocol.specs.Proof.Tables.{on, clash}
-use Rattle.protocol.specs.Proof.Lists.{suffix_whole, suffix_tail, in_suffix, in_front, times_none, times_once, given_at_lem}
-use Rattle.protocol.specs.Proof.Lists.{replay_committed_of, select_all}
-use Rattle.protocol.specs.Proof.Commit.{good_participants, chain_end}
+use Rattle.protocol.specs.Proof.Tables.{clash}
+use Rattle.protocol.proofs.Tables.{on}
+use Rattle.protocol.proofs.Lists.{suffix_whole, suffix_tail, in_suffix, in_front, times_none, times_once, given_at_lem}
+use Rattle.protocol.proofs.Lists.{replay_committed_of, select_all}
+use Rattle.protocol.proofs.Commit.{good_participants, chain_end}
 
 module _ {A : Type 0} (R : Rules A) (σ : State A) (iv : Inv R σ) where
   abbrev decided : List Tx

@@ -7,11 +7,11 @@ use Rattle.protocol.specs.State.{State, blank_state}
 use Rattle.protocol.specs.Transitions.{Step, ask, commit, abort, list, copy, vote_yes, vote_no, apply, drop, Run, start, next}
 use Rattle.protocol.specs.Invariant.{Inv}
 use Rattle.protocol.specs.Proof.Tables.{clash}
-use Rattle.protocol.specs.Proof.AskAbort.{ask_ok, abort_ok}
-use Rattle.protocol.specs.Proof.ListNoDropCopy.{list_ok, no_ok, drop_ok, copy_ok}
-use Rattle.protocol.specs.Proof.Yes.{yes_ok}
-use Rattle.protocol.specs.Proof.Commit.{commit_ok}
-use Rattle.protocol.specs.Proof.Apply.{apply_ok}
+use Rattle.protocol.proofs.AskAbort.{ask_ok, abort_ok}
+use Rattle.protocol.proofs.ListNoDropCopy.{list_ok, no_ok, drop_ok, copy_ok}
+use Rattle.protocol.proofs.Yes.{yes_ok}
+use Rattle.protocol.proofs.Commit.{commit_ok}
+use Rattle.protocol.proofs.Apply.{apply_ok}
 
 pub blank_ok : {A : Type 0} (R : Rules A) → Inv R (blank_state R)
 blank_ok R = record {

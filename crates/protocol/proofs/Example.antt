@@ -6,13 +6,15 @@ use Rattle.std.proofs.Common.{subst, inl, arith}
 use Rattle.std.proofs.Math.Decide.{ℕ_discrete}
 use Rattle.protocol.specs.Table.{pick, both, put, put2}
 use Rattle.protocol.specs.Rules.{Node, Object, root, Mode, unused, read, write, Rules}
-use Rattle.protocol.specs.State.{Tx, Tx-discrete, committed, Contents, listed, State, blank_state, Writes, Touches, Held}
+use Rattle.protocol.specs.State.{Tx, Tx-discrete, committed, Contents, State, blank_state, Writes, Touches, Held}
 use Rattle.protocol.specs.Replay.{given_to}
 use Rattle.protocol.specs.Transitions.{do_ask, do_commit, do_list, do_yes, Run, start, next, ask, commit, list, vote_yes}
 use Rattle.protocol.specs.Log.{log, fed}
-use Rattle.protocol.specs.Proof.Tables.{on, clash, pick_cases, put2_cases}
-use Rattle.protocol.specs.Proof.Runs.{run_ok}
-use Rattle.protocol.specs.Tree.{TreeQuorums, tree_rules, tree_free, tree_base}
+use Rattle.protocol.specs.Proof.Tables.{clash}
+use Rattle.protocol.proofs.Tables.{on, pick_cases, put2_cases}
+use Rattle.protocol.proofs.Runs.{run_ok}
+use Rattle.protocol.specs.Tree.{TreeQuorums, tree_rules}
+use Rattle.protocol.proofs.Tree.{tree_free, tree_base}
 
 -- A tree of one node.
 abbrev one : TreeQuorums

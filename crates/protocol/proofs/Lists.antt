@@ -7,7 +7,7 @@ use Rattle.protocol.specs.Rules.{Object, Mode, unused, read, write}
 use Rattle.protocol.specs.State.{Tx, Phase, fresh, voting, committed, aborted, History}
 use Rattle.protocol.specs.Replay.{replay, given, after, turn, committed?, committed_of}
 use Rattle.protocol.specs.Invariant.{committed_write, count, effect}
-use Rattle.protocol.specs.Proof.Tables.{on, Changed, pick_cases}
+use Rattle.protocol.proofs.Tables.{on, Changed, pick_cases}
 
 -- Ends of lists.
 

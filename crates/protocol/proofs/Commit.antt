@@ -14,9 +14,10 @@ use Rattle.protocol.specs.Replay.{replay}
 use Rattle.protocol.specs.Transitions.{with_commit, do_commit, CanCommit}
 use Rattle.protocol.specs.Claims.{Sourced}
 use Rattle.protocol.specs.Invariant.{committed_write, wrote, count, effect, Settled, VotesInv, ChainInv, OrderInv, Inv}
-use Rattle.protocol.specs.Proof.Tables.{on, clash, Changed, pick_cases, put_cases}
+use Rattle.protocol.specs.Proof.Tables.{clash}
+use Rattle.protocol.proofs.Tables.{on, Changed, pick_cases, put_cases}
 use Rattle.protocol.specs.Proof.AskAbort.{Forward}
-use Rattle.protocol.specs.Proof.Lists.{suffix_whole, suffix_tail, in_suffix, count_ext, replay_ext, count_suffix, not_written}
+use Rattle.protocol.proofs.Lists.{suffix_whole, suffix_tail, in_suffix, count_ext, replay_ext, count_suffix, not_written}
 
 pub keeps_what_it_writes : {A : Type 0} (R : Rules A) (k : Tx → Contents A) (x : Tx) (o : Object) → Writes k x o → Keeps R k x o
 keeps_what_it_writes R k x o w = subst R.Keeps (sym w) R.keeps_write
