@@ -25,8 +25,8 @@ use Rattle.steps.specs.Run.{after}
 use Rattle.protocol.specs.Rules.{Mode, write}
 use Rattle.protocol.specs.Table.{put}
 use Rattle.protocol.specs.State.{Tx, Tx-discrete}
-use Rattle.protocol.specs.Proof.Lists.{suffix_whole}
-use Rattle.protocol.specs.Proof.Tables.{on, put_cases, put_here}
+use Rattle.protocol.proofs.Lists.{suffix_whole}
+use Rattle.protocol.proofs.Tables.{on, put_cases, put_here}
 use Rattle.settings.specs.Settings.{settings_size, classes_in, own_kind, batch_kind, tenths, settled_as, no_tenths, classed}
 use Rattle.settings.specs.Settings.{adds as kindAdds}
 use Rattle.frontend.specs.Plan.{batch, edit, request, load_classes, Plan, refused_plan, booked}

@@ -14,7 +14,7 @@ use Rattle.settings.proofs.Sound.{blank_number_lem}
 use Rattle.steps.specs.Station.{Station, Quiescent}
 use Rattle.protocol.specs.Table.{In, Suffix}
 use Rattle.protocol.specs.State.{Tx}
-use Rattle.protocol.specs.Proof.Lists.{suffix_tail}
+use Rattle.protocol.proofs.Lists.{suffix_tail}
 use Rattle.history.specs.Ledger.{ledger_from, last_writer}
 use Rattle.history.specs.Ledger.{last_value as machineLast, given_to as machineGiven}
 use Rattle.history.specs.Origin.{ledger_of, AuthorIs}

@@ -22,7 +22,8 @@ use Rattle.steps.specs.Step.{Call as Step, begin, open_read, open_write, set_val
 use Rattle.steps.specs.Run.{Event}
 use Rattle.protocol.specs.Table.{In}
 use Rattle.protocol.specs.State.{Tx}
-use Rattle.protocol.specs.Proof.Tables.{on, clash}
+use Rattle.protocol.specs.Proof.Tables.{clash}
+use Rattle.protocol.proofs.Tables.{on}
 use Rattle.history.specs.Ledger.{Ledger, tx_of, noted, note, ledger_from}
 use Rattle.history.specs.Origin.{Origin as Machine, Rested as MachineRested}
 use Rattle.history.specs.Claims.{event}

@@ -16,8 +16,8 @@ use Rattle.protocol.specs.Rules.{Object, Mode, unused, read, write}
 use Rattle.protocol.specs.State.{Tx, Tx-discrete}
 use Rattle.protocol.specs.Replay.{replay, given}
 use Rattle.protocol.specs.Replay.{after as afterMode}
-use Rattle.protocol.specs.Proof.Lists.{in_select}
-use Rattle.protocol.specs.Proof.Tables.{on, pick_cases}
+use Rattle.protocol.proofs.Lists.{in_select}
+use Rattle.protocol.proofs.Tables.{on, pick_cases}
 use Rattle.settings.specs.Settings.{settings_size}
 use Rattle.history.specs.Ledger.{Ledger, in?, fed}
 use Rattle.history.specs.Ledger.{given_to as machineGiven, last_value as machineLast, turn as machineTurn}

@@ -3,7 +3,7 @@ use mathlib.Core.Path.{◌≡◌, refl, sym, ap, ◌∙◌}
 use mathlib.Core.Logic.{inl, inr}
 use mathlib.Core.List.{List, [], ◌∷◌, ◌++◌}
 use Rattle.protocol.specs.Table.{Suffix}
-use Rattle.protocol.specs.Proof.Lists.{suffix_of_equal}
+use Rattle.protocol.proofs.Lists.{suffix_of_equal}
 use Rattle.steps.specs.Station.{Station}
 use Rattle.steps.specs.Run.{after}
 use Rattle.history.specs.Claims.{reached as machineReached}

@@ -22,8 +22,8 @@ use Rattle.steps.specs.Station.{Station, system}
 use Rattle.steps.specs.Step.{Call as Step, Outcome, hosted, step}
 use Rattle.protocol.specs.Table.{Suffix}
 use Rattle.protocol.specs.State.{Tx}
-use Rattle.protocol.specs.Proof.Lists.{suffix_whole}
-use Rattle.protocol.specs.Proof.Tables.{on}
+use Rattle.protocol.proofs.Lists.{suffix_whole}
+use Rattle.protocol.proofs.Tables.{on}
 use Rattle.history.specs.Origin.{Origin as Machine, Rested as MachineRested}
 use Rattle.history.specs.Claims.{Shows, Finds}
 use Rattle.history.specs.Claims.{reached as machineReached, AllTyped as AllStepsTyped}

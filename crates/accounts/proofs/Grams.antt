@@ -40,7 +40,7 @@ use Rattle.history.proofs.Objects.{listed_of, stands_at}
 use Rattle.history.proofs.Claimed.{always_good}
 use Rattle.service.specs.Service.{steps_at}
 use Rattle.service.proofs.Laws.{put_here, after_at, after_append}
-use Rattle.protocol.specs.Proof.Tables.{on}
+use Rattle.protocol.proofs.Tables.{on}
 use Rattle.accounts.proofs.Follows.{edit_open}
 use Rattle.accounts.proofs.Plans.{adding_keeps}
 use Rattle.accounts.proofs.Facts.{begun_open}

@@ -15,7 +15,7 @@ use Rattle.steps.specs.Step.{Call as Step, begin, open_read, open_write, set_val
 use Rattle.steps.specs.Run.{Event}
 use Rattle.protocol.specs.Rules.{read, write}
 use Rattle.protocol.specs.State.{Tx, Tx-discrete}
-use Rattle.protocol.specs.Proof.Tables.{on, put_cases}
+use Rattle.protocol.proofs.Tables.{on, put_cases}
 use Rattle.history.specs.Ledger.{Ledger, current, noted, note, ledger_from}
 use Rattle.history.specs.Origin.{Origin as Machine}
 use Rattle.history.specs.Claims.{told as machineTold}

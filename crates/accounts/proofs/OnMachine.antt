@@ -11,8 +11,9 @@ use Rattle.coordinator.specs.State.{committed}
 use Rattle.steps.specs.Step.{Call as Step, delivery, found}
 use Rattle.protocol.specs.Table.{Suffix}
 use Rattle.protocol.specs.State.{Tx}
-use Rattle.protocol.specs.Proof.Lists.{suffix_tail, suffix_whole}
-use Rattle.protocol.specs.Proof.Tables.{on, clash}
+use Rattle.protocol.proofs.Lists.{suffix_tail, suffix_whole}
+use Rattle.protocol.specs.Proof.Tables.{clash}
+use Rattle.protocol.proofs.Tables.{on}
 use Rattle.history.specs.Ledger.{given_to, last_value}
 use Rattle.history.specs.Origin.{Rested as MachineRested}
 use Rattle.history.specs.Claims.{Account, Demand3, DeliveryNumbers, EarlierTries, Finds, Ripe, Commits, Ripens}

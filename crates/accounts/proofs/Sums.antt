@@ -36,7 +36,8 @@ use Rattle.steps.specs.Step.{Call as Step, set_value, Outcome, taken, hosted, st
 use Rattle.protocol.specs.Table.{In}
 use Rattle.protocol.specs.Rules.{Mode, unused, read, write}
 use Rattle.protocol.specs.State.{Tx}
-use Rattle.protocol.specs.Proof.Tables.{on, clash}
+use Rattle.protocol.specs.Proof.Tables.{clash}
+use Rattle.protocol.proofs.Tables.{on}
 use Rattle.history.specs.Ledger.{Ledger, current, noted, note, ledger_from}
 use Rattle.history.specs.Origin.{Origin as Machine, Rested as MachineRested}
 use Rattle.history.specs.Claims.{Shows}

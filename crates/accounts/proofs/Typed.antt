@@ -30,7 +30,7 @@ use Rattle.frontend.proofs.Plans.{plan_sound}
 use Rattle.frontend.specs.Plan.{begin, batch, edit, request, load_classes, Plan, booked, plan}
 use Rattle.frontend.specs.Plan.{Call as Front}
 use Rattle.history.specs.Claims.{AllTyped as AllStepsTyped}
-use Rattle.protocol.specs.Proof.Tables.{on}
+use Rattle.protocol.proofs.Tables.{on}
 use Rattle.history.proofs.Tests.{and-true}
 use Rattle.history.proofs.Carry.{put_all}
 use Rattle.service.specs.Service.{Service, Call, front, load_hours, plain, is_on, plan_at, steps_at, load_number, made, settings_of}

@@ -27,8 +27,8 @@ use Rattle.steps.specs.Step.{step as step_of}
 use Rattle.steps.specs.Run.{after}
 use Rattle.protocol.specs.Table.{In, put}
 use Rattle.protocol.specs.State.{Tx, Tx-discrete}
-use Rattle.protocol.specs.Proof.Tables.{on, put_cases}
-use Rattle.protocol.specs.Proof.Tables.{put_here as row_here}
+use Rattle.protocol.proofs.Tables.{on, put_cases}
+use Rattle.protocol.proofs.Tables.{put_here as row_here}
 use Rattle.settings.specs.Settings.{classes_in, own_kind, batch_kind, waited_in, left_in, decided_committed, tenths, settled_as, no_tenths, classed}
 use Rattle.settings.specs.Settings.{adds as kindAdds}
 use Rattle.settings.proofs.Sound.{Sound, sound_parts}

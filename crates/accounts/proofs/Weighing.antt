@@ -20,7 +20,7 @@ use Rattle.settings.specs.Settings.{adds as kindAdds}
 use Rattle.settings.proofs.Sound.{settled_classes, settled_waited, settled_left}
 use Rattle.protocol.specs.Table.{pick, In}
 use Rattle.protocol.specs.State.{Tx}
-use Rattle.protocol.specs.Proof.Tables.{on, pick_cases}
+use Rattle.protocol.proofs.Tables.{on, pick_cases}
 use Rattle.history.specs.Ledger.{in?}
 use Rattle.history.proofs.Tests.{no_both}
 use Rattle.history.proofs.Sim.{tx}

@@ -16,7 +16,7 @@ use Rattle.image.proofs.Lens.{of_out}
 use Rattle.image.proofs.Blanks.{blank_zero, blank_author}
 use Rattle.intake.specs.Take.{author_at, taken_in}
 use Rattle.intake.proofs.Taken.{taken_beyond, taken_value, taken_version, taken_author, taken_author_serial}
-use Rattle.protocol.specs.Proof.Tables.{on}
+use Rattle.protocol.proofs.Tables.{on}
 
 module _ (s : Shape) (room : s.objects ≤ shape.objects) (l : List ℕ) (bytes : Bytes l) where
   abbrev new : List ℕ

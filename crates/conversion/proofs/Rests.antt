@@ -22,8 +22,8 @@ use Rattle.intake.specs.Take.{author_at, taken_in}
 use Rattle.intake.proofs.Taken.{bytes_taken, taken_author, taken_author_serial, taken_serial, taken_state}
 use Rattle.intake.proofs.Judged.{taken_check}
 use Rattle.protocol.specs.State.{Tx}
-use Rattle.protocol.specs.Proof.Tables.{on}
-use Rattle.protocol.specs.Refine.Authors.{names_cases}
+use Rattle.protocol.proofs.Tables.{on}
+use Rattle.protocol.proofs.Refine.Authors.{names_cases}
 use Rattle.history.specs.Origin.{Carried, held_after, writer_after, writers_of, writes, AuthorAs, AuthorIs, SpentAs, Spent}
 use Rattle.history.specs.Origin.{Origin as Machine, RestedAs as MachineRestedAs, Rested as MachineRested}
 use Rattle.history.specs.Claims.{KnownAs, Known}

@@ -23,8 +23,9 @@ use Rattle.buffers.specs.Buffers.{Buffers, image_at, station_of}
 use Rattle.steps.proofs.Nodes.{node_on}
 use Rattle.protocol.specs.State.{committed, OwnerState, Contents, State}
 use Rattle.protocol.specs.Claims.{AllApplied}
-use Rattle.protocol.specs.Refine.Growth.{late_not_held}
-use Rattle.protocol.specs.Proof.Tables.{on, clash}
+use Rattle.protocol.proofs.Refine.Growth.{late_not_held}
+use Rattle.protocol.specs.Proof.Tables.{clash}
+use Rattle.protocol.proofs.Tables.{on}
 use Rattle.history.specs.Ledger.{Ledger, last_value}
 use Rattle.history.specs.Origin.{Origin, ledger_of, Rested, origin_of}
 use Rattle.history.specs.Claims.{AllTyped, Settled, Newest, reached, told}

@@ -39,12 +39,14 @@ use Rattle.protocol.specs.State.{Tx, Tx-discrete, fresh, committed, aborted, ove
 use Rattle.protocol.specs.Transitions.{do_list, CanList, list, do_copy, copy, do_no, vote_no, do_yes, CanYes, vote_yes, do_apply, CanApply, apply, do_drop, CanDrop}
 use Rattle.protocol.specs.Transitions.{drop}
 use Rattle.protocol.specs.Log.{logged}
-use Rattle.protocol.specs.Tree.{tree_free}
-use Rattle.protocol.specs.Proof.Tables.{on, clash, put2_here}
-use Rattle.protocol.specs.Proof.Yes.{first_yes_lem}
+use Rattle.protocol.proofs.Tree.{tree_free}
+use Rattle.protocol.specs.Proof.Tables.{clash}
+use Rattle.protocol.proofs.Tables.{on, put2_here}
+use Rattle.protocol.proofs.Yes.{first_yes_lem}
 use Rattle.protocol.specs.Refine.Authors.{by}
-use Rattle.protocol.specs.Refine.Holders.{nobody_else}
-use Rattle.protocol.specs.Refine.Growth.{Late, Grows, step_grows, grows_same, grows_then}
+use Rattle.protocol.proofs.Refine.Holders.{nobody_else}
+use Rattle.protocol.specs.Refine.Growth.{Late, Grows}
+use Rattle.protocol.proofs.Refine.Growth.{step_grows, grows_same, grows_then}
 use Rattle.history.specs.Sane.{Sane}
 use Rattle.history.proofs.Quorums.{quorums, rules}
 use Rattle.history.proofs.Sim.{state_of, holder_of, holders, author_of, Match, Sim}

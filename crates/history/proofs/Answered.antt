@@ -31,7 +31,8 @@ use Rattle.steps.specs.Station.{Station, system, with_record, without}
 use Rattle.steps.specs.Step.{delivery, Outcome, refused_with, taken, taken_out, at_coordinator}
 use Rattle.protocol.specs.Table.{In}
 use Rattle.protocol.specs.State.{Tx, tx_path}
-use Rattle.protocol.specs.Proof.Tables.{on, clash}
+use Rattle.protocol.specs.Proof.Tables.{clash}
+use Rattle.protocol.proofs.Tables.{on}
 use Rattle.history.specs.Ledger.{Ledger, tx_of, with_put, with_delivered, noted, note}
 use Rattle.history.proofs.Sim.{tx, Tells, waits_tells}
 use Rattle.history.proofs.Quiet.{yes_owner, done_owner}

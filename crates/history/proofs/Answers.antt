@@ -31,7 +31,7 @@ use Rattle.replica.specs.Steps.{decided, released, outcome_image}
 use Rattle.replica.specs.Receive.{step, Delivered}
 use Rattle.replica.proofs.Delivered.{either_way}
 use Rattle.replica.proofs.Spoken.{length_named}
-use Rattle.protocol.specs.Proof.Tables.{on}
+use Rattle.protocol.proofs.Tables.{on}
 
 -- ---- the image stays bytes
 bytes_leaves : (l : List ℕ) (o st : ℕ) → Bytes l → Bytes (leaves l o st)

@@ -19,7 +19,7 @@ use Rattle.replica.proofs.Taken.{Taken}
 use Rattle.steps.specs.Station.{Station, put_at, with_image, without}
 use Rattle.protocol.specs.Table.{put2, In}
 use Rattle.protocol.specs.State.{Tx, Tx-discrete, Contents, History, State}
-use Rattle.protocol.specs.Proof.Tables.{on, put2_cases}
+use Rattle.protocol.proofs.Tables.{on, put2_cases}
 use Rattle.protocol.specs.Refine.Growth.{Late}
 use borrow.Author.Tests.{eqb-true}
 use Rattle.history.proofs.Tests.{and-true}

@@ -19,7 +19,8 @@ use Rattle.protocol.specs.Table.{In}
 use Rattle.protocol.specs.Rules.{unused, read, write}
 use Rattle.protocol.specs.State.{Tx, fresh, voting, committed, Contents, History, State}
 use Rattle.protocol.specs.Refine.Growth.{Late}
-use Rattle.protocol.specs.Proof.Tables.{on, clash}
+use Rattle.protocol.specs.Proof.Tables.{clash}
+use Rattle.protocol.proofs.Tables.{on}
 use Rattle.history.specs.Ledger.{Ledger}
 use Rattle.history.specs.Claims.{Shows, Finds}
 use Rattle.history.specs.Sane.{Sane}

@@ -29,7 +29,7 @@ use Rattle.steps.proofs.Nodes.{off_number_lem}
 use Rattle.steps.specs.Station.{Station, system, with_record}
 use Rattle.steps.specs.Step.{Call, begin, open_read, open_write, set_value, found, reselect, request_commit, abort, Outcome, refused_with, taken, when_off, hosted}
 use Rattle.steps.specs.Run.{event_of}
-use Rattle.protocol.specs.Proof.Tables.{on}
+use Rattle.protocol.proofs.Tables.{on}
 use Rattle.history.specs.Ledger.{Ledger, with_mode, noted, note}
 use Rattle.replica.proofs.Delivered.{or_neither}
 use Rattle.history.proofs.Tests.{not-false}

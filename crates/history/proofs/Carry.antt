@@ -16,12 +16,16 @@ use Rattle.protocol.specs.Table.{In}
 use Rattle.protocol.specs.State.{Tx, fresh, Contents, Copy, Votes, History, Chain, State}
 use Rattle.protocol.specs.Transitions.{by_coordinator, Step}
 use Rattle.protocol.specs.Log.{logged}
-use Rattle.protocol.specs.Proof.Tables.{on}
-use Rattle.protocol.specs.Proof.AskAbort.{Forward, committed_asked}
-use Rattle.protocol.specs.Refine.Growth.{Grows, history_same}
-use Rattle.protocol.specs.Refine.Holders.{shown, holders_as_read}
-use Rattle.protocol.specs.Refine.Authors.{authored_as_read, signed, step_authored}
-use Rattle.protocol.specs.Refine.Simulate.{step_kept}
+use Rattle.protocol.proofs.Tables.{on}
+use Rattle.protocol.specs.Proof.AskAbort.{Forward}
+use Rattle.protocol.proofs.AskAbort.{committed_asked}
+use Rattle.protocol.specs.Refine.Growth.{Grows}
+use Rattle.protocol.proofs.Refine.Growth.{history_same}
+use Rattle.protocol.specs.Refine.Holders.{shown}
+use Rattle.protocol.proofs.Refine.Holders.{holders_as_read}
+use Rattle.protocol.specs.Refine.Authors.{signed}
+use Rattle.protocol.proofs.Refine.Authors.{authored_as_read, step_authored}
+use Rattle.protocol.proofs.Refine.Simulate.{step_kept}
 use Rattle.history.specs.Sane.{Sane}
 use Rattle.history.proofs.Quorums.{rules, top}
 use Rattle.history.proofs.Sim.{tx, WasSent, Owner, Match, Tells, Waits, Read, holders, authors, Sim}

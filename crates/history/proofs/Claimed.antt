@@ -31,11 +31,12 @@ use Rattle.protocol.specs.State.{Tx, Tx-discrete, committed, State}
 use Rattle.protocol.specs.Replay.{replay, given, committed?}
 use Rattle.protocol.specs.Claims.{AllApplied, MeetsAll, Claims}
 use Rattle.protocol.specs.Log.{BaseClaims}
-use Rattle.protocol.specs.Proof.Tables.{on, clash}
-use Rattle.protocol.specs.Proof.Lists.{select_ext, given_ext, replay_ext, in_select, suffix_tail}
-use Rattle.protocol.specs.Proof.Core.{claims, committed_good}
-use Rattle.protocol.specs.Proof.Log.{base_claims}
-use Rattle.protocol.specs.Refine.Messages.{done_applied}
+use Rattle.protocol.specs.Proof.Tables.{clash}
+use Rattle.protocol.proofs.Tables.{on}
+use Rattle.protocol.proofs.Lists.{select_ext, given_ext, replay_ext, in_select, suffix_tail}
+use Rattle.protocol.proofs.Core.{claims, committed_good}
+use Rattle.protocol.proofs.Log.{base_claims}
+use Rattle.protocol.proofs.Refine.Messages.{done_applied}
 use Rattle.history.specs.Ledger.{Ledger, ledger_from, tx_of, in?, fed, current, turn, given_to, last_value}
 use Rattle.history.specs.Ballots.{ballots_from}
 use Rattle.history.specs.Origin.{Origin, ledger_of, Rested, blank_origin}

@@ -17,7 +17,7 @@ use Rattle.clauses.proofs.Parts.{true-T, by_test}
 use Rattle.coordinator.specs.State.{idle_phase, open_phase, voting_phase, finishing_phase}
 use Rattle.protocol.specs.Table.{put, put2, In}
 use Rattle.protocol.specs.State.{Tx, Tx-discrete}
-use Rattle.protocol.specs.Proof.Tables.{on, put_cases, put_here, put2_cases, put2_here, mark_stays}
+use Rattle.protocol.proofs.Tables.{on, put_cases, put_here, put2_cases, put2_here, mark_stays}
 use Rattle.history.proofs.Tests.{no_both, or-true}
 use Rattle.history.proofs.Sim.{tx}
 

@@ -19,8 +19,8 @@ use Rattle.protocol.specs.Table.{put, In}
 use Rattle.protocol.specs.Rules.{unused}
 use Rattle.protocol.specs.State.{Tx, Tx-discrete, fresh, voting, committed, aborted, Contents, State}
 use Rattle.protocol.specs.Transitions.{do_ask, CanAsk, do_commit, CanCommit, do_abort, CanAbort, Step, ask, commit, abort}
-use Rattle.protocol.specs.Proof.Tables.{on, put_cases, put_here}
-use Rattle.protocol.specs.Refine.Growth.{step_grows}
+use Rattle.protocol.proofs.Tables.{on, put_cases, put_here}
+use Rattle.protocol.proofs.Refine.Growth.{step_grows}
 use Rattle.clauses.proofs.Parts.{true-T}
 use Rattle.history.specs.Sane.{Sane}
 use Rattle.history.proofs.Quorums.{rules, of_mask}

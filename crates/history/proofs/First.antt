@@ -11,8 +11,8 @@ use Rattle.steps.specs.Step.{Call, begin, open_read, open_write, set_value, foun
 use Rattle.steps.specs.Run.{Event}
 use Rattle.protocol.specs.Table.{In, Suffix, select, times}
 use Rattle.protocol.specs.State.{Tx, Tx-discrete}
-use Rattle.protocol.specs.Proof.Tables.{on}
-use Rattle.protocol.specs.Proof.Lists.{suffix_of_equal, suffix_whole, suffix_trans, select_cases, select_all}
+use Rattle.protocol.proofs.Tables.{on}
+use Rattle.protocol.proofs.Lists.{suffix_of_equal, suffix_whole, suffix_trans, select_cases, select_all}
 use Rattle.history.specs.Ledger.{Ledger, root_yes, tx_of, log_put, noted, note, ledger_from, in?, fed}
 use Rattle.history.specs.Origin.{Origin, ledger_of}
 

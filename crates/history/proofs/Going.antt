@@ -32,7 +32,7 @@ use Rattle.clauses_arrive.proofs.Messages.{answer_owner, vote_owner}
 use Rattle.clauses.proofs.Cases.{Endings, abort_cases}
 use Rattle.clauses_arrive.proofs.Deliveries.{YesFitting, DoneFitting, said_yes, said_done, receive_cases}
 use Rattle.steps.specs.Station.{Station, system}
-use Rattle.protocol.specs.Proof.Tables.{on}
+use Rattle.protocol.proofs.Tables.{on}
 use Rattle.history.proofs.Tests.{and-true, not-false}
 use Rattle.history.proofs.Quiet.{no_bit, agreed_by}
 use Rattle.history.proofs.Books.{Valid}

@@ -25,7 +25,8 @@ use Rattle.steps.specs.Station.{Station, system, now_on}
 use Rattle.protocol.specs.Table.{put2, In}
 use Rattle.protocol.specs.Rules.{Mode, unused}
 use Rattle.protocol.specs.State.{Tx, Tx-discrete, fresh, committed}
-use Rattle.protocol.specs.Proof.Tables.{on, clash, put_cases, put_here, put2_cases}
+use Rattle.protocol.specs.Proof.Tables.{clash}
+use Rattle.protocol.proofs.Tables.{on, put_cases, put_here, put2_cases}
 use Rattle.history.specs.Ledger.{Ledger, current, with_mode, with_serial}
 use Rattle.history.specs.Claims.{Shows}
 use Rattle.history.proofs.Tests.{no_both}

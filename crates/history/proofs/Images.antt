@@ -26,7 +26,8 @@ use Rattle.replica.proofs.Holders.{writes_in}
 use Rattle.protocol.specs.Table.{In}
 use Rattle.protocol.specs.Rules.{read, write}
 use Rattle.protocol.specs.State.{Contents}
-use Rattle.protocol.specs.Proof.Tables.{on, clash}
+use Rattle.protocol.specs.Proof.Tables.{clash}
+use Rattle.protocol.proofs.Tables.{on}
 use Rattle.protocol.specs.Refine.Authors.{unwritten, lost, by}
 use Rattle.history.proofs.Tests.{and-true, or-true}
 use Rattle.history.proofs.Sim.{holder_of, tx, signer, author_of, mode_of, Match}

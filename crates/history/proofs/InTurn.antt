@@ -19,7 +19,7 @@ use Rattle.coordinator.specs.State.{idle_phase, awaited}
 use Rattle.arrivals.specs.Receive.{for_replica}
 use Rattle.steps.specs.Station.{Own, Station, put_at}
 use Rattle.protocol.specs.Table.{In}
-use Rattle.protocol.specs.Proof.Tables.{on}
+use Rattle.protocol.proofs.Tables.{on}
 use Rattle.history.proofs.Carry.{put_all}
 use Rattle.history.proofs.Words.{header}
 use Rattle.history.proofs.Moves.{Behind, Bound, Moved, Moves, behind_on, bound_on, moved_other}

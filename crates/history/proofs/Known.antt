@@ -36,7 +36,7 @@ use Rattle.steps.specs.Station.{Station, system}
 use Rattle.steps.specs.Step.{Call, begin, open_read, open_write, set_value, found, reselect, request_commit, abort, send, delivery, drop, switch, step}
 use Rattle.steps.specs.Step.{Outcome, refused_with, taken, putting, full, send_number, hosted, answered, at_replica, at_coordinator, arriving, delivery_of}
 use Rattle.steps.specs.Step.{drop_of, switch_of, send_of}
-use Rattle.protocol.specs.Proof.Tables.{on}
+use Rattle.protocol.proofs.Tables.{on}
 use Rattle.history.specs.Claims.{Known}
 use Rattle.history.proofs.Carry.{put_all}
 use Rattle.history.proofs.Books.{Valid}

@@ -31,7 +31,7 @@ use Rattle.steps.specs.Step.{Outcome, full, answered, at_replica, at_coordinator
 use Rattle.steps.specs.Run.{Event, event_of}
 use Rattle.protocol.specs.Table.{In}
 use Rattle.protocol.specs.State.{Tx, tx_path}
-use Rattle.protocol.specs.Proof.Tables.{on}
+use Rattle.protocol.proofs.Tables.{on}
 use Rattle.history.specs.Ledger.{Ledger, tx_of, current, noted, note}
 use Rattle.history.specs.Ballots.{Ballots, is_yes, is_no, is_yield, yielding, with_agreed, with_spoilt, heard, polled, poll}
 use Rattle.history.specs.Claims.{Ripe, SaysCommitted}

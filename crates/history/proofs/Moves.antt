@@ -30,7 +30,7 @@ use Rattle.replica.proofs.Late.{late_outcome}
 use Rattle.replica.proofs.After.{here_last, listed_owner, fetch_owner, no_owner, yes_owner, outcome_owner, early_owner}
 use Rattle.replica.proofs.Taken.{Taken, fetch_still, ask_still, outcome_cases}
 use Rattle.arrivals.specs.Receive.{for_replica}
-use Rattle.protocol.specs.Proof.Tables.{on}
+use Rattle.protocol.proofs.Tables.{on}
 use Rattle.history.proofs.Rows.{OneOwner}
 use Rattle.history.proofs.Images.{owner_from}
 use Rattle.history.proofs.Acts.{fresh_above, active_cases, late_standing, behind_stands}

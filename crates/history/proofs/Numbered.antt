@@ -36,7 +36,8 @@ use Rattle.steps.specs.Station.{Station, system, with_image, with_record}
 use Rattle.steps.specs.Step.{Call, delivery, Outcome, refused_with, taken, putting, taken_out, full, answered, at_replica, at_coordinator, arriving, delivery_of}
 use Rattle.steps.specs.Step.{step}
 use Rattle.protocol.specs.Table.{In}
-use Rattle.protocol.specs.Proof.Tables.{on, clash}
+use Rattle.protocol.specs.Proof.Tables.{clash}
+use Rattle.protocol.proofs.Tables.{on}
 use Rattle.history.specs.Ledger.{Ledger}
 use Rattle.history.specs.Origin.{Origin, Rested}
 use Rattle.history.specs.Claims.{AllTyped, Crowded, reached, account, DeliveryNumbers}

@@ -34,11 +34,14 @@ use Rattle.protocol.specs.Rules.{Mode, unused, read, write}
 use Rattle.protocol.specs.State.{Tx, Tx-discrete, Phase, fresh, voting, committed, aborted, Contents, nothing, Store, Ends, History, State}
 use Rattle.protocol.specs.Replay.{replay, given}
 use Rattle.protocol.specs.Invariant.{wrote, committed_write, count, effect}
-use Rattle.protocol.specs.Proof.Tables.{on, clash, pick_cases}
-use Rattle.protocol.specs.Proof.Lists.{in_suffix, in_front, suffix_tail, suffix_whole, count_ext, replay_ext, given_at_lem}
+use Rattle.protocol.specs.Proof.Tables.{clash}
+use Rattle.protocol.proofs.Tables.{on, pick_cases}
+use Rattle.protocol.proofs.Lists.{in_suffix, in_front, suffix_tail, suffix_whole, count_ext, replay_ext, given_at_lem}
 use Rattle.protocol.specs.Refine.Growth.{Late}
-use Rattle.protocol.specs.Refine.Origin.{values_of, Brought, origin, values_ext, origin_ok, origin_log}
-use Rattle.protocol.specs.Refine.Authors.{unwritten, lost, by, AuthoredBy, Authored, one_author, names_cases}
+use Rattle.protocol.specs.Refine.Origin.{values_of, Brought, origin}
+use Rattle.protocol.proofs.Refine.Origin.{values_ext, origin_ok, origin_log}
+use Rattle.protocol.specs.Refine.Authors.{unwritten, lost, by, AuthoredBy, Authored}
+use Rattle.protocol.proofs.Refine.Authors.{one_author, names_cases}
 use Rattle.history.specs.Ledger.{Ledger, tx_of, in?}
 use Rattle.history.specs.Origin.{Carried, Origin, of_carried, ledger_of, ballots_of, is_writing, writes, writers_of, AuthorIs, Rested, blank_origin}
 use Rattle.history.specs.Claims.{Known}

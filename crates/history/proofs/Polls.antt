@@ -48,7 +48,8 @@ use Rattle.steps.specs.Run.{event_of}
 use Rattle.protocol.specs.Table.{put, In}
 use Rattle.protocol.specs.Rules.{read, write}
 use Rattle.protocol.specs.State.{Tx, Tx-discrete, tx_path}
-use Rattle.protocol.specs.Proof.Tables.{on, clash, put_cases, put2_cases, mark_stays}
+use Rattle.protocol.specs.Proof.Tables.{clash}
+use Rattle.protocol.proofs.Tables.{on, put_cases, put2_cases, mark_stays}
 use Rattle.history.specs.Ledger.{Ledger, tx_of, current, with_serial, with_mode, with_participants, with_put, with_delivered, noted}
 use Rattle.history.specs.Ledger.{note}
 use Rattle.history.specs.Ballots.{Ballots, yielding, with_agreed, with_spoilt, heard, delivered, polled, poll}

@@ -21,7 +21,7 @@ use Rattle.coordinator.specs.Calls.{begun, opened, fresh, renewed, with_new, res
 use Rattle.arrivals.specs.Receive.{better, with_copy}
 use Rattle.protocol.specs.Table.{In}
 use Rattle.protocol.specs.State.{Copy, Votes, History}
-use Rattle.protocol.specs.Proof.Tables.{on}
+use Rattle.protocol.proofs.Tables.{on}
 use Rattle.image.proofs.Marks.{contains_none, contains_only}
 use Rattle.mask.proofs.Laws.{contains_joined}
 use borrow.Author.Tests.{eqb-true}

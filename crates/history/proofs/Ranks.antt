@@ -13,8 +13,8 @@ use Rattle.protocol.specs.Table.{pick, In, select, times}
 use Rattle.protocol.specs.Rules.{Mode, unused, read, write}
 use Rattle.protocol.specs.State.{Tx, Tx-discrete}
 use Rattle.protocol.specs.Replay.{after, replay}
-use Rattle.protocol.specs.Proof.Tables.{on, pick_cases}
-use Rattle.protocol.specs.Proof.Lists.{select_cases, select_ext, in_select}
+use Rattle.protocol.proofs.Tables.{on, pick_cases}
+use Rattle.protocol.proofs.Lists.{select_cases, select_ext, in_select}
 use Rattle.history.specs.Ledger.{in?}
 use Rattle.history.specs.Origin.{is_writing}
 

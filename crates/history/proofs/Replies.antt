@@ -32,8 +32,9 @@ use Rattle.coordinator.specs.System.{System}
 use Rattle.steps.specs.Station.{Station}
 use Rattle.protocol.specs.Table.{pick, In}
 use Rattle.protocol.specs.State.{Tx, Tx-discrete, fresh, committed, aborted, Copy, Votes, History, State}
-use Rattle.protocol.specs.Proof.Tables.{on, clash, pick_cases}
-use Rattle.protocol.specs.Proof.Lists.{times_none, times_once}
+use Rattle.protocol.specs.Proof.Tables.{clash}
+use Rattle.protocol.proofs.Tables.{on, pick_cases}
+use Rattle.protocol.proofs.Lists.{times_none, times_once}
 use Rattle.protocol.specs.Refine.Growth.{Late}
 use Rattle.history.specs.Ledger.{tx_of, root_yes, first_only, log_put}
 use Rattle.history.specs.Sane.{Sane}

@@ -35,12 +35,16 @@ use Rattle.protocol.specs.Claims.{AllApplied, AppliedIn}
 use Rattle.protocol.specs.Invariant.{wrote, committed_write, count}
 use Rattle.protocol.specs.Log.{fed}
 use Rattle.protocol.specs.Replay.{replay, given, after, committed?}
-use Rattle.protocol.specs.Proof.Core.{all_applied_in, committed_good}
-use Rattle.protocol.specs.Proof.Tables.{on, clash}
-use Rattle.protocol.specs.Proof.Lists.{in_suffix, suffix_tail, suffix_whole, in_select, select_all, count_ext, replay_ext, given_ext}
-use Rattle.protocol.specs.Refine.Origin.{held_in, Brought, values_ext}
-use Rattle.protocol.specs.Refine.Rest.{earlier, same_contents, same_wrote, rest_brought}
-use Rattle.protocol.specs.Refine.Authors.{unwritten, by, names_of, last_name, names_cases, author_named, newest_by, newest_unwritten}
+use Rattle.protocol.proofs.Core.{all_applied_in, committed_good}
+use Rattle.protocol.specs.Proof.Tables.{clash}
+use Rattle.protocol.proofs.Tables.{on}
+use Rattle.protocol.proofs.Lists.{in_suffix, suffix_tail, suffix_whole, in_select, select_all, count_ext, replay_ext, given_ext}
+use Rattle.protocol.specs.Refine.Origin.{held_in, Brought}
+use Rattle.protocol.proofs.Refine.Origin.{values_ext}
+use Rattle.protocol.specs.Refine.Rest.{earlier}
+use Rattle.protocol.proofs.Refine.Rest.{same_contents, same_wrote, rest_brought}
+use Rattle.protocol.specs.Refine.Authors.{unwritten, by, names_of, last_name}
+use Rattle.protocol.proofs.Refine.Authors.{names_cases, author_named, newest_by, newest_unwritten}
 use Rattle.history.specs.Ledger.{Ledger, in?, fed as fedBy, turn, given_to, last_value, signing, last_writer, is_done}
 use Rattle.history.specs.Ballots.{is_yes}
 use Rattle.history.specs.Origin.{Origin, Carried, ledger_of, is_writing, writes, writers_of, held_after, writer_after, AuthorIs, Spent, Rested, origin_of}

@@ -18,10 +18,12 @@ use Rattle.protocol.specs.State.{Tx, State, Writes, writes?}
 use Rattle.protocol.specs.Transitions.{do_list, CanList, do_copy, do_yes, CanYes, do_no, CanNo, do_apply, CanApply, do_drop, CanDrop}
 use Rattle.protocol.specs.Transitions.{Step, list, copy, vote_yes, vote_no, apply, drop}
 use Rattle.protocol.specs.Log.{logged}
-use Rattle.protocol.specs.Proof.Tables.{on, put2_cases, put_row_cases}
-use Rattle.protocol.specs.Refine.Growth.{step_grows}
-use Rattle.protocol.specs.Refine.Authors.{by, authored_as_read}
-use Rattle.protocol.specs.Refine.Holders.{holders_as_read, holds?, freed}
+use Rattle.protocol.proofs.Tables.{on, put2_cases, put_row_cases}
+use Rattle.protocol.proofs.Refine.Growth.{step_grows}
+use Rattle.protocol.specs.Refine.Authors.{by}
+use Rattle.protocol.proofs.Refine.Authors.{authored_as_read}
+use Rattle.protocol.specs.Refine.Holders.{holds?, freed}
+use Rattle.protocol.proofs.Refine.Holders.{holders_as_read}
 use Rattle.history.specs.Sane.{Sane}
 use Rattle.history.proofs.Quorums.{rules}
 use Rattle.history.proofs.Sim.{state_of, holder_of, holders, author_of, authors, Owner, Sim}

@@ -37,7 +37,8 @@ use Rattle.protocol.specs.Table.{pick, In, times}
 use Rattle.protocol.specs.Rules.{unused, read, write}
 use Rattle.protocol.specs.State.{Tx, Tx-discrete, tx_path, committed}
 use Rattle.protocol.specs.Replay.{replay}
-use Rattle.protocol.specs.Proof.Tables.{on, clash}
+use Rattle.protocol.specs.Proof.Tables.{clash}
+use Rattle.protocol.proofs.Tables.{on}
 use Rattle.history.specs.Ledger.{Ledger, ledger_from, tx_of, root_yes, first_only, log_put, pool_put, noted, note, current, turn, last_value}
 use Rattle.history.specs.Origin.{Origin, ledger_of, Rested, blank_origin}
 use Rattle.history.specs.Claims.{Typed, AllTyped, reached, told}

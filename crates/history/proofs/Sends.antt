@@ -36,7 +36,8 @@ use Rattle.steps.specs.Step.{send, refused_with, putting, full, when_off, send_n
 use Rattle.protocol.specs.Table.{In}
 use Rattle.protocol.specs.Rules.{unused, read, write}
 use Rattle.protocol.specs.State.{Tx, fresh, committed, aborted, Contents, Copy, Votes, History}
-use Rattle.protocol.specs.Proof.Tables.{on, clash}
+use Rattle.protocol.specs.Proof.Tables.{clash}
+use Rattle.protocol.proofs.Tables.{on}
 use Rattle.history.specs.Ledger.{Ledger, tx_of, root_yes, first_only, with_put, noted, note}
 use Rattle.history.proofs.Sim.{tx, mode_of, contents_of, Match, Tells, Owner}
 use Rattle.history.proofs.Books.{Past, More, World}

@@ -26,7 +26,8 @@ use Rattle.steps.specs.Station.{Station, with_image, with_on, with_pool, without
 use Rattle.steps.specs.Step.{delivery, drop, switch, refused_with, full, taken_out, answered, at_replica, at_coordinator, arriving, delivery_of, drop_of, switch_of}
 use Rattle.protocol.specs.Table.{In}
 use Rattle.protocol.specs.State.{Tx, fresh, committed, aborted}
-use Rattle.protocol.specs.Proof.Tables.{on, clash}
+use Rattle.protocol.specs.Proof.Tables.{clash}
+use Rattle.protocol.proofs.Tables.{on}
 use Rattle.protocol.specs.Refine.Growth.{Late}
 use Rattle.history.specs.Ledger.{Ledger, with_put, with_delivered, noted, note}
 use Rattle.history.proofs.Sim.{Match, Tells}

@@ -26,7 +26,7 @@ use Rattle.protocol.specs.Table.{In}
 use Rattle.protocol.specs.Rules.{Mode, unused, read, write}
 use Rattle.protocol.specs.State.{Tx, fresh, voting, committed, aborted, Contents, Copy, OwnerState, over, listed, held, refused}
 use Rattle.protocol.specs.State.{Ends, Votes, History, State}
-use Rattle.protocol.specs.Proof.Tables.{on}
+use Rattle.protocol.proofs.Tables.{on}
 use Rattle.protocol.specs.Refine.Growth.{Late}
 use Rattle.protocol.specs.Refine.Holders.{HolderTable}
 use Rattle.protocol.specs.Refine.Authors.{Author, unwritten, lost, by, AuthorTable, Authored}

@@ -34,7 +34,7 @@ use Rattle.steps.specs.Station.{Station, system, put_at}
 use Rattle.steps.specs.Step.{Call, begin, open_read, open_write, set_value, found, reselect, request_commit, abort, send, delivery, drop, switch, Outcome}
 use Rattle.steps.specs.Step.{step, refused_with, taken, putting, full, send_number, hosted, answered, at_replica, at_coordinator, arriving, delivery_of, drop_of}
 use Rattle.steps.specs.Step.{switch_of, send_of}
-use Rattle.protocol.specs.Proof.Tables.{on}
+use Rattle.protocol.proofs.Tables.{on}
 use Rattle.history.proofs.Tests.{no_both, not-false}
 use Rattle.history.proofs.Carry.{put_all}
 

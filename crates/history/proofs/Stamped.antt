@@ -42,7 +42,7 @@ use Rattle.steps.specs.Step.{Call, begin, open_read, open_write, set_value, foun
 use Rattle.steps.specs.Step.{refused_with, taken, putting, full, send_number, hosted, answered, at_replica, at_coordinator, arriving, delivery_of, drop_of}
 use Rattle.steps.specs.Step.{switch_of, send_of}
 use Rattle.protocol.specs.Table.{In}
-use Rattle.protocol.specs.Proof.Tables.{on}
+use Rattle.protocol.proofs.Tables.{on}
 use Rattle.history.specs.Claims.{Typed}
 use Rattle.history.proofs.Carry.{put_all}
 use Rattle.history.proofs.Books.{Valid}

@@ -17,8 +17,8 @@ use Rattle.protocol.specs.Table.{In, put2, times}
 use Rattle.protocol.specs.Rules.{Mode, unused}
 use Rattle.protocol.specs.State.{Tx, Tx-discrete, tx_path}
 use Rattle.protocol.specs.Replay.{after}
-use Rattle.protocol.specs.Proof.Tables.{on, put_cases, put_here, put2_cases}
-use Rattle.protocol.specs.Proof.Lists.{in_select, replay_ext, select_cases}
+use Rattle.protocol.proofs.Tables.{on, put_cases, put_here, put2_cases}
+use Rattle.protocol.proofs.Lists.{in_select, replay_ext, select_cases}
 use Rattle.history.specs.Ledger.{in?, tx_of, root_yes, first_only}
 use Rattle.history.specs.Origin.{is_writing}
 use Rattle.history.proofs.Sim.{tx}

@@ -28,7 +28,7 @@ use Rattle.clauses_arrive.proofs.Deliveries.{Fitting, receive_cases}
 use Rattle.steps.specs.Station.{Station, system}
 use Rattle.steps.specs.Step.{Call, delivery, Outcome, step, full, answered, at_coordinator}
 use Rattle.protocol.specs.Table.{In}
-use Rattle.protocol.specs.Proof.Tables.{on}
+use Rattle.protocol.proofs.Tables.{on}
 use Rattle.history.specs.Ledger.{Ledger}
 use Rattle.history.specs.Origin.{Origin, Rested}
 use Rattle.history.specs.Claims.{AllTyped, Unmoved, EarlierTries, reached, account}

@@ -39,7 +39,7 @@ use Rattle.steps.specs.Step.{refused_with, putting, full, send_number, hosted, a
 use Rattle.steps.specs.Step.{send_of}
 use Rattle.protocol.specs.Table.{In}
 use Rattle.protocol.specs.State.{Tx}
-use Rattle.protocol.specs.Proof.Tables.{on}
+use Rattle.protocol.proofs.Tables.{on}
 use Rattle.history.specs.Ledger.{Ledger}
 use Rattle.history.proofs.Tests.{no_both, and-true, not-false, not-true}
 use Rattle.history.proofs.Books.{Past, World}

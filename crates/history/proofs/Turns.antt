@@ -23,8 +23,10 @@ use Rattle.protocol.specs.Table.{put, In}
 use Rattle.protocol.specs.Rules.{Mode, unused}
 use Rattle.protocol.specs.State.{Tx, Tx-discrete, tx_path, Phase, fresh, voting, committed, aborted, Contents, History, State}
 use Rattle.protocol.specs.Transitions.{do_ask, do_commit, do_abort, Step, ask, commit, abort}
-use Rattle.protocol.specs.Proof.Tables.{on, clash, put_cases, put_here}
-use Rattle.protocol.specs.Refine.Growth.{Late, step_grows}
+use Rattle.protocol.specs.Proof.Tables.{clash}
+use Rattle.protocol.proofs.Tables.{on, put_cases, put_here}
+use Rattle.protocol.specs.Refine.Growth.{Late}
+use Rattle.protocol.proofs.Refine.Growth.{step_grows}
 use Rattle.history.specs.Ledger.{Ledger, current, with_participants}
 use Rattle.history.specs.Claims.{Shows, Finds}
 use Rattle.clauses.proofs.Parts.{true-T}

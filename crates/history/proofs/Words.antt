@@ -21,7 +21,7 @@ use Rattle.wire.specs.Items.{no_entry, no_rival, entry_of, rival_of, word_of}
 use Rattle.wire.proofs.RoundTrip.{next, number_at, decode_encode}
 use Rattle.wire.proofs.Theorems.{encoded_checked, accepted_of_check}
 use Rattle.protocol.specs.State.{Tx}
-use Rattle.protocol.specs.Proof.Tables.{on}
+use Rattle.protocol.proofs.Tables.{on}
 use Rattle.history.specs.Ledger.{tx_of}
 use Rattle.history.proofs.Tests.{and-true}
 

@@ -21,7 +21,7 @@ use Rattle.coordinator.specs.Calls.{request_commit_refusals, requested, request_
 use Rattle.clauses.proofs.Places.{place_open}
 use Rattle.steps.specs.Station.{Station, system}
 use Rattle.steps.specs.Step.{Call, request_commit, Outcome, step}
-use Rattle.protocol.specs.Proof.Tables.{on}
+use Rattle.protocol.proofs.Tables.{on}
 use Rattle.history.specs.Origin.{Origin, Rested}
 use Rattle.history.specs.Claims.{AllTyped, reached}
 use Rattle.history.proofs.Tests.{not-false}

@@ -20,7 +20,7 @@ use Rattle.coordinator.proofs.Theorems.{found_leaves}
 use Rattle.arrivals.specs.Receive.{receive_of}
 use Rattle.clauses.proofs.Cases.{OpenOrVoting, Endings, step_keeps, abort_cases}
 use Rattle.clauses_arrive.proofs.Deliveries.{receive_cases}
-use Rattle.protocol.specs.Proof.Tables.{on}
+use Rattle.protocol.proofs.Tables.{on}
 use Rattle.history.proofs.Tests.{not-false}
 
 -- the same transaction goes on

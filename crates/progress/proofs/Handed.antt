@@ -21,7 +21,7 @@ use Rattle.arrivals.specs.Receive.{for_replica, delivered, receive_refusals, rec
 use Rattle.steps.specs.Station.{Station, system, with_record, without}
 use Rattle.steps.specs.Step.{delivery, Outcome, refused_with, taken, taken_out, answered, at_replica, at_coordinator, arriving, delivery_of, step}
 use Rattle.protocol.specs.Table.{In}
-use Rattle.protocol.specs.Proof.Tables.{on}
+use Rattle.protocol.proofs.Tables.{on}
 use Rattle.history.specs.Ledger.{Ledger}
 use Rattle.history.proofs.Tests.{no_both}
 use Rattle.history.proofs.Sim.{waits_well}

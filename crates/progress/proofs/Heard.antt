@@ -26,7 +26,7 @@ use Rattle.coordinator.specs.Calls.{with_phase}
 use Rattle.arrivals.specs.Receive.{with_yes, with_done, delivered, receive_refusals, receive_of}
 use Rattle.clauses.proofs.Parts.{on_cond}
 use Rattle.clauses_arrive.proofs.Deliveries.{said_yes, named, said_done, receive_cases}
-use Rattle.protocol.specs.Proof.Tables.{on}
+use Rattle.protocol.proofs.Tables.{on}
 use Rattle.history.proofs.Tests.{no_both, and-true, not-true}
 use Rattle.history.proofs.Words.{header, formed_of, formed_yield}
 use Rattle.progress.proofs.Answering.{yes_taken_lem, done_taken_lem}

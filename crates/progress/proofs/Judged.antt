@@ -21,7 +21,7 @@ use Rattle.judge.specs.Judge.{some, some_below, other_holds, held_by_another, ne
 use Rattle.judge.specs.Judge.{older_in, older_among, votes_no}
 use Rattle.clauses.proofs.Parts.{true-T}
 use Rattle.protocol.specs.Table.{In}
-use Rattle.protocol.specs.Proof.Tables.{on}
+use Rattle.protocol.proofs.Tables.{on}
 use Rattle.history.proofs.Tests.{no_both, and-true, or-true, not-true}
 use Rattle.history.proofs.Quiet.{no_bit}
 

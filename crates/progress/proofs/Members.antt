@@ -35,7 +35,8 @@ use Rattle.coordinator.specs.State.{object_at, is_open}
 use Rattle.coordinator.specs.Calls.{with_phase}
 use Rattle.protocol.specs.Table.{In}
 use Rattle.protocol.specs.Rules.{unused, read, write}
-use Rattle.protocol.specs.Proof.Tables.{on, clash}
+use Rattle.protocol.specs.Proof.Tables.{clash}
+use Rattle.protocol.proofs.Tables.{on}
 use Rattle.history.proofs.Tests.{and-true}
 use Rattle.history.proofs.Sim.{mode_of, contents_of, Match}
 use Rattle.history.proofs.Images.{same_field, owner_from}

@@ -25,7 +25,7 @@ use Rattle.replica.proofs.Fields.{restated, owner_with}
 use Rattle.replica.proofs.Late.{late_outcome}
 use Rattle.replica.proofs.After.{here_last, listed_owner, fetch_owner, no_owner, yes_owner, outcome_owner, early_owner}
 use Rattle.replica.proofs.Taken.{Taken, by_kind, fetch_still, ask_still, outcome_cases}
-use Rattle.protocol.specs.Proof.Tables.{on}
+use Rattle.protocol.proofs.Tables.{on}
 use Rattle.history.proofs.Acts.{active_cases}
 use Rattle.history.proofs.Served.{kind_cases}
 

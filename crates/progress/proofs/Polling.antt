@@ -24,7 +24,7 @@ use Rattle.clauses.proofs.Facts.{Meets}
 use Rattle.clauses.proofs.Parts.{true-T, by_test, on_cond}
 use Rattle.steps.specs.Station.{Station, system}
 use Rattle.steps.specs.Step.{request_commit, Outcome, step}
-use Rattle.protocol.specs.Proof.Tables.{on}
+use Rattle.protocol.proofs.Tables.{on}
 use Rattle.history.proofs.Tests.{no_both, not-false}
 use Rattle.history.proofs.Quiet.{no_bit, agreed_by}
 use Rattle.history.proofs.Calls.{host_cases}

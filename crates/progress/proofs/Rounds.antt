@@ -23,7 +23,8 @@ use Rattle.steps.specs.Station.{Own, Station, system, with_image, with_record, p
 use Rattle.steps.specs.Step.{Call, send, delivery, Outcome, putting, taken_out, answered, step}
 use Rattle.protocol.specs.Table.{In}
 use Rattle.protocol.specs.State.{Tx, tx_path}
-use Rattle.protocol.specs.Proof.Tables.{on, clash}
+use Rattle.protocol.specs.Proof.Tables.{clash}
+use Rattle.protocol.proofs.Tables.{on}
 use Rattle.history.specs.Ledger.{tx_of}
 use Rattle.history.specs.Origin.{Origin, Rested}
 use Rattle.history.specs.Claims.{AllTyped, account, reached, told}

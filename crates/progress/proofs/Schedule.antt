@@ -29,7 +29,7 @@ use Rattle.steps.specs.Station.{system}
 use Rattle.steps.specs.Step.{Call, request_commit}
 use Rattle.protocol.specs.Table.{In}
 use Rattle.protocol.specs.State.{Tx}
-use Rattle.protocol.specs.Proof.Tables.{on}
+use Rattle.protocol.proofs.Tables.{on}
 use Rattle.history.specs.Origin.{Origin, Rested}
 use Rattle.history.specs.Claims.{AllTyped, reached}
 use Rattle.history.proofs.Quiet.{no_bit}

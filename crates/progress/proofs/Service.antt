@@ -26,7 +26,8 @@ use Rattle.service.specs.Service.{Service, Call, front, load_hours, plain, is_on
 use Rattle.service.proofs.Laws.{after_at, after_append, put_here}
 use Rattle.protocol.specs.Table.{In}
 use Rattle.protocol.specs.State.{Tx}
-use Rattle.protocol.specs.Proof.Tables.{on, clash}
+use Rattle.protocol.specs.Proof.Tables.{clash}
+use Rattle.protocol.proofs.Tables.{on}
 use Rattle.history.specs.Origin.{Origin as Machine}
 use Rattle.history.specs.Claims.{reached as machineReached, account as machineAccount, AllTyped as AllStepsTyped}
 use Rattle.history.proofs.Claimed.{always_good}

@@ -32,7 +32,8 @@ use Rattle.steps.specs.Station.{Station, system, put_at}
 use Rattle.steps.specs.Step.{Call, abort, step}
 use Rattle.protocol.specs.Table.{In}
 use Rattle.protocol.specs.State.{Tx, voting, Contents}
-use Rattle.protocol.specs.Proof.Tables.{on, clash}
+use Rattle.protocol.specs.Proof.Tables.{clash}
+use Rattle.protocol.proofs.Tables.{on}
 use Rattle.history.specs.Ledger.{Ledger, tx_of}
 use Rattle.history.proofs.Tests.{no_both, and-true}
 use Rattle.history.proofs.Sim.{tx, contents_of, Match, waits_well, waits_tells}

@@ -40,7 +40,7 @@ use Rattle.steps.specs.Step.{Call, begin, open_read, open_write, set_value, foun
 use Rattle.steps.specs.Step.{refused_with, putting, full, send_number, hosted, answered, at_replica, at_coordinator, arriving, delivery_of, drop_of, switch_of}
 use Rattle.steps.specs.Step.{send_of, step}
 use Rattle.protocol.specs.Table.{In}
-use Rattle.protocol.specs.Proof.Tables.{on}
+use Rattle.protocol.proofs.Tables.{on}
 use Rattle.history.proofs.Tests.{not-false}
 use Rattle.history.proofs.Arrive.{in_append, in_place, in_left, in_without}
 use Rattle.progress.specs.Deliveries.{handed_by}

@@ -39,7 +39,8 @@ use Rattle.steps.specs.Step.{refused_with, putting, full, send_number, hosted, a
 use Rattle.steps.specs.Step.{send_of, step}
 use Rattle.protocol.specs.Table.{In}
 use Rattle.protocol.specs.State.{Tx, committed, aborted}
-use Rattle.protocol.specs.Proof.Tables.{on, clash}
+use Rattle.protocol.specs.Proof.Tables.{clash}
+use Rattle.protocol.proofs.Tables.{on}
 use Rattle.history.specs.Ledger.{Ledger, tx_of}
 use Rattle.history.specs.Origin.{Origin, Rested}
 use Rattle.history.specs.Claims.{AllTyped, reached}

@@ -16,7 +16,7 @@ use Rattle.image.proofs.Each.{lt_or_le}
 use Rattle.wire.specs.Message.{ask, vote, outcome, done}
 use Rattle.wire.specs.Decode.{owner_of, serial_of}
 use Rattle.protocol.specs.State.{Tx}
-use Rattle.protocol.specs.Proof.Tables.{on}
+use Rattle.protocol.proofs.Tables.{on}
 use Rattle.progress.specs.Deliveries.{is_with, count}
 use Rattle.progress.proofs.Stages.{With}
 use Rattle.progress.proofs.Counting.{one, count_one}

@@ -29,7 +29,7 @@ use Rattle.steps.specs.Station.{Station, system, put_at}
 use Rattle.steps.specs.Step.{Call, request_commit, Outcome, step}
 use Rattle.protocol.specs.Table.{In}
 use Rattle.protocol.specs.State.{Tx}
-use Rattle.protocol.specs.Proof.Tables.{on}
+use Rattle.protocol.proofs.Tables.{on}
 use Rattle.history.specs.Ledger.{tx_of, ledger_from}
 use Rattle.history.specs.Origin.{Origin, Rested}
 use Rattle.history.specs.Claims.{AllTyped, reached, told, event, account}

@@ -15,7 +15,7 @@ use Rattle.steps.specs.Step.{begin, open_read, open_write, set_value, found, req
 use Rattle.steps.proofs.Nodes.{node_on}
 use Rattle.protocol.specs.Table.{pick, In, select}
 use Rattle.protocol.specs.State.{Tx, Tx-discrete}
-use Rattle.protocol.specs.Proof.Tables.{on}
+use Rattle.protocol.proofs.Tables.{on}
 use Rattle.history.specs.Ledger.{Ledger, in?}
 use Rattle.history.specs.Origin.{ledger_of, Rested}
 use Rattle.history.specs.Claims.{Settled, reached, account, Demand3}
