@@ -1,5 +1,6 @@
 // Judging at a replica: how a message's transaction stands here, and how a listed ask is judged. What a vote then changes and answers is the replica's.
 #![tactic(auto)]
+
 mod judge;
 mod standings;
 

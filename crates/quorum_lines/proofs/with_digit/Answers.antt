@@ -3,11 +3,11 @@ use Prim.Native.Nat.{◌+◌, ◌*◌, ◌≤◌, ◌<◌}
 use native.Mathlib.Omega.{arith}
 use mathlib.Core.Path.{sym, ◌∙◌}
 use mathlib.Core.Bool.{cond, not, ◌&&◌}
-use mathlib.Core.Logic.{⊎_elim}
 use lib.Dec.{eqb}
 use borrow.Author.Tests.{eq-eqb, ne_eqb, le-leb, lt-leb}
 use Rattle.quorum_lines.specs.Line.{most, may_follow, more, digit, spoil}
 use Rattle.quorum_lines.proofs.with_digit.Goals as goal
+use Rattle.quorum_lines.proofs.with_digit.Goals.{then-line+else-line-eq0, else-line}
 
 pub returns-then-largest-v : goal.returns-then-largest-v
 unfolding may_follow digit
@@ -35,7 +35,7 @@ returns c = let x = c.args in
     let s = x.line in
     let h : s.value * 10 + x.d ≤ most s.count = omega arith in
     let e = le-leb (s.value * 10 + x.d) (most s.count) h in
-    ⊎_elim
-    (λ w. sym (λ j. cond (e j && not (w.0.taken j && ne_eqb s.value 0 w.2.left j)) (more s x.d) (spoil s)))
-    (λ w. sym (λ j. cond (e j && not (w.left j && eqb s.value 0)) (more s x.d) (spoil s)))
-    c.if-line.branch
+    elim c.if-line.branch [
+      then-line+else-line-eq0 w ↦ sym (λ j. cond (e j && not (w.if-line.true j && ne_eqb s.value 0 w.if-line-eq0.false j)) (more s x.d) (spoil s))
+    | else-line w ↦ sym (λ j. cond (e j && not (w.if-line.false j && eqb s.value 0)) (more s x.d) (spoil s))
+    ]

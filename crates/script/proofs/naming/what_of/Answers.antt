@@ -15,7 +15,7 @@ returns-then-s-eq0 c = simp (eq-eqb _ _ c.if-s-eq0.true, ne_eqb _ _ c.if-s-eq-SP
 pub returns-then-is_good : goal.returns-then-is_good
 unfolding what_of
 returns-then-is_good c = simp (
-  c.Line-of.ensures,
+  c.line_of.ensures,
   ne_eqb _ _ c.if-s-eq0.false,
   ne_eqb _ _ c.if-s-eq-SPOILT.false,
   sym c.is_good.ensures ∙ c.if-is_good.true,
