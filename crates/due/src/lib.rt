@@ -1,6 +1,7 @@
 // What is due to a node, as a message in a lent buffer, from a record by value. A call from C works on the record's bytes instead, in `record_due`, which
 // takes an object's entry from here.
 #![tactic(auto)]
+
 ghost use Rattle.std.specs.Prelude.{◌≡◌, ℕ, ◌<◌, length, get_or, replicate};
 ghost use Rattle.numbers.specs.Sizes.{objects as objectsEnd, most_open};
 ghost use Rattle.wire.specs.Items.{no_entry};

@@ -1,5 +1,6 @@
 // Takes in an image of an older length: it is written as one of today's.
 #![tactic(auto)]
+
 ghost use Rattle.std.specs.Prelude.{◌≡◌, length};
 ghost use Rattle.numbers.specs.Sizes.{nodes};
 ghost use Rattle.image.specs.Layout.{shape, image_size};

@@ -2,6 +2,7 @@
 // which read and change single pieces of them by the functions of `load`, `look` and `store`. Some of these ask a plain fact of the bytes: their length, a
 // count, that the check passed. Their callers prove it.
 #![tactic(auto)]
+
 ghost use Rattle.std.specs.Prelude.{◌≡◌};
 ghost use Rattle.record.specs.Call.{called};
 

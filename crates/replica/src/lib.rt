@@ -1,5 +1,6 @@
 // A replica (document 01: copy end): answers fetches, asks and outcomes, and keeps its image.
 #![tactic(auto)]
+
 mod answer;
 mod change;
 mod delivery;

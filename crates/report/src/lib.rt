@@ -1,6 +1,7 @@
 // Texts put into a lent buffer one behind another: numbers, messages with their fields, and the words of the numbers. Each function answers the position
 // behind what it wrote; a text that does not fit is left out.
 #![tactic(auto)]
+
 ghost use Rattle.std.specs.Prelude.{◌≡◌, ◌<◌, get_or};
 ghost use Rattle.report.specs.Page.{page, ink, inks};
 ghost use Rattle.report.specs.Each.{each_from};

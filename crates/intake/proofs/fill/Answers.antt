@@ -6,8 +6,8 @@ use Rattle.intake.proofs.fill.Goals as goal
 pub returns : goal.returns
 unfolding taken_into
 returns c = rw (
-      c.set_owners.ensures,
-      c.set_copies.ensures,
-      c.blank.ensures.image,
-      blank_made c.args.image.now c.requires.1,
-    )
+  c.set_owners.ensures,
+  c.set_copies.ensures,
+  c.blank.ensures.image,
+  blank_made c.args.image.now c.requires.1,
+)

@@ -3,10 +3,10 @@ use Rattle.intake.proofs.set_copy.Goals as goal
 
 pub returns : goal.returns
 returns c = rw (
-      c.set_author.ensures,
-      c.set_writers.ensures,
-      c.set_readers.ensures,
-      c.set_holder.ensures,
-      c.set_version.ensures,
-      c.set_value.ensures,
-    )
+  c.set_author.ensures,
+  c.set_writers.ensures,
+  c.set_readers.ensures,
+  c.set_holder.ensures,
+  c.set_version.ensures,
+  c.set_value.ensures,
+)

@@ -14,6 +14,6 @@ returns c = let x = c.args in
     let p = page x.out.now x.at in
     let a = number_texts for_text x.h.owner in
     let b = number_texts dot_text x.h.serial in
-    let q = page e.new.0 e.result in
-    let two : q ≡ inks p (a ++ b) = behind p (page d.new.0 d.result) q a b d.ensures e.ensures in
-    behind p q (page f.new.0 f.result) (a ++ b) (number_texts stamp_text x.h.stamp) two f.ensures
+    let q = page e.new.out e.result in
+    let two : q ≡ inks p (a ++ b) = behind p (page d.new.out d.result) q a b d.ensures e.ensures in
+    behind p q (page f.new.out f.result) (a ++ b) (number_texts stamp_text x.h.stamp) two f.ensures

@@ -20,7 +20,7 @@ pub loop-i-preserved : goal.loop-i-preserved
 loop-i-preserved c = let l = c.loop-i in
     let x = c.args in
     let e = c.rival-a in
-    one_more (nth_rival_texts x.m.now) x.n x.out.now x.at l.out l.a l.i e.new.0 e.result c.loop-i-test.true l.invariant
+    one_more (nth_rival_texts x.m.now) x.n x.out.now x.at l.out l.a l.i e.new.out e.result c.loop-i-test.true l.invariant
     (e.ensures ∙ ap (λ (s : Shown). inks (page l.out l.a) (rival_texts s.rival)) c.show-s.ensures)
 
 pub shape_of-out : goal.shape_of-out

@@ -1,0 +1,7 @@
+-- `due::duties::voting_due`: the tests in the definition's order.
+use Rattle.due.specs.Kind.{voting_due}
+use Rattle.due.proofs.duties.voting_due.Goals as goal
+
+pub returns : goal.returns
+unfolding voting_due
+returns c = cc

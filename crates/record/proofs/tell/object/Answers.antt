@@ -1,0 +1,7 @@
+-- `record::tell::object`: the field of the object.
+use mathlib.Core.Path.{ap}
+use Rattle.coordinator.specs.declared.Object.{Object}
+use Rattle.record.proofs.tell.object.Goals as goal
+
+pub returns : goal.returns
+returns c = ap (λ (x : Object). x.object) c.nth-x.ensures
