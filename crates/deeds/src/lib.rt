@@ -1,5 +1,6 @@
 // The host's calls on the bytes of a record whose check passed: each finds its number, and changes the pieces of the record that it must.
 #![tactic(auto)]
+
 ghost use Rattle.std.specs.Prelude.{◌≡◌, cond, ◌≤◌, eqb, length};
 ghost use Rattle.record.specs.Layout.{record_size};
 ghost use Rattle.numbers.specs.Sizes.{most_open};

@@ -153,16 +153,16 @@ module _ (st : Station) (L : Ledger) (F : Past) (w : World st L F) (n : ℕ) whe
       (λ t v f e. absurd (f.begun idle))
 
   -- ---- while open: the present transaction is fresh, so no committed one is it, and nobody is a participant
-  module _ (is_open : c.phase ≡ open_phase) where
+  module _ (phase_open : c.phase ≡ open_phase) where
     none_yet : c.participants ≡ 0
-    none_yet = (w.valid.records n).party.not_asked (omega (arith, is_open))
+    none_yet = (w.valid.records n).party.not_asked (omega (arith, phase_open))
 
     busy : c.phase ≢ idle_phase
-    busy e = let z : ⊥ = omega (arith, is_open) in z
+    busy e = let z : ⊥ = omega (arith, phase_open) in z
 
     not_committed : (x : Tx) → w.state.history.phase x ≡ committed → x ≡ current L n → ⊥
     not_committed x q e =
-        let f = (w.sim.owners n).while_open is_open in let g : x ≡ now = e ∙ is_now in
+        let f = (w.sim.owners n).while_open phase_open in let g : x ≡ now = e ∙ is_now in
         let k : w.state.history.phase x ≡ fresh = ap w.state.history.phase g ∙ f in clash (cc)
 
     -- ---- the ledger with another mode, or another new value, for the present transaction

@@ -84,7 +84,7 @@ module _ (st : Station) (L : Ledger) (F : Past) (w : World st L F) (n : ℕ) whe
         }
 
   -- ---- votes asked for
-  module _ (party : ℕ) (is_open : c.phase ≡ open_phase) (counts : (system st).is_write party ≡ true) (m : Meets (system st) (requested c party)) where
+  module _ (party : ℕ) (phase_open : c.phase ≡ open_phase) (counts : (system st).is_write party ≡ true) (m : Meets (system st) (requested c party)) where
     placed : (t : ℕ) → is_open c t ≡ true → (object_at c t).object ≡ t
     placed t e = (place_open c.objects c.count t (ltb-true (place_of c t) most_open e)).1.1
 
@@ -101,10 +101,10 @@ module _ (st : Station) (L : Ledger) (F : Past) (w : World st L F) (n : ℕ) whe
     h₁ = τ₁.history
 
     sim₁ : Sim w.sane (changed st n c₁ st.pool) τ₁ w.log
-    sim₁ = sim_asked st w.state w.log w.sim n party is_open counts placed
+    sim₁ = sim_asked st w.state w.log w.sim n party phase_open counts placed
 
     x_fresh : h.phase x ≡ fresh
-    x_fresh = (w.sim.owners n).while_open is_open
+    x_fresh = (w.sim.owners n).while_open phase_open
 
     -- a transaction is the present one, or its phase and contents are as they were
     moved : (y : Tx) → (y ≡ x) ⊎ ((y ≡ x → ⊥) × (h₁.phase y ≡ h.phase y) × (h₁.contents y ≡ h.contents y))
@@ -174,8 +174,8 @@ module _ (st : Station) (L : Ledger) (F : Past) (w : World st L F) (n : ℕ) whe
       serial_as = p.serial_as;
       no_mode = p.no_mode;
       no_new = p.no_new;
-      mode_now = λ e t. p.mode_now (λ z. let q : ⊥ = omega (arith, is_open) in q) t;
-      new_now = λ e t. p.new_now (λ z. let q : ⊥ = omega (arith, is_open) in q) t;
+      mode_now = λ e t. p.mode_now (λ z. let q : ⊥ = omega (arith, phase_open) in q) t;
+      new_now = λ e t. p.new_now (λ z. let q : ⊥ = omega (arith, phase_open) in q) t;
       party_now = λ e. ap (put Tx-discrete L.participants (current L n) party) (sym is_now) ∙ put_here Tx-discrete L.participants (current L n) party;
     }
 
@@ -192,7 +192,7 @@ module _ (st : Station) (L : Ledger) (F : Past) (w : World st L F) (n : ℕ) whe
     pub request_world : World (changed st n c₁ st.pool) (with_participants L n party) (More F (changed st n c₁ st.pool))
     request_world = turned τ₁ w.log c₁ st.pool sim₁ m (with_participants L n party) (λ b i. i) w.books.pool_as w.books.log_as decided₁
         (put_all (Present (with_participants L n party)) st.records n c₁ here₁ else₁) w.books.dones
-        (puts_on (ask x k₁ (can_ask st w.state w.log w.sim n party is_open counts placed)))
+        (puts_on (ask x k₁ (can_ask st w.state w.log w.sim n party phase_open counts placed)))
         (λ y t v f q. on (moved y) (λ e. let r = is_voting y e in absurd (clash (cc)))
         (λ z. elsewhere c₁ y t v z.0 (w.books.found.still y t v f (sym z.1 ∙ q))))
         (λ y t v f a. on (moved y)

@@ -1,6 +1,7 @@
 // The quorum program: reads lines of a live mask, thirteen distances and, if given, the asker, and writes the nearest read and write quorum of each.
 // It moves bytes only: what is written for what is read is `quorum_lines`, which is proved.
 #![tactic(auto)]
+
 use libc::{STDIN_FILENO, STDOUT_FILENO};
 use quorum_lines::Line;
 

@@ -1,5 +1,6 @@
 // A delivery to a record as bytes. `arrive` works on bytes whose check passed; `receive` checks them first.
 #![tactic(auto)]
+
 ghost use Rattle.std.specs.Prelude.{◌≡◌};
 ghost use Rattle.coordinator.specs.declared.Coordinator.{Coordinator};
 ghost use Rattle.coordinator.specs.System.{tree};

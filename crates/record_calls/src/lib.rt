@@ -1,6 +1,7 @@
 // The host's calls on a record as bytes: begin to abort. `calls` checks the bytes and then calls the crate `deeds`, which works on bytes whose check
 // passed; `ahead` finds a call's number and alters nothing.
 #![tactic(auto)]
+
 mod ahead;
 mod calls;
 

@@ -1,5 +1,6 @@
 // A node's settings: bytes lent beside its record. Its packing hours, its table of classes, the kind of what it began last, and the tenths that wait.
 #![tactic(auto)]
+
 ghost use Rattle.std.specs.Prelude.{◌≡◌, ◌∷◌, ◌++◌, ◌+◌, ◌≤◌, length};
 ghost use Rattle.std.proofs.lemmas.List.Edits.{sets};
 ghost use Rattle.parts.specs.Parts.{part, splice};

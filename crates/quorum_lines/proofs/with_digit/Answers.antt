@@ -36,6 +36,6 @@ returns c = let x = c.args in
     let h : s.value * 10 + x.d ≤ most s.count = omega arith in
     let e = le-leb (s.value * 10 + x.d) (most s.count) h in
     elim c.if-line.branch [
-      then-line+else-line-eq0 w ↦ sym (λ j. cond (e j && not (w.if-line.true j && ne_eqb s.value 0 w.if-line-eq0.false j)) (more s x.d) (spoil s))
-    | else-line w ↦ sym (λ j. cond (e j && not (w.if-line.false j && eqb s.value 0)) (more s x.d) (spoil s))
+      | then-line+else-line-eq0 w ↦ sym (λ j. cond (e j && not (w.if-line.true j && ne_eqb s.value 0 w.if-line-eq0.false j)) (more s x.d) (spoil s))
+      | else-line w ↦ sym (λ j. cond (e j && not (w.if-line.false j && eqb s.value 0)) (more s x.d) (spoil s))
     ]
