@@ -3,7 +3,7 @@
  * replica that answers messages from it, the record of the node's own transaction, the settings that say when one may begin and how weights are
  * sorted into classes, and a whole station of thirteen nodes.
  *
- * `rt staticlib host` writes the library, target/staticlib/libhost.a, for x86-64 Linux. Of the C library it needs memcpy, memmove
+ * `tools/library` writes the library, target/staticlib/libhost.a, for x86-64 Linux. Of the C library it needs memcpy, memmove
  * and memset alone. This line builds a program with it:
  *
  *   gcc -std=c11 -Iinclude main.c target/staticlib/libhost.a -o main

@@ -1,4 +1,4 @@
-//! Links the library that `rt staticlib host` writes.
+//! Links the library that `tools/library` writes.
 
 use std::env;
 use std::path::Path;

@@ -20,8 +20,8 @@ const USAGE: &str = "usage: checks [--seed S] [--rounds K] [--only WORDS] [--pro
 /// The options, and where the quorum program and the station program are; none where the words are no options.
 fn options() -> Option<(Options, PathBuf, PathBuf)> {
     let mut options = Options { seed: 13, rounds: 1, only: String::new() };
-    let mut program = PathBuf::from("target/bin/quorum_program");
-    let mut station_program = PathBuf::from("target/bin/station_program");
+    let mut program = PathBuf::from("crates/quorum_program/out/quorum_program");
+    let mut station_program = PathBuf::from("crates/station_program/out/station_program");
     let mut words = std::env::args().skip(1);
     while let Some(word) = words.next() {
         let value = words.next()?;

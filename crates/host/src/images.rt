@@ -11,16 +11,14 @@ use crate::Author;
 use numbers::OBJECTS_END;
 
 // The number of an image. Ruled out: 0 for a holder whose state is not 2; 2 for an image of another length.
-#[unsafe(no_mangle)]
-pub extern "C" fn senna_check_image(image: &[u8]) -> u8
+pub fn senna_check_image(image: &[u8]) -> u8
     ensures { result ≡ check image.now }
 {
     image::check(image)
 }
 
 // Makes an image blank. Ruled out: a byte of a buffer of another length altered; holders of 0.
-#[unsafe(no_mangle)]
-pub extern "C" fn senna_blank_image(image: &mut [u8]) -> u8
+pub fn senna_blank_image(image: &mut [u8]) -> u8
     ensures value { result ≡ blank_number image.old }
     ensures image_after { image.new ≡ blank image.old }
 {
@@ -28,8 +26,7 @@ pub extern "C" fn senna_blank_image(image: &mut [u8]) -> u8
 }
 
 // Takes an image of an older length in. Ruled out: an author unknown at version 0; a byte written where the older image is damaged.
-#[unsafe(no_mangle)]
-pub extern "C" fn senna_take_in(old: &[u8], image: &mut [u8]) -> u8
+pub fn senna_take_in(old: &[u8], image: &mut [u8]) -> u8
     ensures value { result ≡ take_number old.now image.old }
     ensures image_after { image.new ≡ take_after old.now image.old }
 {
@@ -37,8 +34,7 @@ pub extern "C" fn senna_take_in(old: &[u8], image: &mut [u8]) -> u8
 }
 
 // Takes a station's thirteen images of an older length in. Ruled out: the images before a damaged one written; 2 for twelve images.
-#[unsafe(no_mangle)]
-pub extern "C" fn senna_station_take_in(old: &[u8], images: &mut [u8]) -> u8
+pub fn senna_station_take_in(old: &[u8], images: &mut [u8]) -> u8
     ensures value { result ≡ convert_number old.now images.old }
     ensures images_after { images.new ≡ convert_after old.now images.old }
 {
@@ -64,8 +60,7 @@ fn author_number(image: &[u8], object: u8) -> u8
 }
 
 // Who wrote an object's copy last. Ruled out: the author of object 0 told for every object; an owner told of a damaged image.
-#[unsafe(no_mangle)]
-pub extern "C" fn senna_image_author(image: &[u8], object: u8) -> Author
+pub fn senna_image_author(image: &[u8], object: u8) -> Author
     ensures { result ≡ author_answer image.now object }
 {
     let number = author_number(image, object);

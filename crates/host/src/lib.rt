@@ -1,12 +1,12 @@
-// The library's functions for C: numbers and byte slices (a slice is a pointer and a size_t), no heap, no state of their own.
+// What C calls, as a library of Rattle: numbers and byte slices, no heap, no state of their own. `host_c` exports each function senna_* under its name.
 #![tactic(auto)]
 
-mod images;
-mod messages;
-mod records;
-mod replicas;
-mod setup;
-mod stations;
+pub mod images;
+pub mod messages;
+pub mod records;
+pub mod replicas;
+pub mod setup;
+pub mod stations;
 
 ghost use Rattle.std.specs.Prelude.{◌≡◌, cond};
 ghost use Rattle.quorum.specs.declared.Kind.TheVariants.{Read, Write};
@@ -96,32 +96,28 @@ fn is_quorum(kind: Kind, mask: u16) -> u8
 }
 
 // Whether the set contains a read quorum: 1 or 0. Ruled out: 'yes' to two leaves of one hall; 'no' to the root alone.
-#[unsafe(no_mangle)]
-pub extern "C" fn senna_is_read_quorum(mask: u16) -> u8
+pub fn senna_is_read_quorum(mask: u16) -> u8
     ensures { result ≡ cond (is_quorum Read mask) 1 0 }
 {
     is_quorum(Kind::Read, mask)
 }
 
 // Whether the set contains a write quorum: 1 or 0. Ruled out: 'yes' without the root; 'no' to all thirteen nodes.
-#[unsafe(no_mangle)]
-pub extern "C" fn senna_is_write_quorum(mask: u16) -> u8
+pub fn senna_is_write_quorum(mask: u16) -> u8
     ensures { result ≡ cond (is_quorum Write mask) 1 0 }
 {
     is_quorum(Kind::Write, mask)
 }
 
 // The nearest read quorum within live, for an asker. Ruled out: 8 where live has one; a set's mask with another set's sum.
-#[unsafe(no_mangle)]
-pub extern "C" fn senna_nearest_read(live: u16, distances: &[u8], asker: u8) -> Chosen
+pub fn senna_nearest_read(live: u16, distances: &[u8], asker: u8) -> Chosen
     ensures { result ≡ nearest_answer Read live distances.now asker }
 {
     nearest(Kind::Read, live, distances, asker)
 }
 
 // The nearest write quorum within live, for an asker. Ruled out: 8 before 1 where both fit; of equal sums a set without the asker where one has him.
-#[unsafe(no_mangle)]
-pub extern "C" fn senna_nearest_write(live: u16, distances: &[u8], asker: u8) -> Chosen
+pub fn senna_nearest_write(live: u16, distances: &[u8], asker: u8) -> Chosen
     ensures { result ≡ nearest_answer Write live distances.now asker }
 {
     nearest(Kind::Write, live, distances, asker)

@@ -23,16 +23,14 @@ pub struct Serials {
 }
 
 // The number of a received message. Ruled out: 3 for a message of 14 bytes; 0 for one with bytes left over.
-#[unsafe(no_mangle)]
-pub extern "C" fn senna_check_message(message: &[u8]) -> u8
+pub fn senna_check_message(message: &[u8]) -> u8
     ensures { result ≡ check_of message.now }
 {
     wire::check(message)
 }
 
 // The writers. Each rules out, among others: a buffer altered on a refusal; bytes behind the message altered.
-#[unsafe(no_mangle)]
-pub extern "C" fn senna_write_fetch(
+pub fn senna_write_fetch(
     out: &mut [u8],
     to: u8,
     owner: u8,
@@ -47,8 +45,7 @@ pub extern "C" fn senna_write_fetch(
     letters::write_fetch(out, to, owner, serial, stamp, object, mode)
 }
 
-#[unsafe(no_mangle)]
-pub extern "C" fn senna_write_copy(
+pub fn senna_write_copy(
     out: &mut [u8],
     from: u8,
     owner: u8,
@@ -62,8 +59,7 @@ pub extern "C" fn senna_write_copy(
     letters::write_copy(out, from, owner, serial, stamp, entry)
 }
 
-#[unsafe(no_mangle)]
-pub extern "C" fn senna_write_ask(
+pub fn senna_write_ask(
     out: &mut [u8],
     to: u8,
     owner: u8,
@@ -78,8 +74,7 @@ pub extern "C" fn senna_write_ask(
     letters::write_ask(out, to, owner, serial, stamp, list, entries.count as usize)
 }
 
-#[unsafe(no_mangle)]
-pub extern "C" fn senna_write_vote(
+pub fn senna_write_vote(
     out: &mut [u8],
     from: u8,
     owner: u8,
@@ -95,8 +90,7 @@ pub extern "C" fn senna_write_vote(
     letters::write_vote(out, from, owner, serial, stamp, serials, word)
 }
 
-#[unsafe(no_mangle)]
-pub extern "C" fn senna_write_outcome(
+pub fn senna_write_outcome(
     out: &mut [u8],
     to: u8,
     owner: u8,
@@ -121,22 +115,14 @@ pub extern "C" fn senna_write_outcome(
     )
 }
 
-#[unsafe(no_mangle)]
-pub extern "C" fn senna_write_done(
-    out: &mut [u8],
-    from: u8,
-    owner: u8,
-    serial: u32,
-    stamp: u32,
-) -> Written
+pub fn senna_write_done(out: &mut [u8], from: u8, owner: u8, serial: u32, stamp: u32) -> Written
     ensures value { result ≡ written_of (length out.old) (done_of from owner serial stamp) }
     ensures out_after { out.new ≡ buffer_after (done_of from owner serial stamp) out.old }
 {
     letters::write_done(out, from, owner, serial, stamp)
 }
 
-#[unsafe(no_mangle)]
-pub extern "C" fn senna_write_yield(
+pub fn senna_write_yield(
     out: &mut [u8],
     owner: u8,
     serial: u32,

@@ -30,16 +30,14 @@ pub struct Value {
 }
 
 // The number of a record. Ruled out: 2 for bytes of another length; 0 for a record that breaks a clause.
-#[unsafe(no_mangle)]
-pub extern "C" fn senna_check_record(bytes: &[u8]) -> u8
+pub fn senna_check_record(bytes: &[u8]) -> u8
     ensures { result ≡ check bytes.now }
 {
     record::check(bytes)
 }
 
 // Makes a record blank. Ruled out: a byte of a buffer of another length altered; a serial kept.
-#[unsafe(no_mangle)]
-pub extern "C" fn senna_blank_record(bytes: &mut [u8]) -> u8
+pub fn senna_blank_record(bytes: &mut [u8]) -> u8
     ensures value { result ≡ blank_number bytes.old }
     ensures bytes_after { bytes.new ≡ blank_after bytes.old }
 {
@@ -58,8 +56,7 @@ fn wrong_length() -> Called
 
 // Begins a transaction of the host's own on a day, at a minute; answers the chosen read quorum. Ruled out: 10 for distances of 25 bytes; 13 where the record
 // is busy.
-#[unsafe(no_mangle)]
-pub extern "C" fn senna_coordinator_begin(
+pub fn senna_coordinator_begin(
     bytes: &mut [u8],
     settings: &mut [u8],
     me: u8,
@@ -90,8 +87,7 @@ pub extern "C" fn senna_coordinator_begin(
 
 // Begins a batch of weights on a day, at a minute; answers the chosen read quorum. Ruled out: 2 for distances of 25 bytes beside damaged settings; a batch
 // kept as the host's own.
-#[unsafe(no_mangle)]
-pub extern "C" fn senna_coordinator_batch(
+pub fn senna_coordinator_batch(
     bytes: &mut [u8],
     settings: &mut [u8],
     me: u8,
@@ -122,13 +118,7 @@ pub extern "C" fn senna_coordinator_batch(
 }
 
 // Takes a fresh live mask and distances; answers the chosen read quorum. Ruled out: 8 for distances of 25 bytes; the old quorum answered.
-#[unsafe(no_mangle)]
-pub extern "C" fn senna_coordinator_reselect(
-    bytes: &mut [u8],
-    me: u8,
-    live: u16,
-    distances: &[u8],
-) -> Called
+pub fn senna_coordinator_reselect(bytes: &mut [u8], me: u8, live: u16, distances: &[u8]) -> Called
     ensures value { result ≡ answer_with distances.now (reselect_step me live distances.now) bytes.old }
     ensures bytes_after { bytes.new ≡ bytes_with distances.now (reselect_step me live distances.now) bytes.old }
 {
@@ -140,13 +130,7 @@ pub extern "C" fn senna_coordinator_reselect(
 }
 
 // Opens an object to read it. Ruled out: an object opened on a batch; a damaged record taken.
-#[unsafe(no_mangle)]
-pub extern "C" fn senna_coordinator_open_read(
-    bytes: &mut [u8],
-    settings: &[u8],
-    me: u8,
-    object: u8,
-) -> Called
+pub fn senna_coordinator_open_read(bytes: &mut [u8], settings: &[u8], me: u8, object: u8) -> Called
     ensures value { result ≡ front_told bytes.old settings.now me (edit (reads object)) }
     ensures bytes_after { bytes.new ≡ front_record bytes.old settings.now me (edit (reads object)) }
 {
@@ -154,13 +138,7 @@ pub extern "C" fn senna_coordinator_open_read(
 }
 
 // Opens an object to write it. Ruled out: an open to read; a ninth object taken.
-#[unsafe(no_mangle)]
-pub extern "C" fn senna_coordinator_open_write(
-    bytes: &mut [u8],
-    settings: &[u8],
-    me: u8,
-    object: u8,
-) -> Called
+pub fn senna_coordinator_open_write(bytes: &mut [u8], settings: &[u8], me: u8, object: u8) -> Called
     ensures value { result ≡ front_told bytes.old settings.now me (edit (writes object)) }
     ensures bytes_after { bytes.new ≡ front_record bytes.old settings.now me (edit (writes object)) }
 {
@@ -168,8 +146,7 @@ pub extern "C" fn senna_coordinator_open_write(
 }
 
 // Gives a written object its new value. Ruled out: the value with its sign lost; a batch's grams overwritten.
-#[unsafe(no_mangle)]
-pub extern "C" fn senna_coordinator_set_value(
+pub fn senna_coordinator_set_value(
     bytes: &mut [u8],
     settings: &[u8],
     me: u8,
@@ -183,12 +160,7 @@ pub extern "C" fn senna_coordinator_set_value(
 }
 
 // Asks for votes; answers the participants, or aborted beside 9 where a batch is given up. Ruled out: 8 before 11; a sum that wraps.
-#[unsafe(no_mangle)]
-pub extern "C" fn senna_coordinator_request_commit(
-    bytes: &mut [u8],
-    settings: &[u8],
-    me: u8,
-) -> Called
+pub fn senna_coordinator_request_commit(bytes: &mut [u8], settings: &[u8], me: u8) -> Called
     ensures value { result ≡ front_told bytes.old settings.now me request }
     ensures bytes_after { bytes.new ≡ front_record bytes.old settings.now me request }
 {
@@ -196,8 +168,7 @@ pub extern "C" fn senna_coordinator_request_commit(
 }
 
 // Gives the transaction up. Ruled out: a finishing one aborted; a damaged record taken.
-#[unsafe(no_mangle)]
-pub extern "C" fn senna_coordinator_abort(bytes: &mut [u8], me: u8) -> Called
+pub fn senna_coordinator_abort(bytes: &mut [u8], me: u8) -> Called
     ensures value { result ≡ called_of (λ (c : Coordinator). abort_of c me) bytes.old }
     ensures bytes_after { bytes.new ≡ record_after (λ (c : Coordinator). abort_of c me) bytes.old }
 {
@@ -205,8 +176,7 @@ pub extern "C" fn senna_coordinator_abort(bytes: &mut [u8], me: u8) -> Called
 }
 
 // Delivers a message; answers what it brought about. Ruled out: commit by a majority; 2 for a damaged record and a message of 14 bytes.
-#[unsafe(no_mangle)]
-pub extern "C" fn senna_coordinator_receive(bytes: &mut [u8], me: u8, message: &[u8]) -> Called
+pub fn senna_coordinator_receive(bytes: &mut [u8], me: u8, message: &[u8]) -> Called
     ensures value { result ≡ received_of me message.now bytes.old }
     ensures bytes_after { bytes.new ≡ record_after (λ (c : Coordinator). receive_of tree c me message.now) bytes.old }
 {
@@ -214,8 +184,7 @@ pub extern "C" fn senna_coordinator_receive(bytes: &mut [u8], me: u8, message: &
 }
 
 // Answers the value found for a ready object. Ruled out: the new value; a value with its sign lost.
-#[unsafe(no_mangle)]
-pub extern "C" fn senna_coordinator_found(bytes: &mut [u8], me: u8, object: u8) -> Value
+pub fn senna_coordinator_found(bytes: &mut [u8], me: u8, object: u8) -> Value
     ensures value { result ≡ value_of (called_of (λ (c : Coordinator). found_of tree c me object) bytes.old) }
     ensures bytes_after { bytes.new ≡ record_after (λ (c : Coordinator). found_of tree c me object) bytes.old }
 {
@@ -227,14 +196,7 @@ pub extern "C" fn senna_coordinator_found(bytes: &mut [u8], me: u8, object: u8) 
 }
 
 // Writes what is due to a node. Ruled out: 2 before 1 for a short buffer; a buffer altered where nothing is due.
-#[unsafe(no_mangle)]
-pub extern "C" fn senna_coordinator_due(
-    bytes: &[u8],
-    me: u8,
-    node: u8,
-    object: u8,
-    out: &mut [u8],
-) -> Written
+pub fn senna_coordinator_due(bytes: &[u8], me: u8, node: u8, object: u8, out: &mut [u8]) -> Written
     ensures value { result ≡ record_due bytes.now me node object (length out.old) }
     ensures out_after { out.new ≡ record_due_buffer bytes.now me node object out.old }
 {
@@ -242,72 +204,62 @@ pub extern "C" fn senna_coordinator_due(
 }
 
 // What a record says; zeros for bytes that are no record. Each rules out, among others: the field beside it; a damaged record's own bytes.
-#[unsafe(no_mangle)]
-pub extern "C" fn senna_coordinator_phase(bytes: &[u8]) -> u8
+pub fn senna_coordinator_phase(bytes: &[u8]) -> u8
     ensures { result ≡ (shown bytes.now).phase }
 {
     record::phase(bytes)
 }
 
-#[unsafe(no_mangle)]
-pub extern "C" fn senna_coordinator_serial(bytes: &[u8]) -> u32
+pub fn senna_coordinator_serial(bytes: &[u8]) -> u32
     ensures { result ≡ (shown bytes.now).serial }
 {
     record::serial(bytes)
 }
 
-#[unsafe(no_mangle)]
-pub extern "C" fn senna_coordinator_timestamp(bytes: &[u8]) -> u32
+pub fn senna_coordinator_timestamp(bytes: &[u8]) -> u32
     ensures { result ≡ (shown bytes.now).timestamp }
 {
     record::timestamp(bytes)
 }
 
-#[unsafe(no_mangle)]
-pub extern "C" fn senna_coordinator_outcome(bytes: &[u8]) -> u8
+pub fn senna_coordinator_outcome(bytes: &[u8]) -> u8
     ensures { result ≡ (shown bytes.now).outcome }
 {
     record::outcome(bytes)
 }
 
-#[unsafe(no_mangle)]
-pub extern "C" fn senna_coordinator_participants(bytes: &[u8]) -> u16
+pub fn senna_coordinator_participants(bytes: &[u8]) -> u16
     ensures { result ≡ (shown bytes.now).participants }
 {
     record::participants(bytes)
 }
 
-#[unsafe(no_mangle)]
-pub extern "C" fn senna_coordinator_count(bytes: &[u8]) -> usize
+pub fn senna_coordinator_count(bytes: &[u8]) -> usize
     ensures { result ≡ (shown bytes.now).count }
 {
     record::count(bytes)
 }
 
-#[unsafe(no_mangle)]
-pub extern "C" fn senna_coordinator_object(bytes: &[u8], i: u8) -> u8
+pub fn senna_coordinator_object(bytes: &[u8], i: u8) -> u8
     ensures { result ≡ (get_or (shown bytes.now).objects i no_object).object }
 {
     record::object(bytes, i)
 }
 
-#[unsafe(no_mangle)]
-pub extern "C" fn senna_coordinator_mode(bytes: &[u8], i: u8) -> u8
+pub fn senna_coordinator_mode(bytes: &[u8], i: u8) -> u8
     ensures { result ≡ (get_or (shown bytes.now).objects i no_object).mode }
 {
     record::mode(bytes, i)
 }
 
-#[unsafe(no_mangle)]
-pub extern "C" fn senna_coordinator_is_ready(bytes: &[u8], i: u8) -> u8
+pub fn senna_coordinator_is_ready(bytes: &[u8], i: u8) -> u8
     ensures { result ≡ cond (ready tree (get_or (shown bytes.now).objects i no_object)) 1 0 }
 {
     if record::is_ready(bytes, i) { 1 } else { 0 }
 }
 
 // The tenths that wait in a class. Ruled out: those that a batch leaves over before it is committed; 0 for a class that the table does not have.
-#[unsafe(no_mangle)]
-pub extern "C" fn senna_coordinator_waiting(bytes: &[u8], settings: &[u8], class: u8) -> Called
+pub fn senna_coordinator_waiting(bytes: &[u8], settings: &[u8], class: u8) -> Called
     ensures { result ≡ waiting_of bytes.now settings.now class }
 {
     frontend::waiting(bytes, settings, class)

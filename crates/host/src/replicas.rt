@@ -6,8 +6,7 @@ ghost use Rattle.replica.specs.Receive.{deliver, received_of, buffer_of, spoken}
 use replica::Received;
 
 // Delivers one message to the replica of node `me`. Ruled out: yes to an object that another holds; an image altered by a refused message.
-#[unsafe(no_mangle)]
-pub extern "C" fn senna_replica_receive(
+pub fn senna_replica_receive(
     image: &mut [u8],
     me: u8,
     message: &[u8],
@@ -21,8 +20,7 @@ pub extern "C" fn senna_replica_receive(
 }
 
 // Whether a delivery will have an answer: 1 or 0. Ruled out: 1 for a refused delivery; 0 for a late outcome.
-#[unsafe(no_mangle)]
-pub extern "C" fn senna_replica_answers(image: &[u8], me: u8, message: &[u8]) -> u8
+pub fn senna_replica_answers(image: &[u8], me: u8, message: &[u8]) -> u8
     ensures { result ≡ cond (spoken (deliver longest_message image.now me message.now).answer) 1 0 }
 {
     if replica::answers(image, me, message) {

@@ -32,8 +32,7 @@ pub struct Waiting {
 
 // Makes a blank station whose nodes of a mask are on, with nothing loaded. Ruled out: a message that still waits; a byte altered where one buffer is
 // too short.
-#[unsafe(no_mangle)]
-pub extern "C" fn senna_station_blank(
+pub fn senna_station_blank(
     images: &mut [u8],
     records: &mut [u8],
     pool: &mut [u8],
@@ -100,8 +99,7 @@ fn ask_object(act: Act, object: u8, value: u64) -> Ask
 
 // Begins a transaction of the host's own at a node, on a day, at a minute; answers the chosen read quorum. Ruled out: 10 for distances of 25 bytes; a begin
 // by another node's hours.
-#[unsafe(no_mangle)]
-pub extern "C" fn senna_station_begin(
+pub fn senna_station_begin(
     records: &mut [u8],
     own: &[u8],
     settings: &mut [u8],
@@ -130,8 +128,7 @@ pub extern "C" fn senna_station_begin(
 
 // Begins a batch of weights at a node, on a day, at a minute; answers the chosen read quorum. Ruled out: a batch by another node's classes; 13 at a node that
 // is off.
-#[unsafe(no_mangle)]
-pub extern "C" fn senna_station_batch(
+pub fn senna_station_batch(
     records: &mut [u8],
     own: &[u8],
     settings: &mut [u8],
@@ -160,13 +157,7 @@ pub extern "C" fn senna_station_batch(
 }
 
 // Loads a table of packing hours for a node, in any phase. Ruled out: another node's hours replaced; a faulty table that takes the old one's place.
-#[unsafe(no_mangle)]
-pub extern "C" fn senna_station_load_hours(
-    own: &[u8],
-    settings: &mut [u8],
-    node: u8,
-    list: &[u8],
-) -> Answer
+pub fn senna_station_load_hours(own: &[u8], settings: &mut [u8], node: u8, list: &[u8]) -> Answer
     ensures value { result ≡ load_told (lent [] [] [] own.now settings.old) node list.now }
     ensures settings_after { settings.new ≡ load_settings (lent [] [] [] own.now settings.old) node list.now }
 {
@@ -175,8 +166,7 @@ pub extern "C" fn senna_station_load_hours(
 
 // Loads a table of classes for a node; none waits there after it. Ruled out: a table loaded while the node's transaction is open; another node's classes
 // replaced.
-#[unsafe(no_mangle)]
-pub extern "C" fn senna_station_load_classes(
+pub fn senna_station_load_classes(
     records: &mut [u8],
     own: &[u8],
     settings: &mut [u8],
@@ -201,8 +191,7 @@ pub extern "C" fn senna_station_load_classes(
 }
 
 // Opens an object to read it. Ruled out: an object opened on a batch; a byte of another node's record altered.
-#[unsafe(no_mangle)]
-pub extern "C" fn senna_station_open_read(
+pub fn senna_station_open_read(
     records: &mut [u8],
     own: &[u8],
     settings: &mut [u8],
@@ -227,8 +216,7 @@ pub extern "C" fn senna_station_open_read(
 }
 
 // Opens an object to write it. Ruled out: an open to read; 5 for a node above 12.
-#[unsafe(no_mangle)]
-pub extern "C" fn senna_station_open_write(
+pub fn senna_station_open_write(
     records: &mut [u8],
     own: &[u8],
     settings: &mut [u8],
@@ -253,8 +241,7 @@ pub extern "C" fn senna_station_open_write(
 }
 
 // Gives a written object its new value. Ruled out: the value with its sign lost; a value set at a node that is off.
-#[unsafe(no_mangle)]
-pub extern "C" fn senna_station_set_value(
+pub fn senna_station_set_value(
     records: &mut [u8],
     own: &[u8],
     settings: &mut [u8],
@@ -275,8 +262,7 @@ pub extern "C" fn senna_station_set_value(
 }
 
 // Answers the value found for a ready object. Ruled out: the new value; a value with its sign lost.
-#[unsafe(no_mangle)]
-pub extern "C" fn senna_station_found(records: &mut [u8], own: &[u8], node: u8, object: u8) -> Value
+pub fn senna_station_found(records: &mut [u8], own: &[u8], node: u8, object: u8) -> Value
     ensures value { result ≡ value_of (host_told (ends records.old own.now) node (found node object)) }
     ensures records_after { records.new ≡ host_records (ends records.old own.now) node (found node object) }
 {
@@ -288,8 +274,7 @@ pub extern "C" fn senna_station_found(records: &mut [u8], own: &[u8], node: u8, 
 }
 
 // Takes a fresh live mask and distances; answers the chosen read quorum. Ruled out: 8 for distances of 25 bytes; the old quorum answered.
-#[unsafe(no_mangle)]
-pub extern "C" fn senna_station_reselect(
+pub fn senna_station_reselect(
     records: &mut [u8],
     own: &[u8],
     node: u8,
@@ -307,8 +292,7 @@ pub extern "C" fn senna_station_reselect(
 }
 
 // Asks for votes; answers the participants, or aborted beside 9 where a batch is given up. Ruled out: 8 before 11; a batch given up at a node that is off.
-#[unsafe(no_mangle)]
-pub extern "C" fn senna_station_request_commit(
+pub fn senna_station_request_commit(
     records: &mut [u8],
     own: &[u8],
     settings: &mut [u8],
@@ -332,8 +316,7 @@ pub extern "C" fn senna_station_request_commit(
 }
 
 // Gives the transaction up. Ruled out: a finishing one aborted; 0 at a node that is off.
-#[unsafe(no_mangle)]
-pub extern "C" fn senna_station_abort(records: &mut [u8], own: &[u8], node: u8) -> Answer
+pub fn senna_station_abort(records: &mut [u8], own: &[u8], node: u8) -> Answer
     ensures value { result ≡ host_told (ends records.old own.now) node (abort node) }
     ensures records_after { records.new ≡ host_records (ends records.old own.now) node (abort node) }
 {
@@ -341,8 +324,7 @@ pub extern "C" fn senna_station_abort(records: &mut [u8], own: &[u8], node: u8) 
 }
 
 // Sends what is due to a node. Ruled out: a message put at the pool's front; a message where nothing is due.
-#[unsafe(no_mangle)]
-pub extern "C" fn senna_station_send(
+pub fn senna_station_send(
     records: &[u8],
     pool: &mut [u8],
     own: &[u8],
@@ -358,8 +340,7 @@ pub extern "C" fn senna_station_send(
 
 // Delivers the k-th message; 0 for `kept` removes it, any other number keeps it waiting. Answers what it brought about at a coordinator.
 // Ruled out: the neighbour's image changed; an answer from a node that is off.
-#[unsafe(no_mangle)]
-pub extern "C" fn senna_station_deliver(
+pub fn senna_station_deliver(
     images: &mut [u8],
     records: &mut [u8],
     pool: &mut [u8],
@@ -378,8 +359,7 @@ pub extern "C" fn senna_station_deliver(
 }
 
 // Drops the k-th message. Ruled out: another message dropped; 0 where none waits.
-#[unsafe(no_mangle)]
-pub extern "C" fn senna_station_drop(pool: &mut [u8], k: u8) -> Answer
+pub fn senna_station_drop(pool: &mut [u8], k: u8) -> Answer
     ensures value { result ≡ drop_told (dropping pool.old) k }
     ensures pool_after { pool.new ≡ drop_pool (dropping pool.old) k }
 {
@@ -387,8 +367,7 @@ pub extern "C" fn senna_station_drop(pool: &mut [u8], k: u8) -> Answer
 }
 
 // Switches a node: 0 off, any other number on. Ruled out: a repeated switch turns it back; another node is switched.
-#[unsafe(no_mangle)]
-pub extern "C" fn senna_station_switch(own: &mut [u8], node: u8, up: u8) -> Answer
+pub fn senna_station_switch(own: &mut [u8], node: u8, up: u8) -> Answer
     ensures value { result ≡ switch_told (switching own.old) node (yes up) }
     ensures own_after { own.new ≡ switch_own (switching own.old) node (yes up) }
 {
@@ -396,8 +375,7 @@ pub extern "C" fn senna_station_switch(own: &mut [u8], node: u8, up: u8) -> Answ
 }
 
 // How many messages wait; 0 for bytes that are no pool. Ruled out: one more than wait; the count byte of a damaged pool.
-#[unsafe(no_mangle)]
-pub extern "C" fn senna_station_waiting(pool: &[u8]) -> usize
+pub fn senna_station_waiting(pool: &[u8]) -> usize
     ensures { result ≡ waiting_in pool.now }
 {
     if pool::check(pool) == 0 {
@@ -419,8 +397,7 @@ fn not_there(number: u8) -> Waiting
 }
 
 // Where the k-th message stands, and its length. Ruled out: the place of its length; the length of the message behind it.
-#[unsafe(no_mangle)]
-pub extern "C" fn senna_station_message(pool: &[u8], k: u8) -> Waiting
+pub fn senna_station_message(pool: &[u8], k: u8) -> Waiting
     ensures { result ≡ waiting_at pool.now k }
 {
     let number = pool::check(pool);

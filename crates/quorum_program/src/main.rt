@@ -1,9 +1,13 @@
 // The quorum program: reads lines of a live mask, thirteen distances and, if given, the asker, and writes the nearest read and write quorum of each.
-// It moves bytes only: what is written for what is read is `quorum_lines`, which is proved.
+// It moves bytes only: what is written for what is read is `quorum_lines`, which is proved. A read or a write that fails ends it with its error.
 #![tactic(auto)]
 
-use libc::{STDIN_FILENO, STDOUT_FILENO};
 use quorum_lines::Line;
+use std::io;
+use std::io::{Read, Stdin, Stdout, Write};
+
+// How many bytes are read at once, and written at once.
+const PIECE: usize = 65536;
 
 // The line that is being read, and whether to go on.
 #[derive(Clone, Copy)]
@@ -12,54 +16,59 @@ struct Went {
     on: bool,
 }
 
-// Writes the replies to one piece of the input, and stops where nothing more can be written.
-fn answer(line: Line, input: &[u8], out: &mut [u8]) -> Went {
+// Writes the replies to one piece of the input, and stops where no reply fits into the buffer.
+fn answer(line: Line, input: &[u8], to: &mut Stdout, out: &mut [u8]) -> io::Result<Went> {
     let mut l = line;
     let mut from = 0;
     while from < input.len() {
         let fed = quorum_lines::feed(l, &input[from..], out);
-        let written = fed.written;
-        if fed.used == 0 || !io::write_all(STDOUT_FILENO, &out[..written]) {
-            return Went { line: l, on: false };
+        if fed.used == 0 {
+            return Ok(Went { line: l, on: false });
         }
+        to.write_all(&out[..fed.written])?;
         l = fed.line;
         from += fed.used;
     }
-    Went { line: l, on: true }
+    Ok(Went { line: l, on: true })
 }
 
 // Reads once, and answers what came; the input ends where nothing came.
-fn turn(line: Line, input: &mut [u8], out: &mut [u8]) -> Went {
-    let got = libc::read(STDIN_FILENO, input);
-    let n = io::count(got, input);
+fn turn(
+    line: Line,
+    from: &mut Stdin,
+    input: &mut [u8],
+    to: &mut Stdout,
+    out: &mut [u8],
+) -> io::Result<Went> {
+    let n = from.read(input)?;
     if n == 0 {
-        return Went { line, on: false };
+        return Ok(Went { line, on: false });
     }
-    answer(line, &input[..n], out)
+    answer(line, &input[..n], to, out)
 }
 
-// Reads until the input ends. A proved loop has to end, and nothing says that the input does: so the loop counts its turns
-// down, from a number that no run uses up.
-fn all(input: &mut [u8], out: &mut [u8]) -> Line {
+// Reads until the input ends. A proved loop has to end, and nothing says that the input does: so the loop counts its turns,
+// up to a number that no run comes to.
+fn all(from: &mut Stdin, input: &mut [u8], to: &mut Stdout, out: &mut [u8]) -> io::Result<Line> {
     let mut l = quorum_lines::fresh();
-    let mut turns = u64::MAX;
-    while turns > 0 {
-        let went = turn(l, input, out);
+    for _ in 0..u64::MAX {
+        let went = turn(l, from, input, to, out)?;
         l = went.line;
         if !went.on {
-            return l;
+            break;
         }
-        turns -= 1;
     }
-    l
+    Ok(l)
 }
 
-fn main() {
-    let mut input = io::large_buffer();
-    let mut out = io::large_buffer();
+fn main(rt: HostRuntime) -> io::Result<()> {
+    let mut from = rt.stdin();
+    let mut to = rt.stdout();
+    let mut input = [0u8; PIECE];
+    let mut out = [0u8; PIECE];
     let n = quorum_lines::header(&mut out);
-    io::write_all(STDOUT_FILENO, &out[..n]);
-    let line = all(&mut input, &mut out);
+    to.write_all(&out[..n])?;
+    let line = all(&mut from, &mut input, &mut to, &mut out)?;
     let m = quorum_lines::finish(line, &mut out);
-    io::write_all(STDOUT_FILENO, &out[..m]);
+    to.write_all(&out[..m])
 }

@@ -1,9 +1,11 @@
 // The station program: reads scenarios as text, and writes what their steps answered and how each scenario ends.
-// It moves bytes only: what is done and written for what is read is `scenario`.
+// It moves bytes only: what is done and written for what is read is `scenario`. A read or a write that fails ends it with its error.
 #![tactic(auto)]
-use libc::{STDIN_FILENO, STDOUT_FILENO};
+
 use numbers::EVERY_NODE;
 use reading::Reader;
+use std::io;
+use std::io::{Read, Stdin, Stdout, Write};
 
 // How many bytes are written at once: room for the longest end of a scenario, 22,366 bytes, and for the line behind it.
 const OUT: usize = 32768;
@@ -15,46 +17,29 @@ struct Went {
     on: bool,
 }
 
-// Writes the front of the buffer.
-fn put(out: &[u8], n: usize) -> bool {
+// Writes the front of the buffer, and answers whether the buffer has so many bytes.
+fn put(to: &mut Stdout, out: &[u8], n: usize) -> io::Result<bool> {
     if out.len() < n {
-        return false;
+        return Ok(false);
     }
-    io::write_all(STDOUT_FILENO, &out[..n])
+    to.write_all(&out[..n])?;
+    Ok(true)
 }
 
-// A byte of the input, and whether one came.
-#[derive(Clone, Copy)]
-struct Got {
-    byte: u8,
-    came: bool,
-}
-
-fn get(input: &mut [u8]) -> Got {
-    let got = libc::read(STDIN_FILENO, input);
-    let n = io::count(got, input);
+// The next byte of the input, and none where it has ended.
+fn get(from: &mut Stdin) -> io::Result<Option<u8>> {
+    let mut input = [0u8; 1];
+    let n = from.read(&mut input)?;
     if n == 0 {
-        return Got {
-            byte: 0,
-            came: false,
-        };
+        return Ok(None);
     }
-    if input.len() == 0 {
-        return Got {
-            byte: 0,
-            came: false,
-        };
-    }
-    Got {
-        byte: input[0],
-        came: true,
-    }
+    Ok(Some(input[0]))
 }
 
 // Reads a byte, and writes what comes of it; the input ends where nothing came.
 fn turn(
     r: Reader,
-    input: &mut [u8],
+    from: &mut Stdin,
     images: &mut [u8],
     records: &mut [u8],
     pool: &mut [u8],
@@ -62,28 +47,31 @@ fn turn(
     settings: &mut [u8],
     list: &mut [u64],
     sheet: &mut [u64],
+    to: &mut Stdout,
     out: &mut [u8],
-) -> Went {
-    let got = get(input);
-    if !got.came {
-        return Went {
+) -> io::Result<Went> {
+    match get(from)? {
+        None => Ok(Went {
             reader: r,
             on: false,
-        };
+        }),
+        Some(byte) => {
+            let t = scenario::take(
+                r, byte, images, records, pool, own, settings, list, sheet, out,
+            );
+            let on = put(to, out, t.written)?;
+            Ok(Went {
+                reader: t.reader,
+                on,
+            })
+        }
     }
-    let t = scenario::take(
-        r, got.byte, images, records, pool, own, settings, list, sheet, out,
-    );
-    let written = t.written;
-    let next = t.reader;
-    let on = put(out, written);
-    Went { reader: next, on }
 }
 
-// Reads until the input ends. A proved loop has to end, and nothing says that the input does: so the loop counts its turns
-// down, from a number that no run uses up.
+// Reads until the input ends. A proved loop has to end, and nothing says that the input does: so the loop counts its turns,
+// up to a number that no run comes to.
 fn all(
-    input: &mut [u8],
+    from: &mut Stdin,
     images: &mut [u8],
     records: &mut [u8],
     pool: &mut [u8],
@@ -91,25 +79,25 @@ fn all(
     settings: &mut [u8],
     list: &mut [u64],
     sheet: &mut [u64],
+    to: &mut Stdout,
     out: &mut [u8],
-) -> Reader {
+) -> io::Result<Reader> {
     let mut r = reading::fresh();
-    let mut turns = u64::MAX;
-    while turns > 0 {
+    for _ in 0..u64::MAX {
         let went = turn(
-            r, input, images, records, pool, own, settings, list, sheet, out,
-        );
+            r, from, images, records, pool, own, settings, list, sheet, to, out,
+        )?;
         r = went.reader;
         if !went.on {
-            return r;
+            break;
         }
-        turns -= 1;
     }
-    r
+    Ok(r)
 }
 
-fn main() {
-    let mut input = [0u8; 1];
+fn main(rt: HostRuntime) -> io::Result<()> {
+    let mut from = rt.stdin();
+    let mut to = rt.stdout();
     let mut images = [0u8; buffers::IMAGES];
     let mut records = [0u8; buffers::RECORDS];
     let mut pool = [0u8; pool::SIZE];
@@ -128,7 +116,7 @@ fn main() {
     );
     replay::blank(&mut sheet);
     let r = all(
-        &mut input,
+        &mut from,
         &mut images,
         &mut records,
         &mut pool,
@@ -136,8 +124,9 @@ fn main() {
         &mut settings,
         &mut list,
         &mut sheet,
+        &mut to,
         &mut out,
-    );
+    )?;
     let n = scenario::finish(
         r,
         &mut images,
@@ -149,5 +138,6 @@ fn main() {
         &mut sheet,
         &mut out,
     );
-    put(&out, n);
+    put(&mut to, &out, n)?;
+    Ok(())
 }
