@@ -42,7 +42,8 @@ use Rattle.history.proofs.Sim.{tx}
 use Rattle.history.proofs.Host.{SameTold}
 use Rattle.history.proofs.Spare.{is_begin, still_next}
 use Rattle.history.proofs.Claimed.{always_good, always_counts, typed_suffix}
-use Rattle.service.specs.Service.{Service, Call, front, load_hours, plain, is_front, is_on, plan_at, step_at, steps_at, load_number, number_of, made, settings_of}
+use Rattle.service.specs.Service.{Service, Call, front, load_hours, plain, is_front, is_on, plan_at, step_at, steps_at, load_number, number_of, made}
+use Rattle.service.specs.Service.{settings_of}
 use Rattle.service.proofs.Laws.{put_else, after_at, after_append}
 use Rattle.service.proofs.Laws.{put_here as Table-Here}
 use Rattle.accounts.specs.Accounts.{Origin, Effect, sets, adds, reached, expand, told, effects, begun_effect}

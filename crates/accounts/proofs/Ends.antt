@@ -23,7 +23,8 @@ use Rattle.coordinator.specs.declared.Step.{Step as Made}
 use Rattle.coordinator.specs.System.{System}
 use Rattle.coordinator.specs.State.{idle_phase, open_phase, finishing_phase, committed, aborted, idle_after, step_of}
 use Rattle.coordinator.specs.Calls.{no_node, begin_refusals, begun, begin_of, open_refusals, opened, open_of, set_refusals, with_new, set_of, found_of}
-use Rattle.coordinator.specs.Calls.{reselect_refusals, reselected, reselect_of, request_commit_refusals, requested, request_commit_of, abort_refusals, abort_of}
+use Rattle.coordinator.specs.Calls.{reselect_refusals, reselected, reselect_of, request_commit_refusals, requested, request_commit_of, abort_refusals}
+use Rattle.coordinator.specs.Calls.{abort_of}
 use Rattle.coordinator.proofs.Theorems.{found_leaves}
 use Rattle.arrivals.specs.Receive.{for_replica, receive_of}
 use Rattle.clauses.proofs.Cases.{OpenOrVoting, step_keeps, Endings, abort_cases}
@@ -32,7 +33,8 @@ use Rattle.due.specs.Kind.{due_kind}
 use Rattle.due.specs.Due.{message_due}
 use Rattle.steps.specs.Station.{Station, system, put_at}
 use Rattle.steps.specs.Step.{Call as Step, begin, open_read, open_write, set_value, found, reselect, request_commit, abort, send, delivery, drop, switch}
-use Rattle.steps.specs.Step.{Outcome, step, refused_with, taken, putting, full, send_number, hosted, answered, at_replica, at_coordinator, arriving, delivery_of}
+use Rattle.steps.specs.Step.{Outcome, step, refused_with, taken, putting, full, send_number, hosted, answered, at_replica, at_coordinator, arriving}
+use Rattle.steps.specs.Step.{delivery_of}
 use Rattle.steps.specs.Step.{drop_of, switch_of, send_of}
 use Rattle.protocol.proofs.Tables.{on}
 use Rattle.history.proofs.Tests.{no_both}

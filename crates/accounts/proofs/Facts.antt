@@ -30,7 +30,8 @@ use Rattle.steps.proofs.Nodes.{off_number_lem}
 use Rattle.settings.specs.Settings.{settings_size, hours_in, classes_in, own_kind, batch_kind, settled_as, no_tenths, loaded}
 use Rattle.settings.specs.Settings.{adds as kindAdds}
 use Rattle.settings.proofs.Sound.{settled_kind}
-use Rattle.frontend.specs.Plan.{Call, begin, batch, edit, request, load_classes, out_of_turn_after, barred, begin_number, batch_number, classes_number, off_number}
+use Rattle.frontend.specs.Plan.{Call, begin, batch, edit, request, load_classes, out_of_turn_after, barred, begin_number, batch_number, classes_number}
+use Rattle.frontend.specs.Plan.{off_number}
 use Rattle.history.proofs.Tests.{not-false}
 
 -- ---- the kind

@@ -373,60 +373,62 @@ module _ (o : Origin) (r : Rested o) where
           (same_before b p a g sets))))
           (λ q. refused_stands m b cs k _ q)
 
-      module _ (w : BeginWith) (day minute : ℕ) (list : List ℕ) (fits : FrontTyped m (batch w day minute list)) (accepted : (begin_of y d m w).number ≡ 0) where
-        abbrev weighing : Front
-        weighing = batch w day minute list
+      module _ (w : BeginWith) (day minute : ℕ) (list : List ℕ) (fits : FrontTyped m (batch w day minute list)) (accepted : (begin_of y d m w).number ≡ 0)
+        where
+          abbrev weighing : Front
+          weighing = batch w day minute list
 
-        abbrev kept : List ℕ
-        kept = classes_in now
+          abbrev kept : List ℕ
+          kept = classes_in now
 
-        abbrev waiting : List ℕ
-        waiting = tenths d now
+          abbrev waiting : List ℕ
+          waiting = tenths d now
 
-        abbrev over : List ℕ
-        over = settled_as batch_kind (left_of (classes_in now) (tenths d now) list) d now
+          abbrev over : List ℕ
+          over = settled_as batch_kind (left_of (classes_in now) (tenths d now) list) d now
 
-        abbrev batched : Plan
-        batched = record { number = 0; answer = (begin_of y d m w).answer; deeds = adding (booked d now list) (begins w ∷ []); settings = over }
+          abbrev batched : Plan
+          batched = record { number = 0; answer = (begin_of y d m w).answer; deeds = adding (booked d now list) (begins w ∷ []); settings = over }
 
-        fine : Sound now
-        fine = sound_parts now (settings_sound o r cs m)
+          fine : Sound now
+          fine = sound_parts now (settings_sound o r cs m)
 
-        module _ (a : AllStepsTyped (steps_at m batched.deeds ++ rest)) where
-          abbrev L₂ : Ledger
-          L₂ = machineTold o.machine (steps_at m batched.deeds ++ rest)
+          module _ (a : AllStepsTyped (steps_at m batched.deeds ++ rest)) where
+            abbrev L₂ : Ledger
+            L₂ = machineTold o.machine (steps_at m batched.deeds ++ rest)
 
-          -- what is told of its amounts are its grams
-          batch_told : (i : ℕ) → i < tally_count kept → L₂.new (current L₂ m) (get_or (tallies kept) i 0) ≡ grams_in kept waiting list i
-          batch_told i h =
-              let t = has_table kept i fine.classes h in
-              let b = accepted_bounded false kept t in
-              let n = length_tallies kept in
-              subst (ToldGrams o.machine r.machine m rest w (tallies kept) (grams_of kept waiting list)) (sym (same_machine o cs))
-              (told_grams o.machine r.machine m rest w (tallies kept) (grams_of kept waiting list) was a fits.1.0) up accepted
-              (table_tallies kept t) i (omega (arith, n, h))
-              ∙ grams_at kept waiting list i (omega (arith, h, b.few, b.tallied))
+            -- what is told of its amounts are its grams
+            batch_told : (i : ℕ) → i < tally_count kept → L₂.new (current L₂ m) (get_or (tallies kept) i 0) ≡ grams_in kept waiting list i
+            batch_told i h =
+                let t = has_table kept i fine.classes h in
+                let b = accepted_bounded false kept t in
+                let n = length_tallies kept in
+                subst (ToldGrams o.machine r.machine m rest w (tallies kept) (grams_of kept waiting list)) (sym (same_machine o cs))
+                (told_grams o.machine r.machine m rest w (tallies kept) (grams_of kept waiting list) was a fits.1.0) up accepted
+                (table_tallies kept t) i (omega (arith, n, h))
+                ∙ grams_at kept waiting list i (omega (arith, h, b.few, b.tallied))
 
-          abbrev E₂ : Tx → Effect
-          E₂ = put Tx-discrete (effects o cs) (current L₂ m) (adds (L₂.new (current L₂ m)))
+            abbrev E₂ : Tx → Effect
+            E₂ = put Tx-discrete (effects o cs) (current L₂ m) (adds (L₂.new (current L₂ m)))
 
-          pub batch_amounts : (i : ℕ) → i < tally_count kept → amount_of (E₂ (current L₂ m)) (get_or (tallies kept) i 0) ≡ grams_in kept waiting list i
-          batch_amounts i h =
-              ap (λ (e : Effect). amount_of e (get_or (tallies kept) i 0)) (row_here Tx-discrete (effects o cs) (current L₂ m) (adds (L₂.new (current L₂ m))))
-              ∙ batch_told i h
+            pub batch_amounts : (i : ℕ) → i < tally_count kept → amount_of (E₂ (current L₂ m)) (get_or (tallies kept) i 0) ≡ grams_in kept waiting list i
+            batch_amounts i h =
+                ap (λ (e : Effect). amount_of e (get_or (tallies kept) i 0))
+                (row_here Tx-discrete (effects o cs) (current L₂ m) (adds (L₂.new (current L₂ m))))
+                ∙ batch_told i h
 
-          batched_here : At m weighing cs k true batched m
-          batched_here =
-              let g = batch_serial y d m w (booked d now list) accepted in
-              let n = next weighing batched a g in
-              let e : tx m (K.serials m + 1) ≡ current L₂ m = ap (tx m) (sym n) in
-              subst (With m weighing cs k true batched m) (sym (put_here (since o cs) m (with_batch (since o cs m) (current L₂ m) list)))
-              (as_there weighing batched a g over E₂ (with_batch (since o cs m) (current L₂ m) list)
-              (subst (λ (x : Tx). Stands m (start m) ((after w₀.machine (steps_at m batched.deeds)).records m) over (K.serials m + 1) L₂.committed E₂
-              (with_batch (since o cs m) x list)) e
-              (stands_batch m (start m) d now (K.serials m) K.committed (effects o cs) (since o cs m) (k m) (now_law weighing batched a g)
-              (settings_long o r cs m) _ _ _ (same_before weighing batched a g (adds (L₂.new (current L₂ m)))) list fine.classes
-              (λ i h. ap (λ (x : Tx). amount_of (E₂ x) (get_or (tallies kept) i 0)) e ∙ batch_amounts i h))))
+            batched_here : At m weighing cs k true batched m
+            batched_here =
+                let g = batch_serial y d m w (booked d now list) accepted in
+                let n = next weighing batched a g in
+                let e : tx m (K.serials m + 1) ≡ current L₂ m = ap (tx m) (sym n) in
+                subst (With m weighing cs k true batched m) (sym (put_here (since o cs) m (with_batch (since o cs m) (current L₂ m) list)))
+                (as_there weighing batched a g over E₂ (with_batch (since o cs m) (current L₂ m) list)
+                (subst (λ (x : Tx). Stands m (start m) ((after w₀.machine (steps_at m batched.deeds)).records m) over (K.serials m + 1) L₂.committed E₂
+                (with_batch (since o cs m) x list)) e
+                (stands_batch m (start m) d now (K.serials m) K.committed (effects o cs) (since o cs m) (k m) (now_law weighing batched a g)
+                (settings_long o r cs m) _ _ _ (same_before weighing batched a g (adds (L₂.new (current L₂ m)))) list fine.classes
+                (λ i h. ap (λ (x : Tx). amount_of (E₂ x) (get_or (tallies kept) i 0)) e ∙ batch_amounts i h))))
 
       batch_stands : (w : BeginWith) (day minute : ℕ) (list : List ℕ) → FrontTyped m (batch w day minute list)
           → Next m (batch w day minute list) cs k true (plan y d now m (batch w day minute list))

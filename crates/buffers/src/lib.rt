@@ -1,6 +1,7 @@
 // The four lent buffers of a station (the images, the records, the pool, and which nodes are on): their sizes, the numbers of the buffers themselves,
 // and what a step answers. For the crates that take a station's steps.
 #![tactic(auto)]
+
 ghost use Rattle.std.specs.Prelude.{◌≡◌};
 ghost use Rattle.steps.specs.Step.{when_off};
 ghost use Rattle.buffers.specs.Buffers.{on_of, own_number, ends_first, answer_with};

@@ -92,7 +92,8 @@ unfolding class_of
 class_next l w j h = ap (λ (r : List ℕ). class_of r w) (drop-cons l j 0 h)
 
 pub class_seven : (l : List ℕ) (w : ℕ) → length l ≡ 7
-    → class_of l w ≡ reached_at l w 0 + (reached_at l w 1 + (reached_at l w 2 + (reached_at l w 3 + (reached_at l w 4 + (reached_at l w 5 + reached_at l w 6)))))
+    → class_of l w ≡ reached_at l w 0
+    + (reached_at l w 1 + (reached_at l w 2 + (reached_at l w 3 + (reached_at l w 4 + (reached_at l w 5 + reached_at l w 6)))))
 unfolding class_of
 class_seven l w e =
     let d : class_of (drop 7 l) w ≡ 0 = ap (λ (r : List ℕ). class_of r w) (drop_of_length-le l {i = 7} (omega (arith, e))) in

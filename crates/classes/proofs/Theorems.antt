@@ -20,7 +20,8 @@ use Rattle.wire.proofs.Accepted.{length_items}
 use Rattle.classes.specs.Classes.{most_bounds, most_classes, too_heavy, bound_count, tally_place, tally_count, bounds, tally_at}
 use Rattle.classes.specs.Classes.{tallies, strange, rising, unbounded, has, repeated, twice, length_number, table_number}
 use Rattle.classes.specs.Classes.{kept_size, no_table, sound, class_of}
-use Rattle.classes.specs.Weights.{most_weights, weight_count, weights, overweight, weighed, together, grams_in, left_in, count_up, tallies_of, grams_of, left_of}
+use Rattle.classes.specs.Weights.{most_weights, weight_count, weights, overweight, weighed, together, grams_in, left_in, count_up, tallies_of, grams_of}
+use Rattle.classes.specs.Weights.{left_of}
 use Rattle.classes.proofs.Laws.{length_up, up_at}
 use Rattle.classes.proofs.Table.{accepted_bounded, some_table, table_fits, neither, both_of}
 
@@ -118,7 +119,8 @@ length_tallies k = length_up (λ (i : ℕ). get_or (tallies k) i 0) most_classes
 
 pub tally_at_lem : (k : List ℕ) (i : ℕ) → i < most_classes → get_or (tallies_of k) i 0 ≡ get_or (tallies k) i 0
 unfolding tallies_of
-tally_at_lem k i h = up_at (λ (j : ℕ). get_or (tallies k) j 0) most_classes 0 i h ∙ ap (λ (j : ℕ). get_or (tallies k) j 0) (let z : 0 + i ≡ i = omega arith in z)
+tally_at_lem k i h = up_at (λ (j : ℕ). get_or (tallies k) j 0) most_classes 0 i h
+    ∙ ap (λ (j : ℕ). get_or (tallies k) j 0) (let z : 0 + i ≡ i = omega arith in z)
 
 module _ (k t l : List ℕ) where
   pub length_grams : length (grams_of k t l) ≡ most_classes
@@ -210,7 +212,8 @@ module _ (l : List ℕ) (long : length_number l ≡ 0) (fine : table_number fals
   pub stored_sound : sound (padded kept_size l) ≡ true
   unfolding sound
   stored_sound =
-      ap (λ (n : ℕ). no_table (padded kept_size l) || eqb n 0) (same_number (padded kept_size l) l reads false ∙ fine) ∙ or-true (no_table (padded kept_size l))
+      ap (λ (n : ℕ). no_table (padded kept_size l) || eqb n 0) (same_number (padded kept_size l) l reads false ∙ fine)
+      ∙ or-true (no_table (padded kept_size l))
 
 -- nothing kept is sound, and no table
 pub blank_sound : sound (replicate kept_size 0) ≡ true

@@ -308,7 +308,8 @@ module _ (s : System) (q : Quorums s) (c : Coordinator) (me : ℕ) (m : Meets s 
       (ltb-true c.count most_open (not-false (ltb c.count most_open) k.1.1.1.0)))
 
   -- set a value
-  set_meets : (object value : ℕ) → c.phase ≡ open_phase → place_of c object < most_open → ((object_at c object).mode ≡ 0 → ⊥) → Meets s (with_new c object value)
+  set_meets : (object value : ℕ) → c.phase ≡ open_phase → place_of c object < most_open → ((object_at c object).mode ≡ 0 → ⊥)
+      → Meets s (with_new c object value)
   unfolding with_new
   set_meets object value e h written =
       let x = object_at c object in

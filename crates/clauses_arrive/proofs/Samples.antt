@@ -18,7 +18,8 @@ use Rattle.coordinator.specs.System.{tree}
 use Rattle.coordinator.specs.State.{finishing_phase, committed, idle_after, blank_record, place_in, all_settled, any_used_up, step_of, no_object}
 use Rattle.coordinator.specs.Calls.{with_objects, with_phase, fresh, begin_of, begin_refusals, begun, open_of, open_refusals, opened, set_of, set_refusals}
 use Rattle.coordinator.specs.Calls.{with_new, request_commit_of, request_commit_refusals, requested, ended_aborted, abort_of, abort_refusals}
-use Rattle.arrivals.specs.Receive.{receive_of, receive_refusals, delivered, copy_taken, copy_fits, with_copy, raise_from, with_yes, vote_taken, with_done, done_taken}
+use Rattle.arrivals.specs.Receive.{receive_of, receive_refusals, delivered, copy_taken, copy_fits, with_copy, raise_from, with_yes, vote_taken, with_done}
+use Rattle.arrivals.specs.Receive.{done_taken}
 use Rattle.clauses.specs.Clauses.{zeros, object_meets, object_blank, objects_meet, sizes_meet, numbers_meet, no_nodes, nodes_meet, party_full, party_meets}
 use Rattle.clauses.specs.Clauses.{votes_meet, dones_meet, meets}
 
@@ -76,8 +77,10 @@ bad =
 pub samples : (map (λ (c : Coordinator). c.phase) good ≡ 0 ∷ 1 ∷ 1 ∷ 1 ∷ 2 ∷ 3 ∷ 0 ∷ 3 ∷ 3 ∷ [])
     × ((map (meets tree) good ≡ replicate 9 true) × (map (meets tree) bad ≡ replicate 4 false))
 unfolding encode together encode_entry le get check_of accepted decode items_from entry_at rival_at well_formed counts_ok entries_ok rivals_ok ascend entry_ok
-    is_quorum smallest idle_after place_in all_settled any_used_up step_of begin_of begin_refusals begun open_of open_refusals opened set_of set_refusals with_new
-    request_commit_of request_commit_refusals requested ended_aborted abort_of abort_refusals receive_of receive_refusals delivered copy_taken copy_fits with_copy
+    is_quorum smallest idle_after place_in all_settled any_used_up step_of begin_of begin_refusals begun open_of open_refusals opened set_of set_refusals
+    with_new
+    request_commit_of request_commit_refusals requested ended_aborted abort_of abort_refusals receive_of receive_refusals delivered copy_taken copy_fits
+    with_copy
     raise_from with_yes vote_taken with_done done_taken zeros object_meets object_blank objects_meet sizes_meet numbers_meet no_nodes nodes_meet party_full
     party_meets votes_meet dones_meet meets
 samples = (refl, (refl, refl))

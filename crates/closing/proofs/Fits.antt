@@ -132,7 +132,8 @@ node_long bytes settings n h = by (eqb (waiting_of bytes settings 0).number 0)
         let f = long_append one two in
         let p = number_as waiting_text n in
         let short : length (decimal n) ≤ 2 = decimal_short 2 n (omega arith) (omega arith) in
-        let q : long two ≤ 21 * most_classes = each_long (nth_class_texts bytes settings) 21 most_classes 0 (λ j k. class_long (waiting_of bytes settings j)) in
+        let q : long two ≤ 21 * most_classes = each_long (nth_class_texts bytes settings) 21 most_classes 0 (λ j k. class_long (waiting_of bytes settings j))
+        in
         omega arith
     by false = omega arith
 

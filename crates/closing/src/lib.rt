@@ -1,6 +1,7 @@
 // The end of a scenario as text: for each object with a version above 0 or a value in replay its newest version and value, the nodes that have
 // it, its author and replay's value; for each node with a table of classes the tenths that wait; and whether the station is at rest and settled.
 #![tactic(auto)]
+
 mod copies;
 mod state;
 mod tenths;

@@ -46,7 +46,8 @@ module _ (s : Shape) (room : s.objects ≤ shape.objects) (l : List ℕ) (bytes 
   -- ---- where copies have an author, it is the one that was
   module _ (has : has_author s ≡ true) where
     pub author_as : (t : ℕ) → t < s.objects → author new t ≡ field_of (author_field s) l t
-    author_as t h = taken_author s l room bytes t h ∙ ap (λ (b : Bool). cond b (field_of (author_field s) l t) (author_at (field_of (version_field s) l t))) has
+    author_as t h = taken_author s l room bytes t h
+        ∙ ap (λ (b : Bool). cond b (field_of (author_field s) l t) (author_at (field_of (version_field s) l t))) has
 
     pub author_serial_as : (t : ℕ) → t < s.objects → author_serial new t ≡ field_of (author_serial_field s) l t
     author_serial_as t h = taken_author_serial s l room bytes t h ∙ ap (λ (b : Bool). cond b (field_of (author_serial_field s) l t) 0) has

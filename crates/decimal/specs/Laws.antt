@@ -1,6 +1,9 @@
 -- The laws of the decimal text. Assumes nothing.
-use Rattle.std.specs.Prelude.{ℕ, zero, suc, ◌+◌, ◌*◌, ◌-◌, ◌/◌, ◌%◌, ◌^◌, ◌≤◌, ◌<◌, ◌≡◌, refl, Bool, true, false, ◌&&◌, ◌⊎◌, List, [], ◌∷◌, ◌++◌, ltb, leb, length, take, drop, set, get_or}
-use Rattle.std.proofs.Common.{arith, sym, ap, ◌∙◌, inl, inr, ⊎_elim, append_assoc, append-nil, ltb-true, ltb-false, lt-ltb, le-ltb, le-leb, length-append, length-drop, take-append-drop, length-take-le, take_at, drop-drop, drop-cons, get_or-set_same, drop-set-lt, lt-length-set, add-zero, add_assoc, pow-suc, mod-lt}
+use Rattle.std.specs.Prelude.{ℕ, zero, suc, ◌+◌, ◌*◌, ◌-◌, ◌/◌, ◌%◌, ◌^◌, ◌≤◌, ◌<◌, ◌≡◌, refl, Bool, true, false, ◌&&◌, ◌⊎◌, List, [], ◌∷◌, ◌++◌, ltb, leb}
+use Rattle.std.specs.Prelude.{length, take, drop, set, get_or}
+use Rattle.std.proofs.Common.{arith, sym, ap, ◌∙◌, inl, inr, ⊎_elim, append_assoc, append-nil, ltb-true, ltb-false, lt-ltb, le-ltb, le-leb, length-append}
+use Rattle.std.proofs.Common.{length-drop, take-append-drop, length-take-le, take_at, drop-drop, drop-cons, get_or-set_same, drop-set-lt, lt-length-set}
+use Rattle.std.proofs.Common.{add-zero, add_assoc, pow-suc, mod-lt}
 use Rattle.std.proofs.Math.Bool.{and_assoc}
 use Rattle.std.proofs.lemmas.Bool.{lt-leb}
 use Rattle.std.proofs.Math.ListN.{get_or-append}

@@ -68,7 +68,8 @@ abbrev pub Marks : List ℕ → List Object → ℕ → ℕ → Type 0
 Marks places objects count i = (n : ℕ) → n < objectsEnd → get_or places n 0 ≡ across (here_else n count) most_open i (drop i objects)
 
 pub marks_start : (objects : List Object) (count : ℕ) → length objects ≡ most_open → Marks (replicate objectsEnd most_open) objects count most_open
-marks_start objects count e n h = get_or-replicate objectsEnd n most_open 0 h ∙ sym (across_start (here_else n count) most_open objects most_open (omega arith))
+marks_start objects count e n h = get_or-replicate objectsEnd n most_open 0 h
+    ∙ sym (across_start (here_else n count) most_open objects most_open (omega arith))
 
 pub marks_whole : (places : List ℕ) (objects : List Object) (count : ℕ) → Marks places objects count 0
     → (n : ℕ) → n < objectsEnd → get_or places n 0 ≡ place_in objects count n
@@ -125,7 +126,8 @@ module _ (objects : List Object) (places : List ℕ) (entries : List Entry) (cou
       let r : Gathered = record { entries = set entries count e; count = count + 1 } in
       let es = entries_below c n in
       let x : e ≡ entry_for (object_at c n) =
-      same ∙ ap (λ (k : ℕ). entry_for (get_or objects k no_object)) (at ∙ f n h) ∙ ap (λ (y : List Object). entry_for (get_or y (place_of c n) no_object)) (sym o) in
+      same ∙ ap (λ (k : ℕ). entry_for (get_or objects k no_object)) (at ∙ f n h)
+      ∙ ap (λ (y : List Object). entry_for (get_or y (place_of c n) no_object)) (sym o) in
       let m : Lists r (es ++ (e ∷ [])) = one_more g e es full (second_fits (ltb p most_open) count most_open t) (l c o f) in
       subst (Lists r) (sym (below_more c n))
       (next_taken c n g r es (l c o f) (test c f true t) (subst (λ (y : Entry). Lists r (es ++ (y ∷ []))) x m))

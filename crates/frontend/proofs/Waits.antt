@@ -39,5 +39,6 @@ module _ (l s : List ℕ) (class : ℕ) (fine : lent_number l s ≡ 0) (k : ℕ)
     unfolding waiting_of
     waits_told a i f list g v =
         let t : ltb class (tally_count (classes_in s)) ≡ true = lt-ltb class (tally_count (classes_in s)) (omega (arith, counted, e, h)) in
-        let z : a ≡ get_or (tenths (record_of l) s) class 0 = v ∙ ap (λ (x : List ℕ). get_or x i 0) g ∙ ap (λ (j : ℕ). get_or (tenths (record_of l) s) j 0) f in
+        let z : a ≡ get_or (tenths (record_of l) s) class 0 = v ∙ ap (λ (x : List ℕ). get_or x i 0) g ∙ ap (λ (j : ℕ). get_or (tenths (record_of l) s) j 0) f
+        in
         ap (λ (x : ℕ). called 0 x) z ∙ simp (eq-eqb (lent_number l s) 0 fine, t)

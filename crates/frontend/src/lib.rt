@@ -1,6 +1,7 @@
 // A node's front end: its settings, bytes lent beside its record, and its host's calls over both. What begins goes by the packing hours, a batch books
 // weights by the node's classes, and the host's own opens and values are not for a batch. Every other call is the record's own.
 #![tactic(auto)]
+
 mod calls;
 mod tell;
 mod whole;

@@ -36,7 +36,8 @@ use Rattle.coordinator.specs.System.{System}
 use Rattle.steps.specs.Station.{Station, put_at, with_image}
 use Rattle.protocol.specs.Table.{pick, In}
 use Rattle.protocol.specs.State.{Tx, Tx-discrete, fresh, committed, aborted, over, listed, History, State, Writes, Touches, Held}
-use Rattle.protocol.specs.Transitions.{do_list, CanList, list, do_copy, copy, do_no, vote_no, do_yes, CanYes, vote_yes, do_apply, CanApply, apply, do_drop, CanDrop}
+use Rattle.protocol.specs.Transitions.{do_list, CanList, list, do_copy, copy, do_no, vote_no, do_yes, CanYes, vote_yes, do_apply, CanApply, apply, do_drop}
+use Rattle.protocol.specs.Transitions.{CanDrop}
 use Rattle.protocol.specs.Transitions.{drop}
 use Rattle.protocol.specs.Log.{logged}
 use Rattle.protocol.proofs.Tree.{tree_free}

@@ -26,7 +26,8 @@ use Rattle.image.proofs.Lens.{bytes_with_lem, of_small}
 use Rattle.image.proofs.Whole.{bytes_free, bytes_unlist}
 use Rattle.judge.specs.Standing.{standing, active, entered}
 use Rattle.judge.specs.Judge.{votes_no, named, no_serials, named_below, serials_of, rivals_of}
-use Rattle.replica.specs.Steps.{copy_to, vote_to, done_to, wanted, fetch_image, copy_here, holding_one, holding, leaves, judged_image, ask_image, applied_one, applied}
+use Rattle.replica.specs.Steps.{copy_to, vote_to, done_to, wanted, fetch_image, copy_here, holding_one, holding, leaves, judged_image, ask_image, applied_one}
+use Rattle.replica.specs.Steps.{applied}
 use Rattle.replica.specs.Steps.{decided, released, outcome_image}
 use Rattle.replica.specs.Receive.{step, Delivered}
 use Rattle.replica.proofs.Delivered.{either_way}
@@ -129,7 +130,8 @@ named_small l b rivals zero i = none_small i
 named_small l b rivals (suc n) i = by_cases (ℕ_discrete i n)
     (λ e. on (lt_or_le n (length (named_below l rivals n)))
     (λ h. subst (λ (s : ℕ). s < 256 ^ 4)
-    (sym (ap (λ (j : ℕ). get_or (set (named_below l rivals n) n (named l rivals n)) j 0) e ∙ get_or-set_same (named_below l rivals n) n (named l rivals n) 0 h))
+    (sym (ap (λ (j : ℕ). get_or (set (named_below l rivals n) n (named l rivals n)) j 0) e
+    ∙ get_or-set_same (named_below l rivals n) n (named l rivals n) 0 h))
     (either_way (λ (s : ℕ). s < 256 ^ 4) (contains rivals n) _ _ (of_small (serial_field shape) l n b) (lit< tt)))
     (λ h. subst (λ (ss : List ℕ). get_or ss i 0 < 256 ^ 4) (sym (set_out (named_below l rivals n) n (named l rivals n) h)) (named_small l b rivals n i)))
     (λ e. subst (λ (s : ℕ). s < 256 ^ 4) (sym (get_or-set_other (named_below l rivals n) n i (named l rivals n) 0 e)) (named_small l b rivals n i))

@@ -19,7 +19,8 @@ use Rattle.coordinator.specs.declared.BeginWith.{BeginWith}
 use Rattle.coordinator.specs.declared.Step.{Step}
 use Rattle.coordinator.specs.State.{idle_phase, open_phase, voting_phase, object_at, is_open, step_of}
 use Rattle.coordinator.specs.Calls.{begin_refusals, begun, begin_of, open_refusals, opened, open_of, set_refusals, with_new, set_of, found_refusals, found_of}
-use Rattle.coordinator.specs.Calls.{reselect_refusals, reselected, reselect_of, request_commit_refusals, requested, request_commit_of, abort_refusals, ended_aborted}
+use Rattle.coordinator.specs.Calls.{reselect_refusals, reselected, reselect_of, request_commit_refusals, requested, request_commit_of, abort_refusals}
+use Rattle.coordinator.specs.Calls.{ended_aborted}
 use Rattle.coordinator.specs.Calls.{abort_of}
 use Rattle.coordinator.proofs.Refusals.{Clear, numbered, clear}
 use Rattle.clauses.proofs.Facts.{Meets}
@@ -27,7 +28,8 @@ use Rattle.clauses.proofs.Cases.{either_of}
 use Rattle.clauses.proofs.Keep.{begin_keeps, open_keeps, set_keeps, reselect_keeps, request_keeps, abort_keeps}
 use Rattle.steps.proofs.Nodes.{off_number_lem}
 use Rattle.steps.specs.Station.{Station, system, with_record}
-use Rattle.steps.specs.Step.{Call, begin, open_read, open_write, set_value, found, reselect, request_commit, abort, Outcome, refused_with, taken, when_off, hosted}
+use Rattle.steps.specs.Step.{Call, begin, open_read, open_write, set_value, found, reselect, request_commit, abort, Outcome, refused_with, taken, when_off}
+use Rattle.steps.specs.Step.{hosted}
 use Rattle.steps.specs.Run.{event_of}
 use Rattle.protocol.proofs.Tables.{on}
 use Rattle.history.specs.Ledger.{Ledger, with_mode, noted, note}

@@ -33,7 +33,8 @@ pub record Awaited (c : Coordinator) (n s : ℕ) : Type 0 where
 -- a waiting message
 pub record Timely (images : ℕ → List ℕ) (records : ℕ → Coordinator) (b : List ℕ) : Type 0 where
   -- what is for a replica is late there, or its owner awaits that node
-  pub to_replica : for_replica (kind_of b) ≡ true → Behind (images (to_of b)) (owner_of b) (serial_of b) ⊎ Awaited (records (owner_of b)) (to_of b) (serial_of b)
+  pub to_replica : for_replica (kind_of b) ≡ true → Behind (images (to_of b)) (owner_of b) (serial_of b)
+      ⊎ Awaited (records (owner_of b)) (to_of b) (serial_of b)
   -- a commit is late or held there
   pub a_commit_lem : kind_of b ≡ outcome → word_of b ≡ 1 → Bound (images (to_of b)) (owner_of b) (serial_of b)
   -- a yes is late or held where it comes from, a done late

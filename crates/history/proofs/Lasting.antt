@@ -18,7 +18,8 @@ use Rattle.arrivals.specs.Receive.{for_replica, receive_of}
 use Rattle.due.specs.Kind.{due_kind}
 use Rattle.due.specs.Due.{message_due}
 use Rattle.steps.specs.Station.{Station, system}
-use Rattle.steps.specs.Step.{Call, begin, open_read, open_write, set_value, found, reselect, request_commit, abort, send, delivery, drop, switch, step, Outcome}
+use Rattle.steps.specs.Step.{Call, begin, open_read, open_write, set_value, found, reselect, request_commit, abort, send, delivery, drop, switch, step}
+use Rattle.steps.specs.Step.{Outcome}
 use Rattle.steps.specs.Step.{refused_with, taken, putting, full, send_number, send_of, hosted, answered, at_replica, at_coordinator, arriving, delivery_of}
 use Rattle.steps.specs.Step.{drop_of, switch_of}
 use Rattle.steps.specs.Run.{after}

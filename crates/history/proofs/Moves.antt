@@ -20,7 +20,8 @@ use Rattle.image.specs.Valid.{over, held}
 use Rattle.image.proofs.Each.{lt_or_le}
 use Rattle.judge.specs.Standing.{standing, active, entered}
 use Rattle.judge.specs.Judge.{votes_no, no_serials, serials_of, rivals_of}
-use Rattle.replica.specs.Steps.{Answer, silent, says, copy_to, vote_to, done_to, wanted, copy_here, fetch_image, fetch_answer, ask_image, ask_answer, judged_answer}
+use Rattle.replica.specs.Steps.{Answer, silent, says, copy_to, vote_to, done_to, wanted, copy_here, fetch_image, fetch_answer, ask_image, ask_answer}
+use Rattle.replica.specs.Steps.{judged_answer}
 use Rattle.replica.specs.Steps.{outcome_image}
 use Rattle.replica.specs.Receive.{Delivered, step}
 use Rattle.replica.proofs.Spoken.{wanted_fits}

@@ -33,7 +33,8 @@ use Rattle.arrivals.specs.Receive.{answers, copy_fits, copy_taken, with_yes, vot
 use Rattle.arrivals.specs.Receive.{receive_refusals, receive_of}
 use Rattle.clauses_arrive.proofs.Deliveries.{said_yes, said_done}
 use Rattle.steps.specs.Station.{Station, system, with_image, with_record}
-use Rattle.steps.specs.Step.{Call, delivery, Outcome, refused_with, taken, putting, taken_out, full, answered, at_replica, at_coordinator, arriving, delivery_of}
+use Rattle.steps.specs.Step.{Call, delivery, Outcome, refused_with, taken, putting, taken_out, full, answered, at_replica, at_coordinator, arriving}
+use Rattle.steps.specs.Step.{delivery_of}
 use Rattle.steps.specs.Step.{step}
 use Rattle.protocol.specs.Table.{In}
 use Rattle.protocol.specs.Proof.Tables.{clash}
@@ -126,7 +127,8 @@ module _ (st : Station) (L : Ledger) (F : Past) (w : World st L F) (t : InTurn s
         (subst (λ (k : ℕ). (eqb k 1 || (eqb k 3 || eqb k 5)) ≡ true) (sym (header b).0) order)
       where
         by : (x y z : Bool) → eqb m.kind 1 ≡ x → eqb m.kind 3 ≡ y → eqb m.kind 5 ≡ z → (x || (y || z)) ≡ true
-            → cond x (eqb (standing l m) 5) (cond y (eqb (standing l m) 5) (cond z (outcome_wrong_turn (Rattle.wire.specs.Formed.word_of m) (standing l m)) true))
+            → cond x (eqb (standing l m) 5)
+            (cond y (eqb (standing l m) 5) (cond z (outcome_wrong_turn (Rattle.wire.specs.Formed.word_of m) (standing l m)) true))
             ≡ false
         by true y z p q r e = ne_eqb (standing l m) 5 not_ahead
         by false true z p q r e = ne_eqb (standing l m) 5 not_ahead
@@ -202,7 +204,8 @@ module _ (st : Station) (L : Ledger) (F : Past) (w : World st L F) (t : InTurn s
       (eq-eqb (check_of b) 0 (waits_well w.state b (w.sim.waits b waiting)))
 
   pub arrives_at : (kept up order : Bool) → contains st.own.on (to_of b) ≡ up → for_replica (kind_of b) ≡ order
-      → step st (delivery k kept) ≡ cond up (cond order (at_replica st k kept (to_of b) b) (at_coordinator st k kept (to_of b) b)) (taken 0 (taken_out st k kept))
+      → step st (delivery k kept) ≡ cond up (cond order (at_replica st k kept (to_of b) b) (at_coordinator st k kept (to_of b) b))
+      (taken 0 (taken_out st k kept))
   unfolding arriving
   arrives_at kept up order p q = arrives kept
       ∙ ap₂ (λ (x y : Bool). cond x (cond y (at_replica st k kept (to_of b) b) (at_coordinator st k kept (to_of b) b)) (taken 0 (taken_out st k kept))) p q

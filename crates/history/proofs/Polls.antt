@@ -25,8 +25,10 @@ use Rattle.coordinator.specs.declared.Coordinator.{Coordinator}
 use Rattle.coordinator.specs.declared.BeginWith.{BeginWith}
 use Rattle.coordinator.specs.declared.Step.{Step}
 use Rattle.coordinator.specs.State.{idle_phase, open_phase, voting_phase, finishing_phase, object_at, ready, awaited, idle_after}
-use Rattle.coordinator.specs.Calls.{no_node, begin_refusals, begun, begin_of, open_refusals, opened, open_of, set_refusals, with_new, set_of, found_refusals, found_of}
-use Rattle.coordinator.specs.Calls.{reselect_refusals, reselected, reselect_of, request_commit_refusals, requested, request_commit_of, abort_refusals, abort_of}
+use Rattle.coordinator.specs.Calls.{no_node, begin_refusals, begun, begin_of, open_refusals, opened, open_of, set_refusals, with_new, set_of, found_refusals}
+use Rattle.coordinator.specs.Calls.{found_of}
+use Rattle.coordinator.specs.Calls.{reselect_refusals, reselected, reselect_of, request_commit_refusals, requested, request_commit_of, abort_refusals}
+use Rattle.coordinator.specs.Calls.{abort_of}
 use Rattle.coordinator.specs.Calls.{with_phase, ended_aborted}
 use Rattle.arrivals.specs.Receive.{brought, answers, copy_fits, copy_taken, with_yes, vote_taken, with_done, done_taken, yield_taken, for_replica}
 use Rattle.arrivals.specs.Receive.{receive_refusals, receive_of}

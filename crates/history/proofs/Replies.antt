@@ -21,7 +21,8 @@ use Rattle.wire.specs.Items.{no_entry}
 use Rattle.image.specs.Layout.{version, value}
 use Rattle.judge.specs.Standing.{standing, active, entered}
 use Rattle.judge.specs.Judge.{votes_no, no_serials, serials_of, rivals_of}
-use Rattle.replica.specs.Steps.{Answer, silent, says, copy_to, vote_to, done_to, wanted, copy_here, fetch_image, fetch_answer, ask_image, ask_answer, judged_answer}
+use Rattle.replica.specs.Steps.{Answer, silent, says, copy_to, vote_to, done_to, wanted, copy_here, fetch_image, fetch_answer, ask_image, ask_answer}
+use Rattle.replica.specs.Steps.{judged_answer}
 use Rattle.replica.specs.Steps.{outcome_image, outcome_answer}
 use Rattle.replica.specs.Receive.{outcome_wrong_turn}
 use Rattle.replica.proofs.Spoken.{Named, named_of, done_formed, vote_formed, copy_formed, yes_formed, wanted_fits}

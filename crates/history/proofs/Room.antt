@@ -24,8 +24,10 @@ use Rattle.due.specs.Kind.{due_kind, due_refusals}
 use Rattle.clauses.proofs.Parts.{on_cond}
 use Rattle.due.specs.Due.{message_due}
 use Rattle.steps.specs.Station.{Station, system, without}
-use Rattle.steps.specs.Step.{Call, begin, open_read, open_write, set_value, found, reselect, request_commit, abort, send, delivery, drop, switch, step, Outcome}
-use Rattle.steps.specs.Step.{refused_with, taken, putting, full, when_off, send_number, send_of, hosted, answered, at_replica, at_coordinator, arriving, delivery_of}
+use Rattle.steps.specs.Step.{Call, begin, open_read, open_write, set_value, found, reselect, request_commit, abort, send, delivery, drop, switch, step}
+use Rattle.steps.specs.Step.{Outcome}
+use Rattle.steps.specs.Step.{refused_with, taken, putting, full, when_off, send_number, send_of, hosted, answered, at_replica, at_coordinator, arriving}
+use Rattle.steps.specs.Step.{delivery_of}
 use Rattle.steps.specs.Step.{drop_of, switch_of}
 use Rattle.history.proofs.Tests.{not-false}
 use Rattle.steps.proofs.Nodes.{off_number_lem}

@@ -30,7 +30,8 @@ use Rattle.replay.specs.Layout.{size}
 use Rattle.replay.specs.Sheet.{blank_after, value_of}
 use Rattle.replay.proofs.Laws.{Reads, owner_below, blank_law, begun_law, opened_law, valued_law, put_law, committed_law, value_reads}
 use Rattle.steps.specs.Station.{Station, system}
-use Rattle.steps.specs.Step.{Call, begin, open_read, open_write, set_value, found, reselect, request_commit, abort, send, delivery, drop, switch, step, Outcome}
+use Rattle.steps.specs.Step.{Call, begin, open_read, open_write, set_value, found, reselect, request_commit, abort, send, delivery, drop, switch, step}
+use Rattle.steps.specs.Step.{Outcome}
 use Rattle.steps.specs.Step.{refused_with, taken, when_off, hosted, full, answered, at_replica, at_coordinator, arriving, delivery_of}
 use Rattle.steps.specs.Run.{event_of, trace}
 use Rattle.protocol.specs.Table.{pick, In, times}

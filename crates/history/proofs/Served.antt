@@ -23,7 +23,8 @@ use Rattle.replica.proofs.Taken.{Taken, taken}
 use Rattle.coordinator.specs.Calls.{no_node}
 use Rattle.arrivals.specs.Receive.{for_replica}
 use Rattle.steps.specs.Station.{Station, with_image, with_on, with_pool, without}
-use Rattle.steps.specs.Step.{delivery, drop, switch, refused_with, full, taken_out, answered, at_replica, at_coordinator, arriving, delivery_of, drop_of, switch_of}
+use Rattle.steps.specs.Step.{delivery, drop, switch, refused_with, full, taken_out, answered, at_replica, at_coordinator, arriving, delivery_of, drop_of}
+use Rattle.steps.specs.Step.{switch_of}
 use Rattle.protocol.specs.Table.{In}
 use Rattle.protocol.specs.State.{Tx, fresh, committed, aborted}
 use Rattle.protocol.specs.Proof.Tables.{clash}
@@ -152,7 +153,8 @@ module _ (st : Station) (L : Ledger) (F : Past) (w : World st L F) (k : ℕ) (ke
         (cond g (answered st k kept n (step l n m).image (step l n m).answer) (refused_with (step l n m).number st)))
         (sym (eq-eqb (step l n m).number 0 f)) (answered_next q.node t (step l n m).answer (reply q.node t))
     by_refusal false e =
-        subst (λ (g : Bool). Next st L F w (delivery k kept) (cond g (answered st k kept n l silent) (refused_with (refusal longest_message l n b) st))) (sym e)
+        subst (λ (g : Bool). Next st L F w (delivery k kept) (cond g (answered st k kept n l silent) (refused_with (refusal longest_message l n b) st)))
+        (sym e)
         (refused_next st L F w (delivery k kept) (refusal longest_message l n b) (eqb-false (refusal longest_message l n b) 0 e))
 
     pub replica_next : Next st L F w (delivery k kept) (at_replica st k kept n b)

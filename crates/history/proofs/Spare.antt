@@ -21,7 +21,8 @@ use Rattle.coordinator.specs.declared.BeginWith.{BeginWith}
 use Rattle.coordinator.specs.declared.Step.{Step}
 use Rattle.coordinator.specs.System.{System}
 use Rattle.coordinator.specs.State.{idle_phase, open_phase, idle_after}
-use Rattle.coordinator.specs.Calls.{no_node, too_wide, begin_refusals, begun, begin_of, open_refusals, opened, open_of, set_refusals, with_new, set_of, found_of}
+use Rattle.coordinator.specs.Calls.{no_node, too_wide, begin_refusals, begun, begin_of, open_refusals, opened, open_of, set_refusals, with_new, set_of}
+use Rattle.coordinator.specs.Calls.{found_of}
 use Rattle.coordinator.specs.Calls.{reselect_refusals, reselected, reselect_of, request_commit_refusals, requested, request_commit_of, abort_of}
 use Rattle.coordinator.proofs.Theorems.{found_leaves}
 use Rattle.arrivals.specs.Receive.{for_replica, receive_of}
@@ -32,7 +33,8 @@ use Rattle.due.specs.Kind.{due_kind}
 use Rattle.due.specs.Due.{message_due}
 use Rattle.steps.specs.Station.{Station, system, put_at}
 use Rattle.steps.specs.Step.{Call, begin, open_read, open_write, set_value, found, reselect, request_commit, abort, send, delivery, drop, switch, Outcome}
-use Rattle.steps.specs.Step.{step, refused_with, taken, putting, full, send_number, hosted, answered, at_replica, at_coordinator, arriving, delivery_of, drop_of}
+use Rattle.steps.specs.Step.{step, refused_with, taken, putting, full, send_number, hosted, answered, at_replica, at_coordinator, arriving, delivery_of}
+use Rattle.steps.specs.Step.{drop_of}
 use Rattle.steps.specs.Step.{switch_of, send_of}
 use Rattle.protocol.proofs.Tables.{on}
 use Rattle.history.proofs.Tests.{no_both, not-false}

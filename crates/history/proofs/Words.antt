@@ -15,7 +15,8 @@ use Rattle.wire.specs.declared.Rival.{Rival}
 use Rattle.wire.specs.Message.{Message}
 use Rattle.wire.specs.Formed.{between, counts_ok, names_ok, direction_ok, ascend, every, rival_ok, entries_ok, rivals_ok, well_formed}
 use Rattle.wire.specs.Encode.{encode_entry, encode_rival, encode_word, section, encode, size_of, Fits}
-use Rattle.wire.specs.Decode.{kind_of, from_of, to_of, owner_of, serial_of, stamp_of, entry_count, entries_place, entry_at, word_count, words_place, word_at, items_from}
+use Rattle.wire.specs.Decode.{kind_of, from_of, to_of, owner_of, serial_of, stamp_of, entry_count, entries_place, entry_at, word_count, words_place, word_at}
+use Rattle.wire.specs.Decode.{items_from}
 use Rattle.wire.specs.Decode.{rival_count, rivals_place, rival_at, decode, accepted, check_of}
 use Rattle.wire.specs.Items.{no_entry, no_rival, entry_of, rival_of, word_of}
 use Rattle.wire.proofs.RoundTrip.{next, number_at, decode_encode}

@@ -13,7 +13,8 @@ use Rattle.wire.specs.Formed.{every}
 use Rattle.wire.specs.Decode.{items_from}
 use Rattle.parts.specs.Parts.{padded}
 use Rattle.parts.proofs.Laws.{length_padded, padded_same}
-use Rattle.hours.specs.Hours.{Window, most_windows, most_dates, window_at, window_size, date_at, date_size, window_count, dates_place, date_count, windows, dates}
+use Rattle.hours.specs.Hours.{Window, most_windows, most_dates, window_at, window_size, date_at, date_size, window_count, dates_place, date_count, windows}
+use Rattle.hours.specs.Hours.{dates}
 use Rattle.hours.specs.Hours.{list_size, window_ok, faulty, table_number, any_of, in_window, closed_by}
 use Rattle.hours.specs.Kept.{kept_size, lists_in, stored, kept_number, closed}
 

@@ -177,7 +177,12 @@ blank_sound =
         owners_counted = blank_owners_as shape tt tt;
         owners_sound = λ o k. record {
           small = omega (arith, blank_zero (state_field shape) o tt tt tt tt);
-          named = inl (blank_zero (serial_field shape) o tt tt tt tt, blank_zero (stamp_field shape) o tt tt tt tt, blank_zero (state_field shape) o tt tt tt tt);
+          named = inl (
+            blank_zero (serial_field shape) o tt tt tt tt,
+            blank_zero (stamp_field shape) o tt tt tt tt,
+            blank_zero (state_field shape) o tt tt tt
+                tt,
+          );
         };
         copies_sound = λ t k. record {
           holding = inl (blank_holder t k);

@@ -17,7 +17,8 @@ use Rattle.mask.proofs.Tests.{same_test, and_both, and_left, and_right, or_left,
 use Rattle.image.specs.Field.{field_of}
 use Rattle.image.specs.Layout.{shape, image_size, object_count, owner_count, holder, readers, writers, author, author_serial, serial, state, stamp}
 use Rattle.image.specs.Valid.{over, listed, held, refused}
-use Rattle.image.specs.Valid.{each, holder_ok, state_ok, mask_ok, serial_ok, held_ok, listed_ok, counts_ok, formed, author_ok, authors_ok, valid, check_as, check}
+use Rattle.image.specs.Valid.{each, holder_ok, state_ok, mask_ok, serial_ok, held_ok, listed_ok, counts_ok, formed, author_ok, authors_ok, valid, check_as}
+use Rattle.image.specs.Valid.{check}
 use Rattle.image.specs.Pass.{holder_fits, copy_fits, owner_fits}
 use Rattle.image.proofs.Each.{each_at, each_all, lt_or_le}
 use Rattle.image.proofs.Marks.{Marks}

@@ -1,5 +1,6 @@
 -- What the sums come to: votes that may be asked for before them may be asked for after them, and each object's new value is its sum.
-use Rattle.std.proofs.Common.{◌≡◌, ℕ, zero, suc, ◌<◌, ◌≤◌, Bool, true, false, not, ◌&&◌, ◌||◌, T, eqb, ltb, ◌⊎◌, [], length, sym, refl, ap, ◌∙◌, subst, inl, inr, ⊎_elim, arith, ltb-true, eq-eqb, eqb-true}
+use Rattle.std.proofs.Common.{◌≡◌, ℕ, zero, suc, ◌<◌, ◌≤◌, Bool, true, false, not, ◌&&◌, ◌||◌, T, eqb, ltb, ◌⊎◌, [], length, sym, refl, ap, ◌∙◌, subst, inl}
+use Rattle.std.proofs.Common.{inr, ⊎_elim, arith, ltb-true, eq-eqb, eqb-true}
 use borrow.Author.Tests.{eqb-false, not-false}
 use Rattle.numbers.specs.Sizes.{nodes, most_open, highest}
 use Rattle.mask.specs.Mask.{joined}

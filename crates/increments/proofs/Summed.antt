@@ -1,5 +1,6 @@
 -- The sums of a record's objects, one after the other: each is set where its object stands, and the places behind it are as they were.
-use Rattle.std.proofs.Common.{◌≡◌, ℕ, zero, suc, ◌<◌, ◌≤◌, true, false, not, eqb, ltb, ◌⊎◌, List, [], length, take, set, sym, refl, ap, ◌∙◌, subst, inl, inr, arith, get_or-set_other, take-suc, get_or-set_same, lt-ltb, eq-eqb, ne_eqb, eqb-true}
+use Rattle.std.proofs.Common.{◌≡◌, ℕ, zero, suc, ◌<◌, ◌≤◌, true, false, not, eqb, ltb, ◌⊎◌, List, [], length, take, set, sym, refl, ap, ◌∙◌, subst, inl, inr}
+use Rattle.std.proofs.Common.{arith, get_or-set_other, take-suc, get_or-set_same, lt-ltb, eq-eqb, ne_eqb, eqb-true}
 use borrow.Author.Tests.{eqb-false}
 use Rattle.numbers.specs.Sizes.{nodes, most_open}
 use Rattle.numbers.specs.Refusal.{first_of}

@@ -1,5 +1,6 @@
 -- The laws of sums: what `past` says, and that it is seen by the signs: two values of one sign, and the sum of the other.
-use Rattle.std.proofs.Common.{◌≡◌, ℕ, suc, ◌+◌, ◌-◌, ◌%◌, ◌^◌, ◌<◌, ◌≤◌, Bool, true, false, cond, not, ◌&&◌, ltb, leb, ℤ, pos, negsuc, ◌+ℤ◌, sym, refl, ap, ◌∙◌, ap₂, arith, w64, ltb-false, ltb-true, le-ltb, lt-ltb, leb-false, leb-true}
+use Rattle.std.proofs.Common.{◌≡◌, ℕ, suc, ◌+◌, ◌-◌, ◌%◌, ◌^◌, ◌<◌, ◌≤◌, Bool, true, false, cond, not, ◌&&◌, ltb, leb, ℤ, pos, negsuc, ◌+ℤ◌, sym, refl, ap}
+use Rattle.std.proofs.Common.{◌∙◌, ap₂, arith, w64, ltb-false, ltb-true, le-ltb, lt-ltb, leb-false, leb-true}
 use lib.IntN.{ℤ_discrete, pos-ne-negsuc, sub_ℕ, +ℤ_comm}
 use mir.ValLaws.{to_z_pos, to_z-neg}
 use Rattle.octets.specs.Signed.{signed_of}

@@ -1,5 +1,6 @@
 -- One turn of each loop: two calls for an amount, one for a sum, and whether a new value is past the range.
-use Rattle.std.proofs.Common.{◌≡◌, ℕ, suc, ◌+◌, ◌^◌, ◌<◌, ◌≤◌, Bool, true, false, not, ◌&&◌, List, [], length, get_or, take, drop, sym, refl, ap, ◌∙◌, subst, arith}
+use Rattle.std.proofs.Common.{◌≡◌, ℕ, suc, ◌+◌, ◌^◌, ◌<◌, ◌≤◌, Bool, true, false, not, ◌&&◌, List, [], length, get_or, take, drop, sym, refl, ap, ◌∙◌, subst}
+use Rattle.std.proofs.Common.{arith}
 use lib.Seq.{slice-cons, slice_empty}
 use Rattle.wire.specs.Formed.{every}
 use Rattle.coordinator.specs.declared.Object.{Object}

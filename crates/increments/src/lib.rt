@@ -1,6 +1,7 @@
 // A transaction that adds: sums of two values, and on the bytes of a record whose check passed the calls that open its objects, give each its amount and
 // turn each amount into a new value.
 #![tactic(auto)]
+
 ghost use Rattle.std.specs.Prelude.{◌≡◌, ◌≤◌, []};
 ghost use Rattle.numbers.specs.Sizes.{most_open};
 ghost use Rattle.coordinator.specs.System.{tree};

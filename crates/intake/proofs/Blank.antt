@@ -23,7 +23,8 @@ use Rattle.image.proofs.Lens.{inside, ends, apart, with_same}
 use Rattle.image.proofs.Blanks.{length_blank, bytes_blank, blank_zero, blank_holder, blank_author, blank_check}
 use Rattle.image.proofs.Blanks.{unsigned, length_blank_as, bytes_blank_as, blank_zero_as, blank_holder_as, blank_author_as, blank_objects_as, blank_owners_as}
 use Rattle.intake.proofs.Judged.{taken_valid, check_says}
-use Rattle.intake.specs.Take.{author_at, copy_as, owner_as, with_copy, with_kept, with_copies, with_owners, with_copies_as, with_owners_as, taken_into, taken_in}
+use Rattle.intake.specs.Take.{author_at, copy_as, owner_as, with_copy, with_kept, with_copies, with_owners, with_copies_as, with_owners_as, taken_into}
+use Rattle.intake.specs.Take.{taken_in}
 
 -- ---- copies and owners written as they were
 module _ (l : List ℕ) (b : Bytes l) where
@@ -178,7 +179,8 @@ module _ (s : Shape) where
       ap (with_owners (owner_as s (blank_as s)) nodes)
       (same_copies (blank_as shape) bytes_blank (copy_as s (blank_as s)) s.objects
       (λ t k. copy_blank t k (has_room h) (and_left (clear_copies s) _ a) (and_left (marked s) _ b) (and_left (signed s) _ c)))
-      ∙ same_owners (blank_as shape) bytes_blank (owner_as s (blank_as s)) nodes (λ o k. owner_blank o (and_left (clear_owners s) _ (and_right (signed s) _ c)))
+      ∙ same_owners (blank_as shape) bytes_blank (owner_as s (blank_as s)) nodes
+      (λ o k. owner_blank o (and_left (clear_owners s) _ (and_right (signed s) _ c)))
 
   pub blank_valid : T (fitting s) → check_as s (blank_as s) ≡ 0
   unfolding check_as

@@ -247,7 +247,8 @@ module _ (w s : Shape) (l : List ℕ) where
       pub into_author_serial : field_of (author_serial_field w) (taken_into w s l) t ≡ cond (has_author s) (field_of (author_serial_field s) l t) 0
       unfolding copy_as
       into_author_serial =
-          copied_here (column (author_serial_field w) (λ i. (copy_as s l i).serial)) t (inr (inr (inr (inr (inr (inr (inl refl))))))) refl (by (has_author s)) h
+          copied_here (column (author_serial_field w) (λ i. (copy_as s l i).serial)) t (inr (inr (inr (inr (inr (inr (inl refl))))))) refl (by (has_author s))
+          h
         where
           by : (b : Bool) → cond b (field_of (author_serial_field s) l t) 0 < 256 ^ 4
           by true = of_small (author_serial_field s) l t bytes

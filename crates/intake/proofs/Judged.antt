@@ -15,7 +15,8 @@ use Rattle.image.specs.Field.{field_of}
 use Rattle.image.specs.Layout.{Shape, shape, has_author, image_size, object_count, owner_count, holder_field, readers_field, writers_field}
 use Rattle.image.specs.Layout.{author_field, author_serial_field, version_field, serial_field, state_field, stamp_field}
 use Rattle.image.specs.Layout.{holder, readers, writers, author, author_serial, serial, state, stamp}
-use Rattle.image.specs.Valid.{each, holder_ok, state_ok, mask_ok, serial_ok, held_ok, listed_ok, author_ok, counts_ok, formed, authors_ok, valid, check_as, check}
+use Rattle.image.specs.Valid.{each, holder_ok, state_ok, mask_ok, serial_ok, held_ok, listed_ok, author_ok, counts_ok, formed, authors_ok, valid, check_as}
+use Rattle.image.specs.Valid.{check}
 use Rattle.image.proofs.Each.{lt_or_le, each_at, each_all}
 use Rattle.image.proofs.Marks.{contains_none}
 use Rattle.image.proofs.Sound.{Sound, check_sound, list_listed}

@@ -1,5 +1,6 @@
 // A step taken at the station: the message that it names, what it answered and the message that it put are printed, and replay is told of it.
 #![tactic(auto)]
+
 ghost use Rattle.std.specs.Prelude.{◌≡◌};
 ghost use Rattle.report.specs.Page.{page, inks};
 ghost use Rattle.service_calls.specs.Lent.{lent};

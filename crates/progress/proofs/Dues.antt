@@ -171,7 +171,8 @@ module _ (st : Station) (n to object kind : ℕ) (m : Meets (system st) (st.reco
   unfolding send_number
   send_number_lem =
       let number = first_of (due_refusals c n to object) in
-      ap (λ (x : Bool). cond x (first_of (refuse number (not (eqb number 0)) ∷ refuse 3 (not (well_formed a)) ∷ refuse 12 (full st) ∷ [])) (when_off number)) up
+      ap (λ (x : Bool). cond x (first_of (refuse number (not (eqb number 0)) ∷ refuse 3 (not (well_formed a)) ∷ refuse 12 (full st) ∷ [])) (when_off number))
+      up
       ∙ zero_first (refuse number (not (eqb number 0)) ∷ refuse 3 (not (well_formed a)) ∷ refuse 12 (full st) ∷ []) (
         ap not (eq-eqb number 0 (none_refuses (system st) c m w n to object kind hm hn owed)),
         (

@@ -58,7 +58,8 @@ module _ (st : Station) (L : Ledger) (F : Past) (w : World st L F) (t : InTurn s
       (lt-ltb k (length st.pool) waits)
       ∙ ap (λ (x : Bool). cond x (arriving st k false b) (refused_with (check_of b) st))
       (eq-eqb (check_of b) 0 (waits_well w.state b (w.sim.waits b in_pool)))
-      ∙ ap (λ (x : Bool). cond x (cond (for_replica (kind_of b)) (at_replica st k false n b) (at_coordinator st k false n b)) (taken 0 (taken_out st k false))) up
+      ∙ ap (λ (x : Bool). cond x (cond (for_replica (kind_of b)) (at_replica st k false n b) (at_coordinator st k false n b)) (taken 0 (taken_out st k false)))
+      up
 
   -- what the replica makes of it
   abbrev pub made : Delivered

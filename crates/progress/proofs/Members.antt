@@ -236,7 +236,8 @@ module _ (l : List ℕ) (m : Message) (t : Taken l m) (n : ℕ) (bytes : Bytes l
       unfolding ask_answer judged_answer
       ask_says e = subst (λ (b : Bool). NotNo (cond b (judged_answer n k m)
           (cond (eqb (standing l m) 2) (says (vote_to n m no_serials 1)) (cond (eqb (standing l m) 3) (says (vote_to n m no_serials 0)) silent)))) (sym a)
-          (subst (λ (b : Bool). NotNo (cond b (says (vote_to n m no_serials 0)) (says (vote_to n m (serials_of k (rivals_of k m)) 1)))) (sym (yes e)) (λ q. refl))
+          (subst (λ (b : Bool). NotNo (cond b (says (vote_to n m no_serials 0)) (says (vote_to n m (serials_of k (rivals_of k m)) 1)))) (sym (yes e))
+          (λ q. refl))
 
       entering_next : Member c o (step l n m).image × NotNo (step l n m).answer
       entering_next = kind_cases l n m t (λ (d : Delivered). Member c o d.image × NotNo d.answer) (λ e. (fetch_member, fetch_says))

@@ -267,7 +267,8 @@ module _ {g : Origin} {ds : List Call} {o : ℕ} (starts : Starts g ds o) where
           record {
             its_tx = tx_of_lem a f ∙ tx_path (tx_in a) x (echo.a_owner ∙ order_head.its_owner) (echo.a_serial ∙ order_head.its_serial ∙ turn.present);
             its_kind = kind_of_lem a f;
-            its_member = ap (λ (b : Bool). cond b (to_of answer) (from_of answer)) (ap for_replica (kind_of_lem a f) ∙ echo.for_owner) ∙ from_of_lem a f ∙ echo.a_from;
+            its_member = ap (λ (b : Bool). cond b (to_of answer) (from_of answer)) (ap for_replica (kind_of_lem a f) ∙ echo.for_owner) ∙ from_of_lem a f
+                ∙ echo.a_from;
           }
 
       to_o : to_of answer ≡ o

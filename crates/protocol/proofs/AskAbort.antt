@@ -152,7 +152,8 @@ module _ {A : Type 0} (R : Rules A) (σ : State A) (x : Tx) where
       GoodOf : Contents A → Type 0
       GoodOf d = R.Good d.participants
 
-      good : (y : Tx) → put Tx-discrete phase_of x voting y ≢ fresh → GoodOf (put Tx-discrete contents_of x c y) ⊎ (put Tx-discrete phase_of x voting y ≡ aborted)
+      good : (y : Tx) → put Tx-discrete phase_of x voting y ≢ fresh → GoodOf (put Tx-discrete contents_of x c y)
+          ⊎ (put Tx-discrete phase_of x voting y ≡ aborted)
       good y a = on (contents_cases c y)
           (λ z. inl (subst GoodOf (sym z.1) can.good))
           (λ z. on (phase_cases voting y) (λ u. absurd (z.0 u.0))

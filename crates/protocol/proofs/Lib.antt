@@ -1,4 +1,5 @@
--- The safety theorem of the protocol, and its proofs. What is to be believed of it are the definitions of specs/, in the order that specs/Lib gives, and then the
+-- The safety theorem of the protocol, and its proofs. What is to be believed of it are the definitions of specs/, in the order that specs/Lib gives, and then
+-- the
 -- statements of
 --   Theorems     the claims hold in every reachable state
 --   Tree         the base's rules as an instance, with its claims

@@ -35,9 +35,11 @@ same_place [] t i j h k w = absurd (let z : ⊥ = omega arith in z)
 same_place (q ∷ qs) t zero zero h k w = refl
 same_place (q ∷ qs) t zero (suc j) h k w =
     let p = get_or qs j 0 in
-    absurd (T_not (within q p || within p q) (from_at q qs (and_left (apart_from q qs) (all_apart qs) t) j (omega arith)) (or_left (within q p) (within p q) w))
+    absurd (T_not (within q p || within p q) (from_at q qs (and_left (apart_from q qs) (all_apart qs) t) j (omega arith))
+    (or_left (within q p) (within p q) w))
 same_place (q ∷ qs) t (suc i) zero h k w =
     let p = get_or qs i 0 in
-    absurd (T_not (within q p || within p q) (from_at q qs (and_left (apart_from q qs) (all_apart qs) t) i (omega arith)) (or_right (within q p) (within p q) w))
+    absurd (T_not (within q p || within p q) (from_at q qs (and_left (apart_from q qs) (all_apart qs) t) i (omega arith))
+    (or_right (within q p) (within p q) w))
 same_place (q ∷ qs) t (suc i) (suc j) h k w =
     ap suc (same_place qs (and_right (apart_from q qs) (all_apart qs) t) i j (omega arith) (omega arith) w)

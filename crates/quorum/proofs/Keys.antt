@@ -60,7 +60,8 @@ pub means_pair : (b i j k : ℕ) (x y z : Choice) → b ≤ 458745 → Means b i
     → Means (6 * b) (pair_key i j k) (choose_pair x y z)
 means_pair b i j k x y z h p q r =
     wider (b + b + (b + b + (b + b))) (6 * b) (pair_key i j k) (choose_pair x y z) (omega arith)
-    (means_lesser (b + b) (b + b + (b + b)) (i + j) (lesser_of (i + k) (j + k)) (both_of x y) (lighter_of (both_of x z) (both_of y z)) (omega arith) (omega arith)
+    (means_lesser (b + b) (b + b + (b + b)) (i + j) (lesser_of (i + k) (j + k)) (both_of x y) (lighter_of (both_of x z) (both_of y z)) (omega arith)
+    (omega arith)
     (means_both b b i j x y p q)
     (means_lesser (b + b) (b + b) (i + k) (j + k) (both_of x z) (both_of y z) (omega arith) (omega arith)
     (means_both b b i k x z p r) (means_both b b j k y z q r)))

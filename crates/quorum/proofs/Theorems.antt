@@ -83,7 +83,8 @@ pub data In : ℕ → List ℕ → Type 0 where
 -- no set of the list inside live is nearer than the choice
 pub none_nearer : (asker live : ℕ) (d : List ℕ) (q : ℕ) (qs : List ℕ) → In q qs → T (within q live)
     → T (as_near asker (nearest_of asker live d qs) q (distance d q))
-none_nearer asker live d q qs (here {qs = rest}) w = as_near_left asker (one_of live d q) (nearest_of asker live d rest) q (distance d q) (by (within q live) w)
+none_nearer asker live d q qs (here {qs = rest}) w = as_near_left asker (one_of live d q) (nearest_of asker live d rest) q (distance d q)
+    (by (within q live) w)
   where
     by : (b : Bool) → T b → T (as_near asker (cond b (Quorum q (distance d q)) Nothing) q (distance d q))
     by true t = as_near_self asker q (distance d q)

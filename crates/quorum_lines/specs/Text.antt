@@ -1,7 +1,9 @@
 -- Which lines are good: exactly the texts of a mask, thirteen distances and, if wanted, an asker in range, with one space before each number but the first.
 -- The idea: one way by reading the digits of each text; the other by what is known of the bytes behind a line that is not spoilt. Assumes nothing.
-use Rattle.std.specs.Prelude.{ℕ, zero, suc, ◌+◌, ◌*◌, ◌-◌, ◌/◌, ◌%◌, ◌^◌, ◌≤◌, ◌<◌, ◌≡◌, refl, Bool, true, false, cond, not, ◌&&◌, ◌||◌, ◌⊎◌, List, [], ◌∷◌, ◌++◌, eqb, ltb, leb, length, take, set, replicate}
-use Rattle.std.proofs.Common.{add-one, arith, sym, ap, subst, ◌∙◌, inl, inr, ⊎_elim, append_assoc, append-nil, length-append, length-set, take-suc-set, take_all, eq-eqb, ne_eqb, lt-ltb, le-leb, eqb-true, leb-true}
+use Rattle.std.specs.Prelude.{ℕ, zero, suc, ◌+◌, ◌*◌, ◌-◌, ◌/◌, ◌%◌, ◌^◌, ◌≤◌, ◌<◌, ◌≡◌, refl, Bool, true, false, cond, not, ◌&&◌, ◌||◌, ◌⊎◌, List, [], ◌∷◌}
+use Rattle.std.specs.Prelude.{◌++◌, eqb, ltb, leb, length, take, set, replicate}
+use Rattle.std.proofs.Common.{add-one, arith, sym, ap, subst, ◌∙◌, inl, inr, ⊎_elim, append_assoc, append-nil, length-append, length-set, take-suc-set}
+use Rattle.std.proofs.Common.{take_all, eq-eqb, ne_eqb, lt-ltb, le-leb, eqb-true, leb-true}
 use Rattle.std.proofs.lemmas.List.{set_at}
 use Rattle.std.proofs.Math.Seq.{append_snoc}
 use Rattle.std.proofs.lemmas.Bool.{eqb-false, not-true}

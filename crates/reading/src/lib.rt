@@ -1,5 +1,6 @@
 // A line of a scenario as it is read, and lines that are no steps: what is printed for them, and what they leave.
 #![tactic(auto)]
+
 mod notes;
 mod reading;
 

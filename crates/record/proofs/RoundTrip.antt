@@ -24,7 +24,8 @@ use Rattle.clauses.proofs.Parts.{by_test, true-T}
 use Rattle.clauses.proofs.Places.{at}
 use Rattle.clauses.proofs.Fits.{ObjectFits, Fits}
 use Rattle.record.specs.Record.{front_of, quorum_of, votes_of}
-use Rattle.record.specs.Record.{object_of, distances_of, objects_of, rivals_of, record_of, object_bytes, front_bytes, quorum_bytes, vote_bytes, bytes_of, given_ok}
+use Rattle.record.specs.Record.{object_of, distances_of, objects_of, rivals_of, record_of, object_bytes, front_bytes, quorum_bytes, vote_bytes, bytes_of}
+use Rattle.record.specs.Record.{given_ok}
 use Rattle.record.proofs.Made.{made_object, made_record}
 use Rattle.record.proofs.Stores.{length_object, length_front, length_quorum, length_votes}
 

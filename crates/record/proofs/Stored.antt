@@ -25,7 +25,8 @@ module _ (l : List ℕ) (b : Bytes l) (e : check l ≡ 0) where
 
   -- another object at a place
   pub object_stored : (p : ℕ) (x : Object) → p < most_open
-      → sets l (43 + 25 * p) (object_bytes x) ≡ bytes_of (with_objects (record_of l) (record_of l).contacted (record_of l).count (set (record_of l).objects p x))
+      → sets l (43 + 25 * p) (object_bytes x)
+      ≡ bytes_of (with_objects (record_of l) (record_of l).contacted (record_of l).count (set (record_of l).objects p x))
   object_stored p x h =
       let z = (checked_meets l e).sizes in
       ap (λ (m : List ℕ). sets m (43 + 25 * p) (object_bytes x)) (sym (same_bytes l b e))

@@ -11,7 +11,8 @@ use Rattle.coordinator.specs.System.{tree}
 use Rattle.coordinator.specs.State.{blank_record}
 use Rattle.clauses.specs.Clauses.{meets}
 use Rattle.record.specs.Layout.{distance_size, object_size, rival_size, serial_place, timestamp_place, outcome_place, phase_place, live_place, distances_place}
-use Rattle.record.specs.Layout.{quorum_place, contacted_place, count_place, objects_place, participants_place, yes_place, done_place, rivals_place, record_size}
+use Rattle.record.specs.Layout.{quorum_place, contacted_place, count_place, objects_place, participants_place, yes_place, done_place, rivals_place}
+use Rattle.record.specs.Layout.{record_size}
 use Rattle.record.specs.Layout.{mode_at, came_at, version_at, value_at, given_at, new_at}
 
 -- ---- bytes read

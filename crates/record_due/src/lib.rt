@@ -1,5 +1,6 @@
 // What is due, on a record as bytes. `duties` works on bytes whose check passed; `write_due` checks them first.
 #![tactic(auto)]
+
 ghost use Rattle.std.specs.Prelude.{◌≡◌, length};
 ghost use Rattle.record_due.specs.Call.{record_due, record_due_buffer};
 

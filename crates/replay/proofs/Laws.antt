@@ -303,7 +303,8 @@ module _ (l : List ℕ) (d : Digest) (r : Reads l d) where
       let v = next (cell l (serial_cell o)) in
       let a = serial_set l d r o v m in
       let b = place_set (set l (serial_cell o) v) (with_serial d o v) a o 0 m in
-      subst (λ (s : ℕ). Reads (zeroed row_size (set (set l (serial_cell o) v) (place_cell o) 0) (row_cell o)) (without_row (with_rank (with_serial d o s) o 0) o))
+      subst (λ (s : ℕ). Reads (zeroed row_size (set (set l (serial_cell o) v) (place_cell o) 0) (row_cell o))
+      (without_row (with_rank (with_serial d o s) o 0) o))
       (ap next (r.serial_as o m))
       (row_zeroed (set (set l (serial_cell o) v) (place_cell o) 0) (with_rank (with_serial d o v) o 0) b o m)
 

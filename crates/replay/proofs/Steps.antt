@@ -33,7 +33,8 @@ pub taken_else : (l : List ℕ) (o t : ℕ) → takes (cell l (writes_cell o t))
 unfolding with_taken
 taken_else l o t e = simp e
 
-pub put_when : (l b : List ℕ) → first_yes (cell l (serial_cell (owner_of b))) (cell l (place_cell (owner_of b))) b ≡ true → with_put l b ≡ with_place l (owner_of b)
+pub put_when : (l b : List ℕ) → first_yes (cell l (serial_cell (owner_of b))) (cell l (place_cell (owner_of b))) b ≡ true → with_put l b
+    ≡ with_place l (owner_of b)
 unfolding with_put
 put_when l b e = simp e
 

@@ -292,7 +292,8 @@ module _ (l : List ℕ) (x v w o n : ℕ) where
     serial_one h false =
         of_at (author_serial_field shape) l₃ x t tt (omega (arith, length₃)) k n h
         ∙ ap (cond (eqb t x) n)
-        (of_with_apart (author_field shape) (author_serial_field shape) l₂ x t o tt ∙ of_with_apart (version_field shape) (author_serial_field shape) l₁ x t w tt
+        (of_with_apart (author_field shape) (author_serial_field shape) l₂ x t o tt
+        ∙ of_with_apart (version_field shape) (author_serial_field shape) l₁ x t w tt
         ∙ of_with_apart (value_field shape) (author_serial_field shape) l x t v tt)
 
 module _ (t : ℕ) (k : t < shape.objects) (o n : ℕ) (owner : o < 256) (serial : n < 256 ^ 4) where
@@ -405,7 +406,8 @@ module _ (l : List ℕ) (p : ℕ) where
   pub holding_owner : (o : ℕ) (es : List Entry) → owner_of (holding l o es) p ≡ owner_of l p
   unfolding owner_of
   holding_owner o es =
-      made_owner (holding_apart (serial_field shape) p tt l o es) (holding_apart (state_field shape) p tt l o es) (holding_apart (stamp_field shape) p tt l o es)
+      made_owner (holding_apart (serial_field shape) p tt l o es) (holding_apart (state_field shape) p tt l o es)
+      (holding_apart (stamp_field shape) p tt l o es)
 
   pub applied_owner : (o n : ℕ) (es : List Entry) → owner_of (applied l o n es) p ≡ owner_of l p
   unfolding owner_of

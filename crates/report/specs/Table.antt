@@ -7,7 +7,8 @@ use Rattle.report.specs.Texts.{fetch_word, copy_word, ask_word, yes_word, no_wor
 -- the bytes, one row behind another
 unfoldable pub words : Text
 words =
-    tally_twice_word ++ length_word ++ damaged_word ++ garbled_word ++ stranger_word ++ out_of_turn_word ++ no_such_word ++ eight_open_word ++ no_quorum_word ++ used_up_word
+    tally_twice_word ++ length_word ++ damaged_word ++ garbled_word ++ stranger_word ++ out_of_turn_word ++ no_such_word ++ eight_open_word ++ no_quorum_word
+    ++ used_up_word
     ++ busy_word ++ not_ready_word ++ pool_full_word ++ closed_word ++ bounds_word
     ++ fetch_word ++ copy_word ++ ask_word ++ no_word ++ yes_word ++ abort_word ++ commit_word ++ done_word ++ yield_word
 

@@ -9,7 +9,8 @@ use Rattle.steps.specs.Step.{found, reselect, abort, send, delivery, drop, switc
 use Rattle.buffers.specs.declared.Answer.{Answer}
 use Rattle.buffers.specs.Buffers.{all, ends}
 use Rattle.station_calls.specs.Calls.{host_told, host_records, switching, switch_told, switch_own}
-use Rattle.station.specs.Messages.{sending, send_told, send_pool, delivery_told, delivery_images, delivery_records, delivery_pool, dropping, drop_told, drop_pool}
+use Rattle.station.specs.Messages.{sending, send_told, send_pool, delivery_told, delivery_images, delivery_records, delivery_pool, dropping, drop_told}
+use Rattle.station.specs.Messages.{drop_pool}
 use Rattle.increments.specs.Deeds.{reads, writes, values}
 use Rattle.frontend.specs.Plan.{begin, batch, edit, request, load_classes}
 use Rattle.frontend.specs.Plan.{Call as Front}

@@ -10,7 +10,8 @@ use Rattle.steps.specs.Step.{hosted, send, delivery, drop, switch}
 use Rattle.steps.specs.Step.{Call as Step-call, step as step_of}
 use Rattle.station_calls.specs.Calls.{switching, switch_told, switch_own}
 use Rattle.station_calls.specs.Calls.{host_told as call_told, host_records as callRecords}
-use Rattle.station.specs.Messages.{sending, send_told, send_pool, dropping, drop_told, drop_pool, delivery_told, delivery_images, delivery_records, delivery_pool}
+use Rattle.station.specs.Messages.{sending, send_told, send_pool, dropping, drop_told, drop_pool, delivery_told, delivery_images, delivery_records}
+use Rattle.station.specs.Messages.{delivery_pool}
 use Rattle.holding.specs.Left.{told_of as stepTold, left_of as stepLeft, host_left as stepHostLeft}
 use Rattle.holding.proofs.Same.{host_told_lem, host_records_lem, send_same, drop_same, switch_same}
 use Rattle.history.specs.Claims.{Distances}
@@ -115,7 +116,10 @@ module _ (R O S list : List ℕ) (o : Order) where
   unfolding told_of left_of
   plain_tells k e h n c p s f t l x a r u v = by_kind k e h a r S
       (λ I P. u ∙ host_told_lem I R P O n c s (x [] []) (x I P) ∙ sym (t I P) ∙ ap (told_of (lent I R P O S)) (sym f))
-      (λ I P. (λ j. record { station = (ap (λ (m : List ℕ). all I m P O) (v ∙ host_records_lem I R P O n c s (x [] []) (x I P)) ∙ sym (l I P)) j; settings = S })
+      (λ I P. (λ j. record {
+        station = (ap (λ (m : List ℕ). all I m P O) (v ∙ host_records_lem I R P O n c s (x [] []) (x I P)) ∙ sym (l I P)) j;
+        settings = S;
+      })
       ∙ ap (left_of (lent I R P O S)) (sym f))
 
   pub front_tells : is_planned o.kind ≡ true → (a : Answer) (r s : List ℕ)
@@ -148,7 +152,8 @@ module _ (R O S list : List ℕ) (o : Order) where
 -- ---- a send, a delivery, a drop, a switch
 module _ (I R P O : List ℕ) (o : Order) where
   abbrev pub OtherTells : Answer → List ℕ → List ℕ → List ℕ → List ℕ → Type 0
-  OtherTells a i r p w = ((S list : List ℕ) → a ≡ other_told (lent I R P O S) o list) × ((S list : List ℕ) → lent i r p w S ≡ other_left (lent I R P O S) o list)
+  OtherTells a i r p w = ((S list : List ℕ) → a ≡ other_told (lent I R P O S) o list)
+      × ((S list : List ℕ) → lent i r p w S ≡ other_left (lent I R P O S) o list)
 
   abbrev B : Buffers
   B = all I R P O

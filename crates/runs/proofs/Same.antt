@@ -14,7 +14,8 @@ use Rattle.buffers.specs.Buffers.{record_in, station_of, all, with_record_at, ho
 use Rattle.frontend.specs.Plan.{Call as Front}
 use Rattle.service.specs.Service.{front, plan_at, is_on, made, number_of, answer_of, settings_of, load_number, step}
 use Rattle.service.proofs.Laws.{put_here, after_at}
-use Rattle.service_calls.specs.Lent.{Lent, lent, service_of, told, front_first, front_told, front_records, front_settings, load_first, load_told, load_settings}
+use Rattle.service_calls.specs.Lent.{Lent, lent, service_of, told, front_first, front_told, front_records, front_settings, load_first, load_told}
+use Rattle.service_calls.specs.Lent.{load_settings}
 
 module _ (I R P O S : List ℕ) where
   abbrev a : Lent

@@ -1,6 +1,7 @@
 // A step of any kind at the service over its five lent buffers, a host's call or another; and what is claimed of every list of steps from an origin, in its
 // contract.
 #![tactic(auto)]
+
 ghost use Rattle.std.specs.Prelude.{◌≡◌, List, [], ℕ};
 ghost use Rattle.service_calls.specs.Lent.{lent, blank_number, blank_after};
 ghost use Rattle.accounts.specs.Accounts.{blank_origin};

@@ -126,7 +126,8 @@ fit_next r going = fit_fresh
 line_inv : (d : Desk) (s : Story) → Inv d s
     → Inv (desk (line_reader d.reader d.list) (line_buffers d.reader d.list d.buffers) (line_list d.reader d.list)
     (line_sheet d.reader d.list d.buffers d.sheet)) (line_story d.reader d.list s)
-unfolding line_reader line_buffers line_list line_sheet line_story pick anew_reader anew_buffers anew_sheet list_reader laid_reader laid_buffers laid_sheet timed
+unfolding line_reader line_buffers line_list line_sheet line_story pick anew_reader anew_buffers anew_sheet list_reader laid_reader laid_buffers laid_sheet
+    timed
 line_inv d s i = by (eqb p.what 2) (eqb p.what 3) (eqb p.what 4) (eqb p.what 5) (eqb p.what 6)
   where
     r : Reader

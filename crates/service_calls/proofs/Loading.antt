@@ -37,7 +37,8 @@ module _ (O S : List ℕ) (n : ℕ) (list : List ℕ) where
 
   module _ (z : lower (lower (own_number O) (settings_first S n)) (table_number list) ≡ 0) where
     none : (settings_first S n ≡ 0) × (table_number list ≡ 0)
-    none = let a = lower_none (lower (own_number O) (settings_first S n)) (table_number list) z in ((lower_none (own_number O) (settings_first S n) a.0).1, a.1)
+    none = let a = lower_none (lower (own_number O) (settings_first S n)) (table_number list) z
+        in ((lower_none (own_number O) (settings_first S n) a.0).1, a.1)
 
     first : load_first b n list ≡ 0
     unfolding load_first

@@ -1,11 +1,13 @@
 // The station with thirteen front ends, over five lent buffers: the station's four and the settings. A host's call goes by its node's front end, hours are
 // loaded, and a blank service is made; every other step is the station's own.
 #![tactic(auto)]
+
 ghost use Rattle.std.specs.Prelude.{◌≡◌, []};
 ghost use Rattle.frontend.specs.Asked.{call_of};
 ghost use Rattle.record.specs.declared.Called.{Called};
 ghost use Rattle.buffers.specs.Buffers.{answer_with};
-ghost use Rattle.service_calls.specs.Lent.{lent, settings_first, front_told, front_records, front_settings, load_told, load_settings, blank_number, blank_after};
+ghost use Rattle.service_calls.specs.Lent.{lent, settings_first, front_told, front_records, front_settings, load_told, load_settings, blank_number};
+ghost use Rattle.service_calls.specs.Lent.{blank_after};
 
 use buffers::{Answer, ends_number, on, own_number, refused};
 use frontend::Ask;

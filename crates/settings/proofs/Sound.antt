@@ -41,7 +41,8 @@ sound_parts s =
     (below10 (left_in s))
     refl refl refl refl refl refl
   where
-    by : (a b c d e f : Bool) → eqb (length s) settings_size ≡ a → eqb (kept_number (hours_in s)) 0 ≡ b → sound (classes_in s) ≡ c → ltb batch_kind (kind_in s) ≡ d
+    by : (a b c d e f : Bool) → eqb (length s) settings_size ≡ a → eqb (kept_number (hours_in s)) 0 ≡ b → sound (classes_in s) ≡ c → ltb batch_kind (kind_in s)
+        ≡ d
         → below10 (waited_in s) ≡ e → below10 (left_in s) ≡ f
         → ◌≡◌ {A = ℕ} (cond (not a) 1 (cond (not b || (not c || (d || not (e && f)))) 2 0)) 0 → Sound s
     by true true true false true true p q r t u v z =

@@ -73,7 +73,8 @@ below10 l = every (λ (t : ℕ). leb t 9) l
 
 unfoldable pub unsound : List ℕ → Bool
 unsound s =
-    not (eqb (kept_number (hours_in s)) 0) || (not (sound (classes_in s)) || (ltb batch_kind (kind_in s) || not (below10 (waited_in s) && below10 (left_in s))))
+    not (eqb (kept_number (hours_in s)) 0)
+    || (not (sound (classes_in s)) || (ltb batch_kind (kind_in s) || not (below10 (waited_in s) && below10 (left_in s))))
 
 unfoldable pub settings_number : List ℕ → ℕ
 settings_number s = first_of (refuse wrong_length (not (eqb (length s) settings_size)) ∷ refuse damaged (unsound s) ∷ [])

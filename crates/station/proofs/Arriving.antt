@@ -177,7 +177,8 @@ module _ (I R P O : List ℕ) (k : ℕ) (kept : Bool) where
         at_replica_lem v y j a i p t' =
             let t = subst (λ (y : ℕ). Leaves I R P O y k kept a i p (at_replica st k kept y m)) j t' in
             let r = reaches_is true true u v in
-            by_parts 0 false (to_of m) (at_replica st k kept (to_of m) m) (first_is false (ap (λ (b : Bool). b && record_damaged R (to_of (message_in B k))) r)) r
+            by_parts 0 false (to_of m) (at_replica st k kept (to_of m) m)
+            (first_is false (ap (λ (b : Bool). b && record_damaged R (to_of (message_in B k))) r)) r
             (ap to_of is_m) (arrives ∙ simp (u, v)) a i R p t.0 t.1.0 refl t.1.1
 
         -- ---- at a coordinator

@@ -187,7 +187,8 @@ module _ (R : List ℕ) (n to object : ℕ) (w : Written) (d : w ≡ owed_at R n
       by true q = absurd (e (ap (λ (x : Written). x.number) d ∙ simp q))
       by false q = (q, d ∙ simp q)
 
-pub owed_put : (R : List ℕ) (n to object : ℕ) (l : List ℕ) → record_damaged R n ≡ false → owed_into R n to object l ≡ due_buffer tree (record_in R n) n to object l
+pub owed_put : (R : List ℕ) (n to object : ℕ) (l : List ℕ) → record_damaged R n ≡ false → owed_into R n to object l
+    ≡ due_buffer tree (record_in R n) n to object l
 unfolding owed_into
 owed_put R n to object l e = simp e
 
@@ -217,11 +218,13 @@ module _ (R P O : List ℕ) (n : ℕ) where
 
   pub send_first_lem : (lower (ends_first (length R) O) (pool.check P) ≡ 0 → ⊥) → lower (ends_first (length R) O) (pool.check P) ≡ send_first (sending R P O) n
   unfolding send_first host_first ends_first pool.check
-  send_first_lem = (rest (wrong R records_size || wrong O own_size) (own_damaged O) (record_damaged R n) (not (eqb (length P) pool_size)) (ltb most_waiting (count P))).0
+  send_first_lem = (rest (wrong R records_size || wrong O own_size) (own_damaged O) (record_damaged R n) (not (eqb (length P) pool_size))
+      (ltb most_waiting (count P))).0
 
   pub send_next : lower (ends_first (length R) O) (pool.check P) ≡ 0 → send_first (sending R P O) n ≡ cond (record_damaged R n) 2 0
   unfolding send_first host_first ends_first pool.check
-  send_next = (rest (wrong R records_size || wrong O own_size) (own_damaged O) (record_damaged R n) (not (eqb (length P) pool_size)) (ltb most_waiting (count P))).1
+  send_next = (rest (wrong R records_size || wrong O own_size) (own_damaged O) (record_damaged R n) (not (eqb (length P) pool_size))
+      (ltb most_waiting (count P))).1
 
 pub pool_first : (n m : ℕ) (o : Outcome) (l : List ℕ) → n ≡ m → (n ≡ 0 → ⊥) → l ≡ pool_after m o l
 unfolding pool_after
@@ -236,7 +239,8 @@ module _ (R P O : List ℕ) (n to object : ℕ) where
   o = send_of (station_of (sending R P O)) n to object
 
   -- the node is off
-  pub off_told_lem : contains (on_of O) n ≡ false → (w : Written) → w ≡ due_written tree longest_message c n to object → answer_with (when_off w.number) 0 ≡ told 0 o
+  pub off_told_lem : contains (on_of O) n ≡ false → (w : Written) → w ≡ due_written tree longest_message c n to object → answer_with (when_off w.number) 0
+      ≡ told 0 o
   unfolding told send_of send_number Case
   off_told_lem e w d =
       ap (λ (k : ℕ). answer_with k 0) (by (cases c n to object w d))

@@ -18,7 +18,8 @@ use Rattle.steps.specs.Step.{send, delivery, drop, Outcome, at_replica, at_coord
 use Rattle.letters.specs.declared.Written.{Written}
 use Rattle.letters.specs.Write.{answer}
 use Rattle.due.specs.Due.{due_written, due_buffer}
-use Rattle.buffers.specs.Buffers.{Buffers, images_size, records_size, image_at, with_image_at, record_at, with_record_at, record_in, on_of, station_of, record_damaged}
+use Rattle.buffers.specs.Buffers.{Buffers, images_size, records_size, image_at, with_image_at, record_at, with_record_at, record_in, on_of, station_of}
+use Rattle.buffers.specs.Buffers.{record_damaged}
 use Rattle.buffers.specs.Buffers.{record_first, own_number, host_first, told, goes, records_after}
 
 -- ---- a send reads a record and who is on, and puts a message at the pool's end

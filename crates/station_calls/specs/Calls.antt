@@ -16,7 +16,8 @@ use Rattle.pool.specs.Change.{blank as blankPool}
 use Rattle.buffers.specs.declared.Answer.{Answer}
 use Rattle.steps.specs.Step.{Call, switch, step}
 use Rattle.record.specs.declared.Called.{Called}
-use Rattle.buffers.specs.Buffers.{Buffers, all, images_size, records_size, own_size, on_of, station_of, wrong, own_damaged, own_number, host_first, answer_with, told}
+use Rattle.buffers.specs.Buffers.{Buffers, all, images_size, records_size, own_size, on_of, station_of, wrong, own_damaged, own_number, host_first}
+use Rattle.buffers.specs.Buffers.{answer_with, told}
 use Rattle.buffers.specs.Buffers.{goes, records_after}
 
 -- ---- a host call

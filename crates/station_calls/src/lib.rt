@@ -1,5 +1,6 @@
 // A host's calls at a station's nodes, switching a node on or off, and the maker of a blank station, over the lent buffers.
 #![tactic(auto)]
+
 mod blanks;
 mod calls;
 mod switches;

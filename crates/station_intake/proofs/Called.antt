@@ -58,7 +58,8 @@ one_number l o e = rw e (by (is_older o))
     by true = refl
     by false = refl
 
-one_taken : (s : Shape) (l image : List ℕ) → older_of (length l) ≡ some s → length image ≡ image_size shape → valid s l ≡ true → take_after l image ≡ taken_in s l
+one_taken : (s : Shape) (l image : List ℕ) → older_of (length l) ≡ some s → length image ≡ image_size shape → valid s l ≡ true → take_after l image
+    ≡ taken_in s l
 unfolding take_after take_number take_refusals
 one_taken s l image e n v = rw (e, eq-eqb (length image) (image_size shape) n, v)
 

@@ -50,7 +50,8 @@ module _ (s : Shape) (l : List ℕ) where
   unfolding taken_of
   length_of_lem zero = refl
   length_of_lem (suc n) =
-      length-append (taken_of s l n) (taken_in s (old_at s l n)) ∙ (let a = length_of_lem n in let b = length_taken s (old_at s l n) in omega (arith, mul-suc size n))
+      length-append (taken_of s l n) (taken_in s (old_at s l n))
+      ∙ (let a = length_of_lem n in let b = length_taken s (old_at s l n) in omega (arith, mul-suc size n))
 
   pub length_all : length (all_taken s l) ≡ images_size
   length_all = length_of_lem nodes

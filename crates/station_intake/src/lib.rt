@@ -1,5 +1,6 @@
 // Takes in a station's thirteen images of an older length: each is written as one of today's.
 #![tactic(auto)]
+
 ghost use Rattle.std.specs.Prelude.{◌≡◌, ◌*◌, length};
 ghost use Rattle.numbers.specs.Sizes.{nodes};
 ghost use Rattle.buffers.specs.Buffers.{images_size};

@@ -1,6 +1,7 @@
 // Replay told of a batch: which objects it opens to write and their grams, once it has begun, and their new values, once its votes are asked for. Both are
 // read from its node's record after the step.
 #![tactic(auto)]
+
 ghost use Rattle.std.specs.Prelude.{◌≡◌, cond, ◌<◌, min, length};
 ghost use Rattle.numbers.specs.Sizes.{nodes};
 ghost use Rattle.replay.specs.Sheet.{opened_after};

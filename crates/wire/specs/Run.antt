@@ -21,7 +21,8 @@ owner_in r = r.owner
 -- the length is that of the sections, and the kind allows the counts
 abbrev pub fitting_sections : List ℕ → Bool
 fitting_sections l =
-    eqb (length l) (size_with (entry_count l) (rival_count l) (word_count l)) && counts_ok (kind_of l) (entry_count l) (rival_count l) (word_count l) (word_of l)
+    eqb (length l) (size_with (entry_count l) (rival_count l) (word_count l))
+    && counts_ok (kind_of l) (entry_count l) (rival_count l) (word_count l) (word_of l)
 
 -- the word behind n entries, r rivals and the count w, 0 where there is none
 abbrev pub word_with : List ℕ → ℕ → ℕ → ℕ → ℕ

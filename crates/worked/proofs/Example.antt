@@ -59,7 +59,8 @@ unfolding behind walk swept quick_blank quick_step standing above_of active ente
 quick_fetched = refl
 
 quick_voted : quick_step (second quick_blank) 7 asking ≡ gives (third quick_blank) yes
-unfolding behind walk swept quick_blank quick_step standing above_of active entered field_of with_field get put counted some some_below held_by_another newer_here
+unfolding behind walk swept quick_blank quick_step standing above_of active entered field_of with_field get put counted some some_below held_by_another
+    newer_here
     gathered rivals_of older_among votes_no named_below serials_of holding judged_answer ask_answer rivals_by
 quick_voted = refl
 

@@ -11,7 +11,8 @@ use Rattle.classes.specs.Weights.{weights}
 use Rattle.classes.proofs.all_light.Given as goal
 
 abbrev pub invariant-loop-left : goal.invariant-loop-left
-invariant-loop-left l = ((l.light && every (λ (w : ℕ). ltb w too_heavy) (items_from (get 2) 2 l.left l.list l.at)) ≡ every (λ (w : ℕ). ltb w too_heavy) (weights l.list))
+invariant-loop-left l = ((l.light && every (λ (w : ℕ). ltb w too_heavy) (items_from (get 2) 2 l.left l.list l.at))
+    ≡ every (λ (w : ℕ). ltb w too_heavy) (weights l.list))
     × (l.at + 2 * l.left ≤ 131072)
 
 abbrev pub decreases-loop-left : goal.decreases-loop-left

@@ -10,7 +10,8 @@ use Rattle.classes.specs.Classes.{tally_at, tallies}
 use Rattle.classes.proofs.is_strange.Given as goal
 
 abbrev pub invariant-loop-left : goal.invariant-loop-left
-invariant-loop-left l = ((l.known && every (λ (t : ℕ). ltb t objects) (items_from tally_at 1 l.left l.list l.at)) ≡ every (λ (t : ℕ). ltb t objects) (tallies l.list)) × (l.at + l.left ≤ 768)
+invariant-loop-left l = ((l.known && every (λ (t : ℕ). ltb t objects) (items_from tally_at 1 l.left l.list l.at))
+    ≡ every (λ (t : ℕ). ltb t objects) (tallies l.list)) × (l.at + l.left ≤ 768)
 
 abbrev pub decreases-loop-left : goal.decreases-loop-left
 decreases-loop-left l = l.left

@@ -7,7 +7,8 @@ use Rattle.decimal.specs.Decimal.{digits, decimal}
 use Rattle.decimal.proofs.text_of.Given as goal
 
 abbrev pub invariant-loop-rest : goal.invariant-loop-rest
-invariant-loop-rest l = (l.from ≤ 19) × (length l.bytes ≡ 20) × (l.rest < 10 ^ suc l.from) × (digits (suc l.from) l.rest ++ drop (suc l.from) l.bytes ≡ decimal l.n)
+invariant-loop-rest l = (l.from ≤ 19) × (length l.bytes ≡ 20) × (l.rest < 10 ^ suc l.from)
+    × (digits (suc l.from) l.rest ++ drop (suc l.from) l.bytes ≡ decimal l.n)
 
 abbrev pub decreases-loop-rest : goal.decreases-loop-rest
 decreases-loop-rest l = l.rest

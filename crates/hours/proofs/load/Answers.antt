@@ -46,4 +46,5 @@ returns-else-n-eq0-clause-kept_after c = let x = c.args in
     let k = x.kept.now in
     let l = x.list.now in
     let n = c.number-n.ensures in
-    simp (eq-eqb (length k) kept_size c.if-kept-ne-KEPT.false) (sym (ap (λ (b : Bool). cond b (stored l) k) (ne_eqb (table_number l) 0 (λ e. c.if-n-eq0.false (n ∙ e)))))
+    simp (eq-eqb (length k) kept_size c.if-kept-ne-KEPT.false)
+    (sym (ap (λ (b : Bool). cond b (stored l) k) (ne_eqb (table_number l) 0 (λ e. c.if-n-eq0.false (n ∙ e)))))

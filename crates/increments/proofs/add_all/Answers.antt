@@ -40,10 +40,10 @@ pub returns-clause-bytes_after : goal.returns-clause-bytes_after
 returns-clause-bytes_after c = let x = c.args in
     let k = c.loop-i in
     let e : k.i ≡ x.n = omega arith in
-      k.invariant.1.bytes ∙ ap (λ (n : ℕ). bytes_of (ran tree (record_of x.bytes.now) x.me (adding (amounts_of n x.objects x.grams) []))) e
+    k.invariant.1.bytes ∙ ap (λ (n : ℕ). bytes_of (ran tree (record_of x.bytes.now) x.me (adding (amounts_of n x.objects x.grams) []))) e
 
 pub returns-clause-bytes_after_2 : goal.returns-clause-bytes_after_2
 returns-clause-bytes_after_2 c = let x = c.args in
     let k = c.loop-i in
     let e : k.i ≡ x.n = omega arith in
-      holds_checked _ _ k.invariant.1
+    holds_checked _ _ k.invariant.1

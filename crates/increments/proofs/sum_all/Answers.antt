@@ -38,7 +38,8 @@ pub returns-clause-bytes_after : goal.returns-clause-bytes_after
 returns-clause-bytes_after c = let k = c.loop-i in
     let x = c.args in
     let l = x.bytes.now in
-    let e : k.i ≡ (record_of l).count = omega (arith, c.count-n.ensures) in k.invariant.1.bytes ∙ ap (λ (n : ℕ). bytes_of (sums_to tree (record_of l) x.me n)) e
+    let e : k.i ≡ (record_of l).count = omega (arith, c.count-n.ensures) in k.invariant.1.bytes
+    ∙ ap (λ (n : ℕ). bytes_of (sums_to tree (record_of l) x.me n)) e
 
 pub returns-clause-bytes_after_2 : goal.returns-clause-bytes_after_2
 returns-clause-bytes_after_2 c = let k = c.loop-i in

@@ -14,7 +14,8 @@ returns-then-len-eq-SIZE_WITH_AUTHORS-clause-fits c = (omega arith, omega arith)
 
 pub returns-then-len-eq-SIZE_BEFORE_AUTHORS-clause-len_value : goal.returns-then-len-eq-SIZE_BEFORE_AUTHORS-clause-len_value
 unfolding older_of
-returns-then-len-eq-SIZE_BEFORE_AUTHORS-clause-len_value c = simp (ne_eqb _ _ c.if-len-eq-SIZE_WITH_AUTHORS.false, eq-eqb _ _ c.if-len-eq-SIZE_BEFORE_AUTHORS.true)
+returns-then-len-eq-SIZE_BEFORE_AUTHORS-clause-len_value c = simp
+    (ne_eqb _ _ c.if-len-eq-SIZE_WITH_AUTHORS.false, eq-eqb _ _ c.if-len-eq-SIZE_BEFORE_AUTHORS.true)
 
 pub returns-then-len-eq-SIZE_BEFORE_AUTHORS-clause-fits : goal.returns-then-len-eq-SIZE_BEFORE_AUTHORS-clause-fits
 unfolding older_of

@@ -7,7 +7,8 @@ use Rattle.intake.specs.Pass.{shape_of}
 use Rattle.intake.proofs.set_copies.Given as goal
 
 abbrev pub invariant-loop-t : goal.invariant-loop-t
-invariant-loop-t l = (l.t ≤ l.s.objects) × (length l.image ≡ length l.initial.image) × (l.image ≡ with_copies (copy_as (shape_of l.s) l.old) l.t l.initial.image)
+invariant-loop-t l = (l.t ≤ l.s.objects) × (length l.image ≡ length l.initial.image)
+    × (l.image ≡ with_copies (copy_as (shape_of l.s) l.old) l.t l.initial.image)
 
 abbrev pub decreases-loop-t : goal.decreases-loop-t
 decreases-loop-t l = l.s.objects - l.t

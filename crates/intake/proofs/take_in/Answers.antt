@@ -5,10 +5,12 @@ use Rattle.intake.proofs.Called.{called, laid}
 use Rattle.intake.proofs.take_in.Goals as goal
 
 pub returns-then-either-clause-number : goal.returns-then-either-clause-number
-returns-then-either-clause-number c = let x = c.args in (called x.old.now x.image.now c.older_of-s.result c.older_of-s.ensures.len_value true _ (sym c.either.ensures ∙ c.if-either.true) refl).0
+returns-then-either-clause-number c = let x = c.args
+    in (called x.old.now x.image.now c.older_of-s.result c.older_of-s.ensures.len_value true _ (sym c.either.ensures ∙ c.if-either.true) refl).0
 
 pub returns-then-either-clause-image : goal.returns-then-either-clause-image
-returns-then-either-clause-image c = let x = c.args in (called x.old.now x.image.now c.older_of-s.result c.older_of-s.ensures.len_value true _ (sym c.either.ensures ∙ c.if-either.true) refl).1
+returns-then-either-clause-image c = let x = c.args
+    in (called x.old.now x.image.now c.older_of-s.result c.older_of-s.ensures.len_value true _ (sym c.either.ensures ∙ c.if-either.true) refl).1
 
 pub returns-then-not-is_valid-clause-number : goal.returns-then-not-is_valid-clause-number
 returns-then-not-is_valid-clause-number c = let x = c.args in (called x.old.now x.image.now c.older_of-s.result c.older_of-s.ensures.len_value false false
@@ -30,4 +32,5 @@ returns-clause-image c = let old = c.args.old.now in
     let image = c.args.image.now in
     let s = c.older_of-s in
     let fit = sym c.either.ensures ∙ c.if-either.false in
-    let r = called old image s.result s.ensures.len_value false true fit (sym c.is_valid.ensures ∙ c.if-not-is_valid.false) in laid old image s.result s.ensures.len_value _ _ fit c.fill.ensures c.lay.ensures ∙ r.1
+    let r = called old image s.result s.ensures.len_value false true fit (sym c.is_valid.ensures ∙ c.if-not-is_valid.false)
+    in laid old image s.result s.ensures.len_value _ _ fit c.fill.ensures c.lay.ensures ∙ r.1

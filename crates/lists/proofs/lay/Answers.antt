@@ -159,7 +159,8 @@ returns-clause-bytes c = let l = c.loop-i in
     let few : leb (length numbers + 1) (min 4098 (room / 4)) ≡ true =
     le-leb (length numbers + 1) (min 4098 (room / 4)) (rw length-take (omega (arith, count, most, c.if-least-count.false))) in
     let all : l.i ≡ length numbers = rw length-take (omega arith) in
-    let yes : true ≡ fit_from a.shape (first numbers) 0 numbers = fit_end a.shape n l.i numbers _ l.invariant.4 all in rw (few, ← yes) (sym (lay_end a.shape n l.i numbers l.out l.at all) ∙ l.invariant.5)
+    let yes : true ≡ fit_from a.shape (first numbers) 0 numbers = fit_end a.shape n l.i numbers _ l.invariant.4 all
+    in rw (few, ← yes) (sym (lay_end a.shape n l.i numbers l.out l.at all) ∙ l.invariant.5)
 
 pub returns-clause-long : goal.returns-clause-long
 unfolding fits

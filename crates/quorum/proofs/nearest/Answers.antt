@@ -78,7 +78,8 @@ returns-else-key-lt-ABSENT-clause-value c = let a = c.args in
     let k = c.with_root-key in
     let ks = c.keys_of-keys.result in
     let e = k.ensures ∙ ap (root_key a.kind (get_or ks 0 0)) c.best_pair-pair.ensures in
-    let m = meaning a.kind a.asker a.live d ks k.result c.keys_of-keys.ensures e in (all_said a.kind a.asker a.live d _ (meant_nothing a.asker (turns a.kind) 2818005 k.result _ (omega arith) m c.if-key-lt-ABSENT.false)).0
+    let m = meaning a.kind a.asker a.live d ks k.result c.keys_of-keys.ensures e
+    in (all_said a.kind a.asker a.live d _ (meant_nothing a.asker (turns a.kind) 2818005 k.result _ (omega arith) m c.if-key-lt-ABSENT.false)).0
 
 pub returns-else-key-lt-ABSENT-clause-result_value : goal.returns-else-key-lt-ABSENT-clause-result_value
 returns-else-key-lt-ABSENT-clause-result_value c = let a = c.args in
@@ -86,7 +87,8 @@ returns-else-key-lt-ABSENT-clause-result_value c = let a = c.args in
     let k = c.with_root-key in
     let ks = c.keys_of-keys.result in
     let e = k.ensures ∙ ap (root_key a.kind (get_or ks 0 0)) c.best_pair-pair.ensures in
-    let m = meaning a.kind a.asker a.live d ks k.result c.keys_of-keys.ensures e in (all_said a.kind a.asker a.live d _ (meant_nothing a.asker (turns a.kind) 2818005 k.result _ (omega arith) m c.if-key-lt-ABSENT.false)).1.0
+    let m = meaning a.kind a.asker a.live d ks k.result c.keys_of-keys.ensures e
+    in (all_said a.kind a.asker a.live d _ (meant_nothing a.asker (turns a.kind) 2818005 k.result _ (omega arith) m c.if-key-lt-ABSENT.false)).1.0
 
 pub returns-else-key-lt-ABSENT-clause-result_value_2 : goal.returns-else-key-lt-ABSENT-clause-result_value_2
 returns-else-key-lt-ABSENT-clause-result_value_2 c = let a = c.args in
@@ -94,4 +96,5 @@ returns-else-key-lt-ABSENT-clause-result_value_2 c = let a = c.args in
     let k = c.with_root-key in
     let ks = c.keys_of-keys.result in
     let e = k.ensures ∙ ap (root_key a.kind (get_or ks 0 0)) c.best_pair-pair.ensures in
-    let m = meaning a.kind a.asker a.live d ks k.result c.keys_of-keys.ensures e in (all_said a.kind a.asker a.live d _ (meant_nothing a.asker (turns a.kind) 2818005 k.result _ (omega arith) m c.if-key-lt-ABSENT.false)).1.1
+    let m = meaning a.kind a.asker a.live d ks k.result c.keys_of-keys.ensures e
+    in (all_said a.kind a.asker a.live d _ (meant_nothing a.asker (turns a.kind) 2818005 k.result _ (omega arith) m c.if-key-lt-ABSENT.false)).1.1

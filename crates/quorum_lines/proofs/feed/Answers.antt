@@ -75,24 +75,29 @@ shape_of-out-after-loop-i c = kept_length c.loop-i.invariant
 pub returns-after-loop-i-clause-line : goal.returns-after-loop-i-clause-line
 returns-after-loop-i-clause-line c = let l = c.loop-i in
     let x = c.args in
-    let room = length x.out.now - l.at in (stop l.invariant (ap (piece room l.l) (drop_of_length-le x.input.now c.loop-i-test.false) ∙ piece_nothing room l.l)).0
+    let room = length x.out.now - l.at
+    in (stop l.invariant (ap (piece room l.l) (drop_of_length-le x.input.now c.loop-i-test.false) ∙ piece_nothing room l.l)).0
 
 pub returns-after-loop-i-clause-used : goal.returns-after-loop-i-clause-used
 returns-after-loop-i-clause-used c = let l = c.loop-i in
     let x = c.args in
-    let room = length x.out.now - l.at in (stop l.invariant (ap (piece room l.l) (drop_of_length-le x.input.now c.loop-i-test.false) ∙ piece_nothing room l.l)).1.0
+    let room = length x.out.now - l.at
+    in (stop l.invariant (ap (piece room l.l) (drop_of_length-le x.input.now c.loop-i-test.false) ∙ piece_nothing room l.l)).1.0
 
 pub returns-after-loop-i-clause-written : goal.returns-after-loop-i-clause-written
 returns-after-loop-i-clause-written c = let l = c.loop-i in
     let x = c.args in
-    let room = length x.out.now - l.at in (stop l.invariant (ap (piece room l.l) (drop_of_length-le x.input.now c.loop-i-test.false) ∙ piece_nothing room l.l)).1.1.0
+    let room = length x.out.now - l.at
+    in (stop l.invariant (ap (piece room l.l) (drop_of_length-le x.input.now c.loop-i-test.false) ∙ piece_nothing room l.l)).1.1.0
 
 pub returns-after-loop-i-clause-buffer : goal.returns-after-loop-i-clause-buffer
 returns-after-loop-i-clause-buffer c = let l = c.loop-i in
     let x = c.args in
-    let room = length x.out.now - l.at in (stop l.invariant (ap (piece room l.l) (drop_of_length-le x.input.now c.loop-i-test.false) ∙ piece_nothing room l.l)).1.1.1.0
+    let room = length x.out.now - l.at
+    in (stop l.invariant (ap (piece room l.l) (drop_of_length-le x.input.now c.loop-i-test.false) ∙ piece_nothing room l.l)).1.1.1.0
 
 pub returns-after-loop-i-clause-within : goal.returns-after-loop-i-clause-within
 returns-after-loop-i-clause-within c = let l = c.loop-i in
     let x = c.args in
-    let room = length x.out.now - l.at in (stop l.invariant (ap (piece room l.l) (drop_of_length-le x.input.now c.loop-i-test.false) ∙ piece_nothing room l.l)).1.1.1.1
+    let room = length x.out.now - l.at
+    in (stop l.invariant (ap (piece room l.l) (drop_of_length-le x.input.now c.loop-i-test.false) ∙ piece_nothing room l.l)).1.1.1.1

@@ -61,7 +61,8 @@ pub returns-clause-buffer : goal.returns-clause-buffer
 returns-clause-buffer c = let x = c.args in
     let l = x.out.now in
     let e : last_in (length l) x.line ≡ [] =
-    last_fits (length l) x.line false (omega arith) (sym c.is_begun.ensures ∙ c.if-is_begun.false) in sym (put_nothing l 0 (omega arith)) ∙ sym (ap (put_at l 0) e)
+    last_fits (length l) x.line false (omega arith) (sym c.is_begun.ensures ∙ c.if-is_begun.false) in sym (put_nothing l 0 (omega arith))
+    ∙ sym (ap (put_at l 0) e)
 
 pub returns-clause-within : goal.returns-clause-within
 returns-clause-within c = let x = c.args in

@@ -13,12 +13,14 @@ use Rattle.record_arrive.proofs.receive.Goals as goal
 pub returns-then-number-eq-LENGTH-clause-value : goal.returns-then-number-eq-LENGTH-clause-value
 returns-then-number-eq-LENGTH-clause-value c = let x = c.args in
     let k = record_of x.bytes.now in
-    let t = (number_length k x.me x.message.now _ (c.receive_number-number.ensures k)).0 c.if-number-eq-LENGTH.true in c.refused.ensures ∙ short_answer x.me x.message.now x.bytes.now t
+    let t = (number_length k x.me x.message.now _ (c.receive_number-number.ensures k)).0 c.if-number-eq-LENGTH.true in c.refused.ensures
+    ∙ short_answer x.me x.message.now x.bytes.now t
 
 pub returns-then-number-eq-LENGTH-clause-bytes_after : goal.returns-then-number-eq-LENGTH-clause-bytes_after
 returns-then-number-eq-LENGTH-clause-bytes_after c = let x = c.args in
     let k = record_of x.bytes.now in
-    let t = (number_length k x.me x.message.now _ (c.receive_number-number.ensures k)).0 c.if-number-eq-LENGTH.true in short_bytes x.me x.message.now x.bytes.now t
+    let t = (number_length k x.me x.message.now _ (c.receive_number-number.ensures k)).0 c.if-number-eq-LENGTH.true
+    in short_bytes x.me x.message.now x.bytes.now t
 
 pub returns-then-checked-ne0-clause-value : goal.returns-then-checked-ne0-clause-value
 returns-then-checked-ne0-clause-value c = let x = c.args in

@@ -18,7 +18,7 @@ returns-then-number-ne0-clause-value c = let x = c.args in
       c.refuse-bad.ensures,
       c.check-checked.ensures,
     ) in
-      due_refused x.bytes.now x.me x.node x.object (length x.out.now) _ e c.if-number-ne0.true
+    due_refused x.bytes.now x.me x.node x.object (length x.out.now) _ e c.if-number-ne0.true
 
 pub returns-then-number-ne0-clause-out_after : goal.returns-then-number-ne0-clause-out_after
 unfolding due_first
@@ -30,7 +30,7 @@ returns-then-number-ne0-clause-out_after c = let x = c.args in
       c.refuse-bad.ensures,
       c.check-checked.ensures,
     ) in
-      due_left x.bytes.now x.me x.node x.object x.out.now _ e c.if-number-ne0.true
+    due_left x.bytes.now x.me x.node x.object x.out.now _ e c.if-number-ne0.true
 
 pub slice_bounds-write-end : goal.slice_bounds-write-end
 unfolding due_first
@@ -85,7 +85,7 @@ returns-clause-value c = let x = c.args in
     let l = x.bytes.now in
     let same = ap record_of (all_of l (due_clear l (length x.out.now) z).0) in
     let w = c.write.ensures in
-      w.value ∙ due_taken l x.me x.node x.object (length x.out.now) z _ same
+    w.value ∙ due_taken l x.me x.node x.object (length x.out.now) z _ same
 
 pub returns-clause-out_after : goal.returns-clause-out_after
 unfolding due_first
@@ -101,4 +101,4 @@ returns-clause-out_after c = let x = c.args in
     let l = x.bytes.now in
     let same = ap record_of (all_of l (due_clear l (length x.out.now) z).0) in
     let w = c.write.ensures in
-      w.out_after ∙ due_filled l x.me x.node x.object x.out.now z _ same
+    w.out_after ∙ due_filled l x.me x.node x.object x.out.now z _ same

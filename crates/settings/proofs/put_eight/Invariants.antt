@@ -7,7 +7,8 @@ use Rattle.classes.specs.Classes.{most_classes}
 use Rattle.settings.proofs.put_eight.Given as goal
 
 abbrev pub invariant-loop-i : goal.invariant-loop-i
-invariant-loop-i l = (l.i ≤ most_classes) × (length l.bytes ≡ length l.initial.bytes) × (sets l.bytes (l.at + l.i) (drop l.i l.list) ≡ sets l.initial.bytes l.at l.list)
+invariant-loop-i l = (l.i ≤ most_classes) × (length l.bytes ≡ length l.initial.bytes)
+    × (sets l.bytes (l.at + l.i) (drop l.i l.list) ≡ sets l.initial.bytes l.at l.list)
 
 abbrev pub decreases-loop-i : goal.decreases-loop-i
 decreases-loop-i l = most_classes - l.i

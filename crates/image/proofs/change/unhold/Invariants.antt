@@ -8,7 +8,8 @@ use Rattle.image.specs.Layout.{shape, holder_field}
 use Rattle.image.proofs.change.unhold.Given as goal
 
 abbrev pub invariant-loop-t : goal.invariant-loop-t
-invariant-loop-t l = (l.t ≤ shape.objects) × (length l.image ≡ length l.initial.image) × (l.image ≡ changed_all (holder_field shape) (λ h. nobody) l.t l.initial.image)
+invariant-loop-t l = (l.t ≤ shape.objects) × (length l.image ≡ length l.initial.image)
+    × (l.image ≡ changed_all (holder_field shape) (λ h. nobody) l.t l.initial.image)
 
 abbrev pub decreases-loop-t : goal.decreases-loop-t
 decreases-loop-t l = shape.objects - l.t

@@ -8,7 +8,8 @@ use Rattle.image.specs.Layout.{shape, author_field}
 use Rattle.image.proofs.change.unwrite.Given as goal
 
 abbrev pub invariant-loop-t : goal.invariant-loop-t
-invariant-loop-t l = (l.t ≤ shape.objects) × (length l.image ≡ length l.initial.image) × (l.image ≡ changed_all (author_field shape) (λ a. nobody) l.t l.initial.image)
+invariant-loop-t l = (l.t ≤ shape.objects) × (length l.image ≡ length l.initial.image)
+    × (l.image ≡ changed_all (author_field shape) (λ a. nobody) l.t l.initial.image)
 
 abbrev pub decreases-loop-t : goal.decreases-loop-t
 decreases-loop-t l = shape.objects - l.t

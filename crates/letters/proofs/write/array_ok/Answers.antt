@@ -25,7 +25,8 @@ returns-then-not-entry_fits-clause-value c = let l = c.loop-i in
     let full : length a.entries ≡ most_open = search rules in
     let len : length es ≡ a.n = length-take-le a.n a.entries (omega arith) in
     let step = drop-cons es l.i no_entry (omega arith)
-    ∙ ap₂ (λ (e : Entry) (j : ℕ). e ∷ drop j es) (get_or-take a.n a.entries l.i no_entry (omega arith)) (sym (add-one l.i)) in run_stop object_of (entry_ok 3) l.lo c.entry_fits.result _ _ _ _ step c.entry_fits.ensures c.if-not-entry_fits.true l.invariant.1
+    ∙ ap₂ (λ (e : Entry) (j : ℕ). e ∷ drop j es) (get_or-take a.n a.entries l.i no_entry (omega arith)) (sym (add-one l.i))
+    in run_stop object_of (entry_ok 3) l.lo c.entry_fits.result _ _ _ _ step c.entry_fits.ensures c.if-not-entry_fits.true l.invariant.1
 
 pub returns-then-not-entry_fits-clause-entries_len : goal.returns-then-not-entry_fits-clause-entries_len
 returns-then-not-entry_fits-clause-entries_len c = let l = c.loop-i in
@@ -53,7 +54,8 @@ pub returns-clause-value : goal.returns-clause-value
 returns-clause-value c = let l = c.loop-i in
     let a = c.args in
     let full : length a.entries ≡ most_open = search rules in
-    let len : length (take a.n a.entries) ≡ a.n = length-take-le a.n a.entries (omega arith) in run_end object_of (entry_ok 3) l.lo _ _ (drop_of_length-le (take a.n a.entries) {i = l.i} (omega arith)) l.invariant.1
+    let len : length (take a.n a.entries) ≡ a.n = length-take-le a.n a.entries (omega arith)
+    in run_end object_of (entry_ok 3) l.lo _ _ (drop_of_length-le (take a.n a.entries) {i = l.i} (omega arith)) l.invariant.1
 
 pub returns-clause-entries_len : goal.returns-clause-entries_len
 returns-clause-entries_len c = let l = c.loop-i in

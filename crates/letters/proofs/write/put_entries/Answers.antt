@@ -44,7 +44,8 @@ pub returns-clause-out_after : goal.returns-clause-out_after
 returns-clause-out_after c = let l = c.loop-i in
     let a = c.args in
     let full : length a.entries ≡ most_open = search rules in
-    let len : length (take a.n a.entries) ≡ a.n = length-take-le a.n a.entries (omega arith) in together_end encode_entry 14 length_entry (take a.n a.entries) l.out _ entries_place l.i (omega arith) l.invariant.2
+    let len : length (take a.n a.entries) ≡ a.n = length-take-le a.n a.entries (omega arith)
+    in together_end encode_entry 14 length_entry (take a.n a.entries) l.out _ entries_place l.i (omega arith) l.invariant.2
 
 pub returns-clause-entries_len : goal.returns-clause-entries_len
 returns-clause-entries_len c = let l = c.loop-i in

@@ -9,7 +9,8 @@ use Rattle.letters.proofs.write.put_entries.Given as goal
 
 abbrev pub invariant-loop-i : goal.invariant-loop-i
 invariant-loop-i l = (l.i ≤ l.n) × (length l.out ≡ length l.initial.out)
-    × (sets l.out (entries_place + 14 * l.i) (together encode_entry (drop l.i (take l.n l.entries))) ≡ sets l.initial.out entries_place (together encode_entry (take l.n l.entries)))
+    × (sets l.out (entries_place + 14 * l.i) (together encode_entry (drop l.i (take l.n l.entries)))
+    ≡ sets l.initial.out entries_place (together encode_entry (take l.n l.entries)))
 
 abbrev pub decreases-loop-i : goal.decreases-loop-i
 decreases-loop-i l = l.n - l.i

@@ -52,4 +52,5 @@ returns-clause-out_after c = let l = c.loop-i in
     let ss = c.args.serials in
     let full : length ss ≡ nodes = search rules in
     let none = rivals_end l.i ss (omega arith) in
-    let count : length (rivals_by l.i (drop l.i ss)) ≡ 0 = ap length none in sym (ap (λ (rs : List Rival). sets l.out l.next (together encode_rival rs)) none) ∙ l.invariant.2
+    let count : length (rivals_by l.i (drop l.i ss)) ≡ 0 = ap length none in sym (ap (λ (rs : List Rival). sets l.out l.next (together encode_rival rs)) none)
+    ∙ l.invariant.2

@@ -9,7 +9,8 @@ use Rattle.letters.specs.Write.{rivals_by}
 use Rattle.letters.proofs.write.put_rivals.Given as goal
 
 abbrev pub invariant-loop-i : goal.invariant-loop-i
-invariant-loop-i l = ((l.i ≤ nodes) × (l.next ≤ 14 + 5 * l.i) × (l.next + 5 * length (rivals_by l.i (drop l.i l.serials)) ≡ 14 + 5 * length (rivals_by 0 l.serials)))
+invariant-loop-i l = ((l.i ≤ nodes) × (l.next ≤ 14 + 5 * l.i)
+    × (l.next + 5 * length (rivals_by l.i (drop l.i l.serials)) ≡ 14 + 5 * length (rivals_by 0 l.serials)))
     × (length l.out ≡ length l.initial.out)
     × (sets l.out l.next (together encode_rival (rivals_by l.i (drop l.i l.serials))) ≡ sets l.initial.out 14 (together encode_rival (rivals_by 0 l.serials)))
 

@@ -31,7 +31,8 @@ returns-then-subset-clause-bytes_after c = let await = c.awaited_in-nodes.ensure
     let single = c.single.ensures in
     let from = c.from.ensures in
     let before = c.get_u16.ensures in
-    let all = rw (await, join, single, from, before) at (sym c.subset.ensures ∙ c.if-subset.true) in rw (c.become_idle.ensures, c.get_u8-outcome.ensures) (simp (fits, all))
+    let all = rw (await, join, single, from, before) at (sym c.subset.ensures ∙ c.if-subset.true)
+    in rw (c.become_idle.ensures, c.get_u8-outcome.ensures) (simp (fits, all))
 
 pub returns-then-is_answer-clause-value : goal.returns-then-is_answer-clause-value
 unfolding done_taken with_done kept record_of

@@ -58,4 +58,5 @@ returns-clause-bytes_after c = let x = c.args in
     let said = c.get_u16.ensures in
     let asked = c.get_u16-participants.ensures in
     let t = rw (join, single, from, said, asked) at (sym c.is_agreed.ensures ∙ c.if-is_agreed.false) in
-    let w = yes_waits l small c.requires.0 x.m.now c.raise_rivals.ensures.m_len t c.requires.1 in rw (c.put_u16.ensures, c.raise_rivals.ensures.bytes_after, join, single, from, said) w.1
+    let w = yes_waits l small c.requires.0 x.m.now c.raise_rivals.ensures.m_len t c.requires.1
+    in rw (c.put_u16.ensures, c.raise_rivals.ensures.bytes_after, join, single, from, said) w.1

@@ -43,11 +43,11 @@ returns-clause-lower_bound c = let x = c.args in
     let k = c.loop-i in
     let n = c.count-n.ensures in
     let last : k.i ≡ (record_of x.bytes.now).count = omega (arith, n, k.invariant.0) in
-      (k.invariant.1.1.0, k.invariant.1.1.1.0)
+    (k.invariant.1.1.0, k.invariant.1.1.1.0)
 
 pub returns-clause-by_index : goal.returns-clause-by_index
 returns-clause-by_index c = let x = c.args in
     let k = c.loop-i in
     let n = c.count-n.ensures in
     let last : k.i ≡ (record_of x.bytes.now).count = omega (arith, n, k.invariant.0) in
-      shut_between x.bytes.now x.lo k.m (subst (Past x.bytes.now x.lo k.m) last k.invariant.1.1.1.1)
+    shut_between x.bytes.now x.lo k.m (subst (Past x.bytes.now x.lo k.m) last k.invariant.1.1.1.1)

@@ -20,7 +20,7 @@ returns-then-both-clause-value c = let x = c.args in
     let t = due_test tree (record_of x.bytes.now) x.me x.node x.object (length x.out.now) l _ d
     (sym c.both.ensures ∙ c.if-both.true) in
     let w = c.send.ensures in
-      w.value ∙ written_taken tree (record_of x.bytes.now) x.me x.node x.object (length x.out.now) t _ d
+    w.value ∙ written_taken tree (record_of x.bytes.now) x.me x.node x.object (length x.out.now) t _ d
 
 pub returns-then-both-clause-out_after : goal.returns-then-both-clause-out_after
 returns-then-both-clause-out_after c = let x = c.args in
@@ -30,7 +30,7 @@ returns-then-both-clause-out_after c = let x = c.args in
     let t = due_test tree (record_of x.bytes.now) x.me x.node x.object (length x.out.now) l _ d
     (sym c.both.ensures ∙ c.if-both.true) in
     let w = c.send.ensures in
-      w.out_after ∙ buffer_taken tree (record_of x.bytes.now) x.me x.node x.object x.out.now t _ d
+    w.out_after ∙ buffer_taken tree (record_of x.bytes.now) x.me x.node x.object x.out.now t _ d
 
 pub returns-else-both-clause-value : goal.returns-else-both-clause-value
 returns-else-both-clause-value c = let x = c.args in
@@ -38,7 +38,7 @@ returns-else-both-clause-value c = let x = c.args in
     let l = le-ltb (length x.out.now) longest_message c.requires.longest_message_in_bounds in
     let t = due_test tree (record_of x.bytes.now) x.me x.node x.object (length x.out.now) l _ d
     (sym c.both.ensures ∙ c.if-both.false) in
-      written_left tree (record_of x.bytes.now) x.me x.node x.object (length x.out.now) l t _ d
+    written_left tree (record_of x.bytes.now) x.me x.node x.object (length x.out.now) l t _ d
 
 pub returns-else-both-clause-out_after : goal.returns-else-both-clause-out_after
 returns-else-both-clause-out_after c = let x = c.args in
@@ -46,4 +46,4 @@ returns-else-both-clause-out_after c = let x = c.args in
     let l = le-ltb (length x.out.now) longest_message c.requires.longest_message_in_bounds in
     let t = due_test tree (record_of x.bytes.now) x.me x.node x.object (length x.out.now) l _ d
     (sym c.both.ensures ∙ c.if-both.false) in
-      buffer_left tree (record_of x.bytes.now) x.me x.node x.object x.out.now t
+    buffer_left tree (record_of x.bytes.now) x.me x.node x.object x.out.now t

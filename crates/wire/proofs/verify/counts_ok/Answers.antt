@@ -20,7 +20,8 @@ returns-in_default-entries c = simp (c.in-3.is, lt-leb 1 _ c.in_default-entries.
 
 pub returns-in_default-entries-3 : goal.returns-in_default-entries-3
 unfolding counts_ok
-returns-in_default-entries-3 c = simp (c.in-3.is, le-leb 1 _ c.in_default-entries.if-entries-lt1-own.false, lt-leb _ most_open c.in_default-entries.if-entries-lt9-own.false)
+returns-in_default-entries-3 c = simp
+    (c.in-3.is, le-leb 1 _ c.in_default-entries.if-entries-lt1-own.false, lt-leb _ most_open c.in_default-entries.if-entries-lt9-own.false)
 
 pub returns-in-4 : goal.returns-in-4
 returns-in-4 c = simp (c.vote_counts.ensures, c.in-4.is)
@@ -51,8 +52,12 @@ returns-in-1-entries c = simp (
 
 pub returns-in_default-entries-2 : goal.returns-in_default-entries-2
 unfolding counts_ok
-returns-in_default-entries-2 c = simp
-    (ne_eqb _ 1 c.in_default-entries-2.in_default-entries-2-own.rest.1, le-leb 1 _ c.in-1.if-kind-lt1-own.false, le-leb _ 2 (le_of_suc-le-suc c.in-1.if-kind-lt3-own.true))
+returns-in_default-entries-2 c = simp (
+  ne_eqb _ 1 c.in_default-entries-2.in_default-entries-2-own.rest.1,
+  le-leb 1 _ c.in-1.if-kind-lt1-own.false,
+  le-leb _ 2
+      (le_of_suc-le-suc c.in-1.if-kind-lt3-own.true),
+)
 
 pub returns-in_default : goal.returns-in_default
 unfolding counts_ok

@@ -8,7 +8,8 @@ use Rattle.wire.proofs.verify.entries_ok.Given as goal
 
 abbrev pub invariant-loop-left : goal.invariant-loop-left
 invariant-loop-left l = (l.at + 14 * l.left ≡ entries_place + 14 * l.n)
-    × (run object_of (entry_ok l.kind) l.lo (items_from entry_at 14 l.left l.s l.at) ≡ run object_of (entry_ok l.kind) 0 (items_from entry_at 14 l.n l.s entries_place))
+    × (run object_of (entry_ok l.kind) l.lo (items_from entry_at 14 l.left l.s l.at)
+    ≡ run object_of (entry_ok l.kind) 0 (items_from entry_at 14 l.n l.s entries_place))
 
 abbrev pub decreases-loop-left : goal.decreases-loop-left
 decreases-loop-left l = l.left

@@ -24,7 +24,8 @@ returns-in_default-entries c = simp (c.in-1.is, lt-leb 1 _ c.in_default-entries.
 
 pub returns-in_default-entries-2 : goal.returns-in_default-entries-2
 unfolding counts_ok
-returns-in_default-entries-2 c = simp (c.in-1.is, le-leb 1 _ c.in_default-entries.if-entries-lt1-own.false, lt-leb _ most_open c.in_default-entries.if-entries-lt9-own.false)
+returns-in_default-entries-2 c = simp
+    (c.in-1.is, le-leb 1 _ c.in_default-entries.if-entries-lt1-own.false, lt-leb _ most_open c.in_default-entries.if-entries-lt9-own.false)
 
 pub returns-in_default : goal.returns-in_default
 unfolding counts_ok

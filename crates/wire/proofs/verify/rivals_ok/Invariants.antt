@@ -8,7 +8,8 @@ use Rattle.wire.proofs.verify.rivals_ok.Given as goal
 
 abbrev pub invariant-loop-left : goal.invariant-loop-left
 invariant-loop-left l = (l.at + 5 * l.left ≡ l.place + 5 * l.n)
-    × (run owner_in (rival_ok l.kind l.owner l.to) l.lo (items_from rival_at 5 l.left l.s l.at) ≡ run owner_in (rival_ok l.kind l.owner l.to) 0 (items_from rival_at 5 l.n l.s l.place))
+    × (run owner_in (rival_ok l.kind l.owner l.to) l.lo (items_from rival_at 5 l.left l.s l.at)
+    ≡ run owner_in (rival_ok l.kind l.owner l.to) 0 (items_from rival_at 5 l.n l.s l.place))
 
 abbrev pub decreases-loop-left : goal.decreases-loop-left
 decreases-loop-left l = l.left
