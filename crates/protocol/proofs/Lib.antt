@@ -1,6 +1,5 @@
 -- The safety theorem of the protocol, and its proofs. What is to be believed of it are the definitions of specs/, in the order that specs/Lib gives, and then
--- the
--- statements of
+-- the statements of
 --   Theorems     the claims hold in every reachable state
 --   Tree         the base's rules as an instance, with its claims
 --   Own          own quorums (document 02, 2.9) as a second instance, with its claims: a few lines, and none of the core

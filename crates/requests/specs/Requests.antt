@@ -140,7 +140,7 @@ words_of (station_set_value t v) b n = words b n (edit (values t (bits_of v)))
 words_of station_request_commit b n = words b n request
 words_of (station_load_classes list) b n = words b n (load_classes list)
 
--- ---- what the caller is told; of `found` with the value's 64 bits, which its function turns into a signed number (host's valueOf)
+-- ---- what the caller is told; of `found` with the value's 64 bits, which its function turns into a signed number (host's value_of)
 unfoldable pub request_told : Request → Lent → Answer
 request_told (station_front n a) b = (words_of a (front_lent b) n).told
 request_told (station_found n t) b = host_told (ends b.station.records b.station.own) n (found n t)

@@ -4,4 +4,4 @@ use Rattle.increments.proofs.sum.Goals as goal
 
 pub returns : goal.returns
 unfolding sum64
-returns c = c.wrapping_add_u64.ensures
+returns c = c.wrapping_add_u64.ensures.value

@@ -1,10 +1,13 @@
 -- `runs::step`: a host's call or another, with the claims.
 use mathlib.Core.Path.{sym, ◌∙◌}
+use mathlib.Core.Path.{◌≡◌}
+use mathlib.Core.List.{List}
 use Prim.Native.Nat.{ℕ, ◌<◌, ◌^◌}
-use lib.ListN.{get_or}
+use lib.ListN.{length, get_or}
+use Rattle.numbers.specs.Sizes.{nodes}
+use Rattle.orders.specs.declared.Order.{Order}
 use mir.Syntax.{w16}
 use mir.Val.{Fits}
-use Rattle.history.specs.Claims.{Distances}
 use Rattle.accounts.specs.Accounts.{Typed}
 use Rattle.runs.specs.Order.{call_of}
 use Rattle.runs.proofs.Orders.{order_typed, host_all, other_all}
@@ -13,20 +16,9 @@ use Rattle.runs.proofs.step.Statement.{statement}
 use Rattle.runs.proofs.step.Tie as tie
 
 -- an order's numbers are of their types
-typed_value : (c : tie.Start) → c.args.o.value < 2 ^ 64
-typed_value c = search rules
-
-typed_timestamp : (c : tie.Start) → c.args.o.with.timestamp < 2 ^ 32
-typed_timestamp c = search rules
-
-typed_distances : (c : tie.Start) → Distances c.args.o.with.distances
-typed_distances c = (search rules, λ i. (typed_distance i).fits)
-  where
-    typed_distance : (i : ℕ) → Fits w16 (get_or c.args.o.with.distances i 0)
-    typed_distance i = search rules
-
-typed : (c : tie.Start) → Typed (call_of c.args.o c.args.list.now)
-typed c = order_typed c.args.o c.args.list.now (typed_value c) (typed_timestamp c) (typed_distances c)
+typed : (o : Order) (list : List ℕ) → o.value < 2 ^ 64 → o.with.timestamp < 2 ^ 32 → length o.with.distances ≡ nodes
+    → ((i : ℕ) → Fits w16 (get_or o.with.distances i 0)) → Typed (call_of o list)
+typed o list value time long each = order_typed o list value time (long, λ i. (each i).fits)
 
 is-host-requires : tie.Need-is-host-requires
 is-host-requires c κs = search rules
@@ -50,7 +42,7 @@ returns c =
     let s = c12.before.before.before.before in
     let x = s.args in
     let h = sym c6.before.before.before.is-host.ensures ∙ c6.before.before.if1.true in
-    host_all x.images.now x.records.now x.pool.now x.own.now x.settings.now x.list.now x.o (typed s) h _ _ _
+    host_all x.images.now x.records.now x.pool.now x.own.now x.settings.now x.list.now x.o (typed x.o x.list.now (search rules) (search rules) (search rules) (λ i. search rules)) h _ _ _
     c.before.before.before.before.host-step.ensures
 
 other-step-requires : tie.Need-other-step-requires
@@ -76,7 +68,7 @@ returns-2 c =
     let s = c18.before.before.before in
     let x = s.args in
     let h = sym c12.before.before.is-host.ensures ∙ c12.before.if1.false in
-    other_all x.images.now x.records.now x.pool.now x.own.now x.settings.now x.list.now x.o (typed s) h _ _ _ _ _
+    other_all x.images.now x.records.now x.pool.now x.own.now x.settings.now x.list.now x.o (typed x.o x.list.now (search rules) (search rules) (search rules) (λ i. search rules)) h _ _ _ _ _
     c6.before.before.other_step.ensures
 
 pub step_spec : {M : Type 1} → statement M

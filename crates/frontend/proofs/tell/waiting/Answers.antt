@@ -1,0 +1,39 @@
+-- `frontend::tell::waiting`: what comes first, a class that is none, or its tenths (Waits).
+use mathlib.Core.Path.{sym, ◌∙◌}
+use native.Mathlib.Omega.{arith}
+use Rattle.parts.specs.Parts.{part}
+use Rattle.frontend.proofs.Waits.{lent_long, waits_first, waits_none, waits_told, class_inside}
+use Rattle.frontend.proofs.tell.waiting.Goals as goal
+
+pub returns-then-number-ne0 : goal.returns-then-number-ne0
+returns-then-number-ne0 c = let x = c.args in
+    c.refused.ensures ∙ waits_first x.bytes.now x.settings.now x.class _ c.lent_number-number.ensures c.if-number-ne0.true
+
+pub slice_bounds-count-end : goal.slice_bounds-count-end
+slice_bounds-count-end c = let e = lent_long _ _ (sym c.lent_number-number.ensures ∙ c.if-number-ne0.false) in
+    omega (arith, e)
+
+pub returns-then-count-wide : goal.returns-then-count-wide
+unfolding part
+returns-then-count-wide c = let x = c.args in
+    let fine = sym c.lent_number-number.ensures ∙ c.if-number-ne0.false in
+    c.refused-then-count-wide.ensures
+    ∙ waits_none x.bytes.now x.settings.now x.class fine _ c.count-count.ensures.0 _ c.wide.ensures c.if-count-wide.true
+
+pub tenths-list-requires : goal.tenths-list-requires
+tenths-list-requires c = lent_long _ _ (sym c.lent_number-number.ensures ∙ c.if-number-ne0.false)
+
+pub bounds-list-wide : goal.bounds-list-wide
+unfolding part
+bounds-list-wide c = let x = c.args in
+    let fine = sym c.lent_number-number.ensures ∙ c.if-number-ne0.false in
+    class_inside x.bytes.now x.settings.now x.class fine _ c.count-count.ensures.0 _ c.wide.ensures c.if-count-wide.false
+    _ c.wide-2.ensures
+
+pub returns : goal.returns
+unfolding part
+returns c = let x = c.args in
+    let fine = sym c.lent_number-number.ensures ∙ c.if-number-ne0.false in
+    c.taken.ensures
+    ∙ waits_told x.bytes.now x.settings.now x.class fine _ c.count-count.ensures.0 _
+    c.wide.ensures c.if-count-wide.false _ _ c.wide-2.ensures _ c.tenths-list.ensures c.answer.ensures
