@@ -148,7 +148,7 @@ module _ (o : Machine) (r : MachineRested o) (n : ℕ) (es : List Step) where
   pub record Going (ds : List Deed) : Type 0 where
     pub typed : AllStepsTyped (then ds)
     pub up : contains (machineReached o (then ds)).own.on n ≡ true
-    pub is_open_lem : ((machineReached o (then ds)).records n).phase ≡ open_phase
+    pub is_open : ((machineReached o (then ds)).records n).phase ≡ open_phase
     pub serials : (machineTold o (then ds)).serials ≡ L.serials
     pub modes : (machineTold o (then ds)).mode ≡ L.mode
 
@@ -174,7 +174,7 @@ module _ (o : Machine) (r : MachineRested o) (n : ℕ) (es : List Step) where
         record {
           typed = (small, g.typed);
           up = ap (λ (w : Own). contains w.on n) k.1 ∙ g.up;
-          is_open_lem = k.0;
+          is_open = k.0;
           serials = e.0 ∙ g.serials;
           modes = e.1 ∙ g.modes;
         }
@@ -295,7 +295,7 @@ module _ (o : Machine) (r : MachineRested o) (n : ℕ) (es : List Step) where
     -- THE SUMS
     pub request_adds : Added (machineReached o es)
     request_adds =
-        let z = sums is_node (in_use c) [] at_place (record { typed = typed; up = up; is_open_lem = was_open; serials = refl; modes = refl })
+        let z = sums is_node (in_use c) [] at_place (record { typed = typed; up = up; is_open = was_open; serials = refl; modes = refl })
         (λ u m. let q = opened_now u m in let y = stood u q in
         inl (object_at c u, in_take c.count (place_of c u) c.objects no_object y.0 y.1.0, y.1.1)) in
         let a = asks_tell o n (then (summing (in_use c) [])) in
