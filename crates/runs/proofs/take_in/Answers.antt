@@ -5,17 +5,17 @@ use Rattle.runs.proofs.take_in.Goals as goal
 pub returns-clause-value : goal.returns-clause-value
 returns-clause-value c = let k = c.take_in_all in
     let x = c.args in
-    let a = k.ensures.0 in
+    let a = k.ensures.number in
     let b = k.ensures.1 in a
 
 pub returns-clause-images_after : goal.returns-clause-images_after
 returns-clause-images_after c = let k = c.take_in_all in
     let x = c.args in
-    let a = k.ensures.0 in
+    let a = k.ensures.number in
     let b = k.ensures.1 in b
 
 pub returns-clause-goes_on : goal.returns-clause-goes_on
 returns-clause-goes_on c = let k = c.take_in_all in
     let x = c.args in
-    let a = k.ensures.0 in
+    let a = k.ensures.number in
     let b = k.ensures.1 in rw (a, b) (goes_on x.old.now x.images.now)

@@ -23,17 +23,17 @@ returns-then-settings-ne-SETTINGS c = simp
 pub returns-then-node-ge-NODES_END : goal.returns-then-node-ge-NODES_END
 unfolding told record_in settings_in
 returns-then-node-ge-NODES_END c = simp (
-      eq-eqb _ _ c.if-number-ne0.false,
-      eq-eqb _ _ c.if-records-ne-RECORDS.false,
-      eq-eqb _ _ c.if-settings-ne-SETTINGS.false,
-      le-ltb _ _ c.if-node-ge-NODES_END.true,
-    ) (sym (nobody_tells _ _ _))
+  eq-eqb _ _ c.if-number-ne0.false,
+  eq-eqb _ _ c.if-records-ne-RECORDS.false,
+  eq-eqb _ _ c.if-settings-ne-SETTINGS.false,
+  le-ltb _ _ c.if-node-ge-NODES_END.true,
+) (sym (nobody_tells _ _ _))
 
 pub returns : goal.returns
 unfolding told record_in settings_in
 returns c = simp (
-      eq-eqb _ _ c.if-number-ne0.false,
-      eq-eqb _ _ c.if-records-ne-RECORDS.false,
-      eq-eqb _ _ c.if-settings-ne-SETTINGS.false,
-      lt-ltb _ _ c.if-node-ge-NODES_END.false,
-    ) c.tell_node.ensures
+  eq-eqb _ _ c.if-number-ne0.false,
+  eq-eqb _ _ c.if-records-ne-RECORDS.false,
+  eq-eqb _ _ c.if-settings-ne-SETTINGS.false,
+  lt-ltb _ _ c.if-node-ge-NODES_END.false,
+) c.tell_node.ensures

@@ -1,4 +1,5 @@
 -- `telling::tell_node`: by the kind, and by the kind in the settings.
+use borrow.Enum.Refused.{opened}
 use mathlib.Core.Path.{◌≡◌, sym, ap, ap₂, ◌∙◌}
 use mathlib.Core.Bool.{true, false, not}
 use mathlib.Core.List.{List}
@@ -55,3 +56,7 @@ returns-else-get_u8-ne-OWN c = let a = c.args in
     is_adding a.settings.now _ a.node _ c.wide.ensures c.get_u8.ensures
     ∙ ap not (eq-eqb _ _ c.if-get_u8-ne-OWN.false) in
     simp (c.in-RequestCommit.is, k)
+
+pub returns-in_default : goal.returns-in_default
+returns-in_default c = let a = c.args in
+    sym (other_key a.kind (opened c.in_default.in_default-own.keys3) _ _ a.node a.sheet.now)

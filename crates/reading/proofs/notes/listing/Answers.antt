@@ -49,7 +49,7 @@ returns-clause-reader c = let x = c.args in
     let k = c.kept-then.ensures in
     let n = c.listed_after-n.ensures in
     let room : has_room x.list.now x.r.listed x.count ≡ true = sym a.room ∙ c.if-not-append.false
-        in simp room (h.reader ∙ ap (λ (t : Reader). next t x.r.going) (k ∙ ap (kept x.r x.r.day x.r.minute) n))
+    in simp room (h.reader ∙ ap (λ (t : Reader). next t x.r.going) (k ∙ ap (kept x.r x.r.day x.r.minute) n))
 
 pub returns-clause-list : goal.returns-clause-list
 unfolding list_reader list_texts
