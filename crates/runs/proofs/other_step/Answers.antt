@@ -1,4 +1,5 @@
 -- `runs::other_step`: by the kind, the station's own step; 5 for a host's call.
+use borrow.Enum.Refused.{opened}
 use Rattle.runs.proofs.Tags.{host_key}
 use Rattle.runs.proofs.Orders.{send_tells, delivery_tells, drop_tells, switch_tells, other_none}
 use Rattle.runs.proofs.other_step.Goals as goal
@@ -45,10 +46,10 @@ returns-in-Switch-clause-by_index_2 c = let x = c.args in
 
 pub returns-in_default-clause-by_index : goal.returns-in_default-clause-by_index
 returns-in_default-clause-by_index c = let x = c.args
-    in (other_none x.images.now x.records.now x.pool.now x.own.now x.o (host_key x.o.kind c.in_default.in_default-own.keys5) _
+    in (other_none x.images.now x.records.now x.pool.now x.own.now x.o (host_key x.o.kind (opened c.in_default.in_default-own.keys5)) _
     c.refused.ensures).0
 
 pub returns-in_default-clause-by_index_2 : goal.returns-in_default-clause-by_index_2
 returns-in_default-clause-by_index_2 c = let x = c.args
-    in (other_none x.images.now x.records.now x.pool.now x.own.now x.o (host_key x.o.kind c.in_default.in_default-own.keys5) _
+    in (other_none x.images.now x.records.now x.pool.now x.own.now x.o (host_key x.o.kind (opened c.in_default.in_default-own.keys5)) _
     c.refused.ensures).1

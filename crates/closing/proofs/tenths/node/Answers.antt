@@ -12,9 +12,7 @@ use Rattle.report.specs.Page.{Page, page, inks, behind}
 use Rattle.report.specs.Each.{each_from}
 use Rattle.report.specs.Texts.{Text, number_texts}
 use Rattle.closing.specs.Texts.{waiting_text, line_end, nth_class_texts, node_texts}
-use borrow.Author.Rules.{rules}
-use Rattle.closing.proofs.tenths.node.Statement.{statement}
-use Rattle.closing.proofs.tenths.node.Tie as tie
+use Rattle.closing.proofs.tenths.node.Goals as goal
 
 abbrev whole : List ℕ → List ℕ → ℕ → List Text
 whole bytes settings n = number_texts waiting_text n ++ each_from (nth_class_texts bytes settings) most_classes 0 ++ (line_end ∷ [])
@@ -33,59 +31,19 @@ its_line bytes settings n w e f =
     ap (λ (v : Called). cond (eqb v.number 0) (whole bytes settings n) []) (sym e)
     ∙ ap (λ (s : Bool). cond s (whole bytes settings n) []) (eq-eqb w.number 0 f)
 
-waiting-requires : tie.Need-waiting-requires
-waiting-requires c κs = search rules
+pub returns-then-first-ne0 : goal.returns-then-first-ne0
+returns-then-first-ne0 c = let x = c.args in
+    no_table_lem (page x.out.now x.at) x.bytes.now x.settings.now x.n _ c.waiting-first.ensures c.if-first-ne0.true
 
-returns : tie.Need-returns
-returns c =
-    let x = c.before.before.before.before.before.before.args in
-    no_table_lem (page x.out.now x.at) x.bytes.now x.settings.now x.n _ c.before.before.waiting.ensures c.if1.true
-
-slice-aggregate-number : tie.Need-slice-aggregate-number
-slice-aggregate-number c = search rules
-
-number-requires : tie.Need-number-requires
-number-requires c κs = search rules
-
-classes-requires : tie.Need-classes-requires
-classes-requires c κs = search rules
-
-slice-aggregate-text : tie.Need-slice-aggregate-text
-slice-aggregate-text c = search rules
-
-text-requires : tie.Need-text-requires
-text-requires c κs = search rules
-
-same_length : tie.Need-same-length
-same_length c = search rules
-
-returns-2 : tie.Need-returns-2
+pub returns : goal.returns
 unfolding inks
-returns-2 c =
-    let v = c.before.before.before.before.before.before.before in
-    let u = v.before.before.before.before in
-    let t = u.before.before.before.before.before in
-    let x = t.before.before.before.before.args in
-    let f = c.before.before.text in
+returns c = let x = c.args in
+    let f = c.text in
     let p = page x.out.now x.at in
-    let q = page v.classes.new.1.1.0 v.classes.result in
+    let q = page c.classes-b.new.out c.classes-b.result in
     let one = number_texts waiting_text x.n in
     let two = each_from (nth_class_texts x.bytes.now x.settings.now) most_classes 0 in
     let a : q ≡ inks p (one ++ two) =
-    behind p (page u.number.new.0 u.number.result) q one two u.number.ensures v.classes.ensures in
-    behind p q (page f.new.0 f.result) (one ++ two) (line_end ∷ []) a f.ensures
-    ∙ ap (inks p) (sym (its_line x.bytes.now x.settings.now x.n _ t.waiting.ensures u.before.before.before.if1.false))
-
-pub node-spec : {M : Type 1} → statement M
-node-spec =
-    tie.close
-    (tie.spec
-    waiting-requires
-    returns
-    slice-aggregate-number
-    number-requires
-    classes-requires
-    slice-aggregate-text
-    text-requires
-    same_length
-    returns-2)
+    behind p (page c.number-a.new.out c.number-a.result) q one two c.number-a.ensures c.classes-b.ensures in
+    behind p q (page f.new.out f.result) (one ++ two) (line_end ∷ []) a f.ensures
+    ∙ ap (inks p) (sym (its_line x.bytes.now x.settings.now x.n _ c.waiting-first.ensures c.if-first-ne0.false))
