@@ -1,5 +1,4 @@
 -- `runs::host_step`: by the kind, the station's own step, hours loaded, or a front end's call; 5 for any other.
-use borrow.Enum.Refused.{opened}
 use mathlib.Core.Path.{refl, ap, ◌∙◌}
 use Rattle.coordinator.specs.System.{tree}
 use Rattle.coordinator.specs.Calls.{found_of, reselect_of, abort_of}
@@ -111,3 +110,29 @@ returns-in-Switch-clause-by_index c = let x = c.args in (host_none x.records.now
 pub returns-in-Switch-clause-by_index_2 : goal.returns-in-Switch-clause-by_index_2
 returns-in-Switch-clause-by_index_2 c = let x = c.args in (host_none x.records.now x.own.now x.settings.now x.list.now x.o Switch c.in-Switch.is refl _
     c.refused-in-Switch.ensures).1
+
+pub returns-in_default-clause-by_index : goal.returns-in_default-clause-by_index
+returns-in_default-clause-by_index c = let x = c.args in
+    let R = x.records.now in
+    let O = x.own.now in
+    let S = x.settings.now in
+    let list = x.list.now in
+    let e = c.front.ensures in
+    let q = c.ask_of.ensures in
+    let b = lent [] R [] O S in (front_tells R O S list x.o (planned_key x.o.kind c.in_default.in_default-own.keys9) _ _ _
+    (e.value ∙ ap (λ (a : Ask). front_told b x.o.node (actsCall a list)) q)
+    (e.records_after ∙ ap (λ (a : Ask). front_records b x.o.node (actsCall a list)) q)
+    (e.settings_after ∙ ap (λ (a : Ask). front_settings b x.o.node (actsCall a list)) q)).0
+
+pub returns-in_default-clause-by_index_2 : goal.returns-in_default-clause-by_index_2
+returns-in_default-clause-by_index_2 c = let x = c.args in
+    let R = x.records.now in
+    let O = x.own.now in
+    let S = x.settings.now in
+    let list = x.list.now in
+    let e = c.front.ensures in
+    let q = c.ask_of.ensures in
+    let b = lent [] R [] O S in (front_tells R O S list x.o (planned_key x.o.kind c.in_default.in_default-own.keys9) _ _ _
+    (e.value ∙ ap (λ (a : Ask). front_told b x.o.node (actsCall a list)) q)
+    (e.records_after ∙ ap (λ (a : Ask). front_records b x.o.node (actsCall a list)) q)
+    (e.settings_after ∙ ap (λ (a : Ask). front_settings b x.o.node (actsCall a list)) q)).1
