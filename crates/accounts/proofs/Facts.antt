@@ -14,7 +14,7 @@ use Rattle.hours.proofs.Theorems.{length_stored}
 use Rattle.classes.specs.Classes.{most_classes, table_number, strange, no_table}
 use Rattle.classes.specs.Classes.{length_number as tableLength}
 use Rattle.classes.specs.Weights.{overweight, batch_length}
-use Rattle.quorum.specs.declared.Choice.{Choice}
+use Rattle.quorum.specs.Choice.{Choice}
 use Rattle.replica.proofs.Delivered.{past}
 use Rattle.coordinator.specs.declared.Coordinator.{Coordinator}
 use Rattle.coordinator.specs.declared.BeginWith.{BeginWith}

@@ -4,12 +4,12 @@ use mathlib.Core.Bool.{Bool, true, false}
 use mathlib.Core.List.{List}
 use Prim.Native.Nat.{ℕ, ◌≤◌}
 use lib.Dec.{T}
+use Rattle.std.specs.Prelude.{Some, None}
 use Rattle.numbers.specs.Sizes.{every_node}
 use Rattle.mask.specs.Mask.{within}
 use Rattle.mask.proofs.Laws.{within_self}
 use Rattle.mask.proofs.Tests.{or_left, or_right}
-use Rattle.quorum.specs.declared.Choice.{Choice}
-use Rattle.quorum.specs.declared.Choice.TheVariants.{Quorum, Nothing}
+use Rattle.quorum.specs.Choice.{Choice}
 use Rattle.quorum.specs.declared.Kind.{Kind}
 use Rattle.quorum.specs.declared.Kind.TheVariants.{Read, Write}
 use Rattle.quorum.specs.Quorum.{is_quorum}
@@ -39,9 +39,9 @@ any_in q qs (here {qs = rest}) = or_left (within q q) (any_within rest q) (withi
 any_in q qs (there {p = p} {qs = rest} i) = or_right (within p q) (any_within rest q) (any_in q rest i)
 
 good : (k : Kind) (live : ℕ) (d : List ℕ) (x : Choice) → live ≤ every_node → Chosen live d (smallest k) x → GoodChoice (is_quorum k) x
-good k live d Nothing h p e = absurd (false-T true e tt)
-good k live d (Quorum m n) h p e =
-    (subst T (sym (quorum_contains_smallest k m)) (any_in m (smallest k) p.0), within_known m live p.1 h)
+good k live d None h p e = absurd (false-T true e tt)
+good k live d (Some x) h p e =
+    (subst T (sym (quorum_contains_smallest k x.mask)) (any_in x.mask (smallest k) p.0), within_known x.mask live p.1 h)
 
 some : (k : Kind) (m : ℕ) → T (is_quorum k m) → m ≡ 0 → ⊥
 unfolding is_quorum

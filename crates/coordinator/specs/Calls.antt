@@ -5,7 +5,7 @@ use Rattle.mask.specs.Mask.{joined}
 use Rattle.numbers.specs.Numbers.{stranger, out_of_turn, no_such_object, eight_open, no_quorum, used_up, busy, not_ready}
 use Rattle.numbers.specs.Refusal.{Refusal, refuse, first_of}
 use Rattle.age.specs.Age.{too_early}
-use Rattle.quorum.specs.declared.Choice.{Choice}
+use Rattle.quorum.specs.Choice.{Choice}
 use Rattle.quorum.specs.Nearest.{number_of, mask_of}
 use Rattle.coordinator.specs.declared.Object.{Object}
 use Rattle.coordinator.specs.declared.Coordinator.{Coordinator}

@@ -1,6 +1,6 @@
 -- What a transaction needs of the quorums: a parameter of every definition. The tree is the one instance.
 use Rattle.std.specs.Prelude.{Bool, List, ℕ}
-use Rattle.quorum.specs.declared.Choice.{Choice}
+use Rattle.quorum.specs.Choice.{Choice}
 use Rattle.quorum.specs.declared.Kind.{Kind}
 use Rattle.quorum.specs.declared.Kind.TheVariants.{Read, Write}
 use Rattle.quorum.specs.Quorum.{is_quorum}

@@ -7,11 +7,11 @@ use native.Mathlib.Omega.{arith}
 use borrow.Author.Tests.{eq-eqb, ne_eqb, lt-ltb, le-ltb}
 use lib.ListN.{length, get_or}
 use lib.Seq.{ext_get_or}
+use Rattle.std.specs.Prelude.{Some, None}
 use Rattle.numbers.specs.Sizes.{nodes, every_node}
 use Rattle.octets.specs.Octets.{get}
 use Rattle.quorum.specs.declared.Kind.{Kind}
-use Rattle.quorum.specs.declared.Choice.{Choice}
-use Rattle.quorum.specs.declared.Choice.TheVariants.{Quorum, Nothing}
+use Rattle.quorum.specs.Choice.{Choice}
 use Rattle.quorum.specs.Quorum.{is_quorum}
 use Rattle.quorum.specs.Smallest.{smallest}
 use Rattle.quorum.specs.Nearest.{nearest_of, number_of}
@@ -38,17 +38,17 @@ all_distances d l e f =
     (λ j h. let z : 2 * j ≡ 0 + 2 * j = omega arith in f j (omega arith) ∙ ap (get 2 l) z ∙ sym (get_d_pairs nodes l 0 j (omega arith)))
 
 -- ---- the answer, refusal by refusal
-pub answer_length : (k : Kind) (live : ℕ) (bytes : List ℕ) (asker : ℕ) → (length bytes ≡ 26 → ⊥) → nearest_answer k live bytes asker ≡ answer_of 1 Nothing
+pub answer_length : (k : Kind) (live : ℕ) (bytes : List ℕ) (asker : ℕ) → (length bytes ≡ 26 → ⊥) → nearest_answer k live bytes asker ≡ answer_of 1 None
 unfolding nearest_answer
 answer_length k live bytes asker f = simp (ne_eqb (length bytes) 26 f)
 
 pub answer_stranger : (k : Kind) (live : ℕ) (bytes : List ℕ) (asker : ℕ) → length bytes ≡ 26 → every_node < live
-    → nearest_answer k live bytes asker ≡ answer_of 4 Nothing
+    → nearest_answer k live bytes asker ≡ answer_of 4 None
 unfolding nearest_answer
 answer_stranger k live bytes asker e h = simp (eq-eqb (length bytes) 26 e, lt-ltb every_node live h)
 
 pub answer_no_node : (k : Kind) (live : ℕ) (bytes : List ℕ) (asker : ℕ) → length bytes ≡ 26 → live ≤ every_node → nodes ≤ asker
-    → nearest_answer k live bytes asker ≡ answer_of 4 Nothing
+    → nearest_answer k live bytes asker ≡ answer_of 4 None
 unfolding nearest_answer
 answer_no_node k live bytes asker e h n = simp (eq-eqb (length bytes) 26 e, le-ltb every_node live h, le-ltb asker nodes n)
 
@@ -56,9 +56,9 @@ answer_no_node k live bytes asker e h n = simp (eq-eqb (length bytes) 26 e, le-l
 pub answer_choice : (k : Kind) (live : ℕ) (bytes : List ℕ) (asker : ℕ) (x : Choice) → length bytes ≡ 26 → live ≤ every_node → asker < nodes
     → nearest_of asker live (distances_of bytes) (smallest k) ≡ x → nearest_answer k live bytes asker ≡ answer_of (number_of x) x
 unfolding nearest_answer
-answer_choice k live bytes asker Nothing e h n p =
+answer_choice k live bytes asker None e h n p =
     let q : is_quorum k live ≡ false = sym (not-not (is_quorum k live)) ∙ ap not (sym (none_exactly k asker live (distances_of bytes)) ∙ ap is_nothing p) in
     simp (eq-eqb (length bytes) 26 e, le-ltb every_node live h, lt-ltb asker nodes n, q)
-answer_choice k live bytes asker (Quorum m s) e h n p =
+answer_choice k live bytes asker (Some x) e h n p =
     let q : is_quorum k live ≡ true = sym (not-not (is_quorum k live)) ∙ ap not (sym (none_exactly k asker live (distances_of bytes)) ∙ ap is_nothing p) in
     simp (eq-eqb (length bytes) 26 e, le-ltb every_node live h, lt-ltb asker nodes n, q, p)

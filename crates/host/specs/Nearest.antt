@@ -1,12 +1,11 @@
 -- The nearest quorum for C: 1 for distances of another length than 26 bytes, 4 for a live mask above 8,191 or an asker above 12, 8 where live contains no
 -- quorum.
-use Rattle.std.specs.Prelude.{cond, not, ◌||◌, List, [], ◌∷◌, ℕ, eqb, ltb, length}
+use Rattle.std.specs.Prelude.{cond, not, ◌||◌, List, [], ◌∷◌, ℕ, eqb, ltb, length, None}
 use Rattle.numbers.specs.Sizes.{nodes, every_node}
 use Rattle.numbers.specs.Numbers.{wrong_length, stranger, no_quorum}
 use Rattle.numbers.specs.Refusal.{Refusal, refuse, first_of}
 use Rattle.quorum.specs.declared.Kind.{Kind}
-use Rattle.quorum.specs.declared.Choice.{Choice}
-use Rattle.quorum.specs.declared.Choice.TheVariants.{Nothing}
+use Rattle.quorum.specs.Choice.{Choice}
 use Rattle.quorum.specs.Quorum.{is_quorum}
 use Rattle.quorum.specs.Smallest.{smallest}
 use Rattle.quorum.specs.Nearest.{nearest_of, mask_of, sum_of}
@@ -25,7 +24,7 @@ nearest_number kind live bytes asker = first_of (nearest_refusals kind live byte
 
 -- the choice, or nothing where the call is refused
 abbrev pub granted : ℕ → Choice → Choice
-granted number choice = cond (eqb number 0) choice Nothing
+granted number choice = cond (eqb number 0) choice None
 
 abbrev pub answer_of : ℕ → Choice → Chosen
 answer_of number choice = record { number = number; mask = mask_of choice; sum = sum_of choice }

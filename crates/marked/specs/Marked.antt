@@ -1,9 +1,8 @@
 -- The nine marked cases of document 01, whose asker is node 0, and the one of document 02: one table. The one fact over all of its rows is in proofs/Marked.
-use Rattle.std.specs.Prelude.{Bool, true, false, ◌&&◌, List, [], ◌∷◌, ℕ, eqb, replicate}
+use Rattle.std.specs.Prelude.{Bool, true, false, ◌&&◌, List, [], ◌∷◌, ℕ, eqb, replicate, Some, None}
 use Rattle.std.specs.Bool.{beq}
 use Rattle.age.specs.Age.{older}
-use Rattle.quorum.specs.declared.Choice.{Choice}
-use Rattle.quorum.specs.declared.Choice.TheVariants.{Quorum, Nothing}
+use Rattle.quorum.specs.Choice.{Choice, quorum_with}
 use Rattle.quorum.specs.declared.Kind.TheVariants.{Read, Write}
 use Rattle.quorum.specs.Smallest.{smallest}
 use Rattle.quorum.specs.Nearest.{nearest_of}
@@ -14,10 +13,10 @@ pub data Row : Type 0 where
   aged : ℕ → ℕ → ℕ → ℕ → Bool → Row
 
 abbrev pub same_choice : Choice → Choice → Bool
-same_choice Nothing Nothing = true
-same_choice Nothing (Quorum n t) = false
-same_choice (Quorum m s) Nothing = false
-same_choice (Quorum m s) (Quorum n t) = eqb m n && eqb s t
+same_choice None None = true
+same_choice None (Some x) = false
+same_choice (Some x) None = false
+same_choice (Some x) (Some y) = eqb x.mask y.mask && eqb x.sum y.sum
 
 -- what the rules give is what the row says
 abbrev pub right : Row → Bool
@@ -31,16 +30,16 @@ at0 x = x ∷ replicate 12 1
 
 abbrev pub rows : List Row
 rows =
-    near 0 8191 (at0 1) (Quorum 1 1) (Quorum 439 7)
-    ∷ near 0 8190 (at0 1) (Quorum 6 2) Nothing
-    ∷ near 0 8188 (at0 1) (Quorum 12 2) Nothing
-    ∷ near 0 8176 (at0 1) (Quorum 432 4) Nothing
-    ∷ near 0 8143 (at0 1) (Quorum 1 1) (Quorum 3469 7)
-    ∷ near 0 8191 (at0 2) (Quorum 1 2) (Quorum 439 8)
-    ∷ near 0 8191 (at0 9) (Quorum 6 2) (Quorum 439 15)
-    ∷ near 0 0 (at0 1) Nothing Nothing
+    near 0 8191 (at0 1) (quorum_with 1 1) (quorum_with 439 7)
+    ∷ near 0 8190 (at0 1) (quorum_with 6 2) None
+    ∷ near 0 8188 (at0 1) (quorum_with 12 2) None
+    ∷ near 0 8176 (at0 1) (quorum_with 432 4) None
+    ∷ near 0 8143 (at0 1) (quorum_with 1 1) (quorum_with 3469 7)
+    ∷ near 0 8191 (at0 2) (quorum_with 1 2) (quorum_with 439 8)
+    ∷ near 0 8191 (at0 9) (quorum_with 6 2) (quorum_with 439 15)
+    ∷ near 0 0 (at0 1) None None
     ∷ aged 7 4 7 5 true
-    ∷ near 3 8190 (at0 1) (Quorum 10 2) Nothing
+    ∷ near 3 8190 (at0 1) (quorum_with 10 2) None
     ∷ []
 
 abbrev pub all_right : List Row → Bool

@@ -7,10 +7,10 @@ use lib.Dec.{T, ltb, leb, ltb→lt}
 use borrow.Author.Tests.{leb-true, leb-false}
 use mathlib.Core.List.{List}
 use lib.ListN.{get_or}
+use Rattle.std.specs.Prelude.{Some, None}
 use Rattle.numbers.specs.Sizes.{nodes}
 use Rattle.mask.specs.Mask.{bit}
-use Rattle.quorum.specs.declared.Choice.{Choice}
-use Rattle.quorum.specs.declared.Choice.TheVariants.{Quorum, Nothing}
+use Rattle.quorum.specs.Choice.{Choice, quorum_with}
 use Rattle.quorum.specs.declared.Kind.{Kind}
 use Rattle.quorum.specs.declared.Kind.TheVariants.{Read, Write}
 use Rattle.quorum.specs.Tree.{child}
@@ -36,24 +36,24 @@ abbrev Small : ℕ → Type 0
 Small b = b ≤ 8388608
 
 wider : (b c k : ℕ) (x : Choice) → b ≤ c → Means b k x → Means c k x
-wider b c k Nothing h p = p
-wider b c k (Quorum m s) h p = (p.0, omega arith, omega arith)
+wider b c k None h p = p
+wider b c k (Some x) h p = (p.0, omega arith, omega arith)
 
 means_lesser : (b c k j : ℕ) (x y : Choice) → Small b → Small c → Means b k x → Means c j y → Means (b + c) (lesser_of k j) (lighter_of x y)
-means_lesser b c k j Nothing Nothing u v p q = lesser_cases (λ (i : ℕ). absent ≤ i) k j (λ h. p) (λ h. q)
-means_lesser b c k j Nothing (Quorum n t) u v p q =
-    lesser_cases (λ (i : ℕ). Means (b + c) i (Quorum n t)) k j (λ h. absurd (omega arith)) (λ h. (q.0, omega arith, omega arith))
-means_lesser b c k j (Quorum m s) Nothing u v p q =
-    lesser_cases (λ (i : ℕ). Means (b + c) i (Quorum m s)) k j (λ h. (p.0, omega arith, omega arith)) (λ h. absurd (omega arith))
-means_lesser b c k j (Quorum m s) (Quorum n t) u v p q =
-    lesser_cases (λ (i : ℕ). Means (b + c) i (lighter_of (Quorum m s) (Quorum n t))) k j
-    (λ h. subst (Means (b + c) k) (sym (by_key m s n t (omega arith) (omega arith) (omega arith))) (p.0, omega arith, omega arith))
-    (λ h. subst (Means (b + c) j) (sym (not_by_key m s n t (omega arith) (omega arith) (omega arith))) (q.0, omega arith, omega arith))
+means_lesser b c k j None None u v p q = lesser_cases (λ (i : ℕ). absent ≤ i) k j (λ h. p) (λ h. q)
+means_lesser b c k j None (Some x) u v p q =
+    lesser_cases (λ (i : ℕ). Means (b + c) i (Some x)) k j (λ h. absurd (omega arith)) (λ h. (q.0, omega arith, omega arith))
+means_lesser b c k j (Some x) None u v p q =
+    lesser_cases (λ (i : ℕ). Means (b + c) i (Some x)) k j (λ h. (p.0, omega arith, omega arith)) (λ h. absurd (omega arith))
+means_lesser b c k j (Some x) (Some y) u v p q =
+    lesser_cases (λ (i : ℕ). Means (b + c) i (lighter_of (Some x) (Some y))) k j
+    (λ h. subst (Means (b + c) k) (sym (by_key x.mask x.sum y.mask y.sum (omega arith) (omega arith) (omega arith))) (p.0, omega arith, omega arith))
+    (λ h. subst (Means (b + c) j) (sym (not_by_key x.mask x.sum y.mask y.sum (omega arith) (omega arith) (omega arith))) (q.0, omega arith, omega arith))
 
 means_both : (b c k j : ℕ) (x y : Choice) → Means b k x → Means c j y → Means (b + c) (k + j) (both_of x y)
-means_both b c k j Nothing y p q = omega arith
-means_both b c k j (Quorum m s) Nothing p q = omega arith
-means_both b c k j (Quorum m s) (Quorum n t) p q = (omega arith, omega arith, omega arith)
+means_both b c k j None y p q = omega arith
+means_both b c k j (Some x) None p q = omega arith
+means_both b c k j (Some x) (Some y) p q = (omega arith, omega arith, omega arith)
 
 -- ---- a pair, and a root with a pair
 pub means_pair : (b i j k : ℕ) (x y z : Choice) → b ≤ 458745 → Means b i x → Means b j y → Means b k z
@@ -112,15 +112,15 @@ module _ (k : Kind) (asker live : ℕ) (d ks : List ℕ) (f : AllMean asker live
 
 -- ---- the choice that a key means
 pub meant : (asker z b k : ℕ) (x : Choice) → b ≤ 8388608 → z ≤ 255 → Means b k (weighed asker z x) → T (passes (λ (m : ℕ). ltb m 65536) x) → k < absent
-    → (k % 65536 < 65536) × (k / 4294967296 < 4294967296) × (Quorum (k % 65536) (k / 4294967296) ≡ x)
-meant asker z b k Nothing h g p t l = absurd (omega arith)
-meant asker z b k (Quorum m s) h g p t l =
-    let y : m < 65536 = ltb→lt m 65536 t in
-    let e : k ≡ 16777216 * (256 * s + (z - bit m asker)) + m = p.0 in
-    let u : k % 65536 ≡ m = omega (arith, e) in
-    let v : k / 4294967296 ≡ s = omega (arith, e) in
-    (omega arith, omega arith, ap₂ Quorum u v)
+    → (k % 65536 < 65536) × (k / 4294967296 < 4294967296) × (quorum_with (k % 65536) (k / 4294967296) ≡ x)
+meant asker z b k None h g p t l = absurd (omega arith)
+meant asker z b k (Some x) h g p t l =
+    let y : x.mask < 65536 = ltb→lt x.mask 65536 t in
+    let e : k ≡ 16777216 * (256 * x.sum + (z - bit x.mask asker)) + x.mask = p.0 in
+    let u : k % 65536 ≡ x.mask = omega (arith, e) in
+    let v : k / 4294967296 ≡ x.sum = omega (arith, e) in
+    (omega arith, omega arith, ap₂ quorum_with u v)
 
-pub meant_nothing : (asker z b k : ℕ) (x : Choice) → b ≤ 8388608 → Means b k (weighed asker z x) → absent ≤ k → Nothing ≡ x
-meant_nothing asker z b k Nothing h p l = refl
-meant_nothing asker z b k (Quorum m s) h p l = absurd (omega arith)
+pub meant_nothing : (asker z b k : ℕ) (x : Choice) → b ≤ 8388608 → Means b k (weighed asker z x) → absent ≤ k → None ≡ x
+meant_nothing asker z b k None h p l = refl
+meant_nothing asker z b k (Some x) h p l = absurd (omega arith)

@@ -6,11 +6,11 @@ use mathlib.Core.List.{List, [], ◌∷◌}
 use Prim.Native.Nat.{ℕ, ◌+◌, ◌-◌, ◌*◌, ◌≤◌, ◌<◌}
 use native.Mathlib.Omega.{arith}
 use lib.Dec.{T, ltb, leb, eqb, ltb→lt, lt→ltb, leb→le, le→leb, eqb→eq, eqb_refl, T_not, not_T}
+use Rattle.std.specs.Prelude.{Some, None}
 use Rattle.mask.specs.Mask.{bit, within}
 use Rattle.mask.proofs.Tests.{and_both, and_left, and_right, or_left, or_right, or_cases, same_test, compared}
 use Rattle.mask.proofs.Laws.{bit_lt}
-use Rattle.quorum.specs.declared.Choice.{Choice}
-use Rattle.quorum.specs.declared.Choice.TheVariants.{Quorum, Nothing}
+use Rattle.quorum.specs.Choice.{Choice, quorum_with}
 use Rattle.quorum.specs.Nearest.{distance, nearer, better_of, one_of, nearest_of}
 use Rattle.quorum.specs.Levels.{lighter, lighter_of}
 use Rattle.quorum.proofs.Order.{by_weight, by_mask, lighter_cases, light_self, light_total, light_trans}
@@ -60,8 +60,8 @@ rule_weighs asker z m s n t l h = counts_weigh z m s (bit m asker) n t (bit n as
 
 -- ---- choices weighed
 abbrev pub weighed : ℕ → ℕ → Choice → Choice
-weighed asker z Nothing = Nothing
-weighed asker z (Quorum m s) = Quorum m (weight_of z s (bit m asker))
+weighed asker z None = None
+weighed asker z (Some x) = quorum_with x.mask (weight_of z x.sum (bit x.mask asker))
 
 weighed_cond : (asker z : ℕ) (b : Bool) (x y : Choice) → weighed asker z (cond b x y) ≡ cond b (weighed asker z x) (weighed asker z y)
 weighed_cond asker z true x y = refl
@@ -69,11 +69,11 @@ weighed_cond asker z false x y = refl
 
 pub weighed_better : (asker z : ℕ) (x y : Choice) → 1 ≤ z → z ≤ 255
     → weighed asker z (better_of asker x y) ≡ lighter_of (weighed asker z x) (weighed asker z y)
-weighed_better asker z Nothing y l h = refl
-weighed_better asker z (Quorum m s) Nothing l h = refl
-weighed_better asker z (Quorum m s) (Quorum n t) l h =
-    weighed_cond asker z (nearer asker m s n t) (Quorum m s) (Quorum n t)
-    ∙ ap (λ (b : Bool). cond b (weighed asker z (Quorum m s)) (weighed asker z (Quorum n t))) (rule_weighs asker z m s n t l h)
+weighed_better asker z None y l h = refl
+weighed_better asker z (Some x) None l h = refl
+weighed_better asker z (Some x) (Some y) l h =
+    weighed_cond asker z (nearer asker x.mask x.sum y.mask y.sum) (Some x) (Some y)
+    ∙ ap (λ (b : Bool). cond b (weighed asker z (Some x)) (weighed asker z (Some y))) (rule_weighs asker z x.mask x.sum y.mask y.sum l h)
 
 -- ---- the rule's order
 module _ (asker : ℕ) where
@@ -95,26 +95,26 @@ module _ (asker : ℕ) where
 
   -- as near as: what the better of two is as near as
   abbrev pub as_near : Choice → ℕ → ℕ → Bool
-  as_near Nothing m s = false
-  as_near (Quorum n t) m s = nearer asker n t m s
+  as_near None m s = false
+  as_near (Some x) m s = nearer asker x.mask x.sum m s
 
-  pub as_near_self : (m s : ℕ) → T (as_near (Quorum m s) m s)
+  pub as_near_self : (m s : ℕ) → T (as_near (quorum_with m s) m s)
   as_near_self = near_self
 
   pub as_near_left : (x y : Choice) (m s : ℕ) → T (as_near x m s) → T (as_near (better_of asker x y) m s)
-  as_near_left Nothing y m s h = absurd h
-  as_near_left (Quorum n t) Nothing m s h = h
-  as_near_left (Quorum n t) (Quorum k u) m s h = by (nearer asker n t k u) (λ e. e)
+  as_near_left None y m s h = absurd h
+  as_near_left (Some x) None m s h = h
+  as_near_left (Some x) (Some y) m s h = by (nearer asker x.mask x.sum y.mask y.sum) (λ e. e)
     where
-      by : (b : Bool) → (T (not b) → T (not (nearer asker n t k u))) → T (as_near (cond b (Quorum n t) (Quorum k u)) m s)
+      by : (b : Bool) → (T (not b) → T (not (nearer asker x.mask x.sum y.mask y.sum))) → T (as_near (cond b (Some x) (Some y)) m s)
       by true f = h
-      by false f = near_trans k u n t m s (near_total n t k u (f tt)) h
+      by false f = near_trans y.mask y.sum x.mask x.sum m s (near_total x.mask x.sum y.mask y.sum (f tt)) h
 
   pub as_near_right : (x y : Choice) (m s : ℕ) → T (as_near y m s) → T (as_near (better_of asker x y) m s)
-  as_near_right Nothing y m s h = h
-  as_near_right (Quorum n t) Nothing m s h = absurd h
-  as_near_right (Quorum n t) (Quorum k u) m s h = by (nearer asker n t k u) (λ e. e)
+  as_near_right None y m s h = h
+  as_near_right (Some x) None m s h = absurd h
+  as_near_right (Some x) (Some y) m s h = by (nearer asker x.mask x.sum y.mask y.sum) (λ e. e)
     where
-      by : (b : Bool) → (T b → T (nearer asker n t k u)) → T (as_near (cond b (Quorum n t) (Quorum k u)) m s)
-      by true f = near_trans n t k u m s (f tt) h
+      by : (b : Bool) → (T b → T (nearer asker x.mask x.sum y.mask y.sum)) → T (as_near (cond b (Some x) (Some y)) m s)
+      by true f = near_trans x.mask x.sum y.mask y.sum m s (f tt) h
       by false f = h

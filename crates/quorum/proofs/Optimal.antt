@@ -10,11 +10,11 @@ use lib.Dec.{T, eqb, ltb, eqb→eq}
 use lib.Bits.{bit_and, bit_or, and_step, or_step, or_disjoint}
 use lib.Pow.{pow_pos}
 use lib.ListN.{get_or}
+use Rattle.std.specs.Prelude.{Some, None}
 use Rattle.mask.specs.Mask.{bit, contains, within}
 use Rattle.mask.proofs.Tests.{and_left, and_right}
 use Rattle.mask.proofs.Laws.{bit_lt, bit_counted, by_bits, bit_met, bit_joined, bit_high, contains_power, within_joined, within_power}
-use Rattle.quorum.specs.declared.Choice.{Choice}
-use Rattle.quorum.specs.declared.Choice.TheVariants.{Quorum, Nothing}
+use Rattle.quorum.specs.Choice.{Choice, quorum_with}
 use Rattle.quorum.specs.declared.Kind.{Kind}
 use Rattle.quorum.specs.declared.Kind.TheVariants.{Read, Write}
 use Rattle.quorum.specs.Tree.{child}
@@ -71,20 +71,20 @@ all_apart xs ys = every (λ (x : ℕ). every (apart x) ys) xs
 
 -- a choice's mask passes a test
 abbrev pub passes : (ℕ → Bool) → Choice → Bool
-passes f Nothing = true
-passes f (Quorum m s) = f m
+passes f None = true
+passes f (Some x) = f x.mask
 
 pub passes_cond : (f : ℕ → Bool) (b : Bool) (x y : Choice) → T (passes f x) → T (passes f y) → T (passes f (cond b x y))
 passes_cond f true x y p q = p
 passes_cond f false x y p q = q
 
 pub passes_lighter : (f : ℕ → Bool) (x y : Choice) → T (passes f x) → T (passes f y) → T (passes f (lighter_of x y))
-passes_lighter f Nothing y p q = q
-passes_lighter f (Quorum m s) Nothing p q = p
-passes_lighter f (Quorum m s) (Quorum n t) p q = passes_cond f (lighter m s n t) (Quorum m s) (Quorum n t) p q
+passes_lighter f None y p q = q
+passes_lighter f (Some x) None p q = p
+passes_lighter f (Some x) (Some y) p q = passes_cond f (lighter x.mask x.sum y.mask y.sum) (Some x) (Some y) p q
 
 cond_and : (p q : Bool) (m s n t : ℕ)
-    → cond (p && q) (Quorum (m + n) (s + t)) Nothing ≡ both_of (cond p (Quorum m s) Nothing) (cond q (Quorum n t) Nothing)
+    → cond (p && q) (quorum_with (m + n) (s + t)) None ≡ both_of (cond p (quorum_with m s) None) (cond q (quorum_with n t) None)
 cond_and true true m s n t = refl
 cond_and true false m s n t = refl
 cond_and false q m s n t = refl
@@ -112,17 +112,17 @@ module _ (asker live : ℕ) (d : List ℕ) where
   weight z q = weight_of z (distance d q) (bit q asker)
 
   abbrev weigh : ℕ → ℕ → Choice
-  weigh z q = cond (within q live) (Quorum q (weight z q)) Nothing
+  weigh z q = cond (within q live) (quorum_with q (weight z q)) None
 
   abbrev lightest_of : ℕ → List ℕ → Choice
-  lightest_of z [] = Nothing
+  lightest_of z [] = None
   lightest_of z (q ∷ qs) = lighter_of (weigh z q) (lightest_of z qs)
 
   passes_lightest : (f : ℕ → Bool) (z : ℕ) (xs : List ℕ) → T (every f xs) → T (passes f (lightest_of z xs))
   passes_lightest f z [] t = tt
   passes_lightest f z (x ∷ xs) t =
       passes_lighter f (weigh z x) (lightest_of z xs)
-      (passes_cond f (within x live) (Quorum x (weight z x)) Nothing (and_left (f x) (every f xs) t) tt)
+      (passes_cond f (within x live) (quorum_with x (weight z x)) None (and_left (f x) (every f xs) t) tt)
       (passes_lightest f z xs (and_right (f x) (every f xs) t))
 
   weights_add : (y z a b : ℕ) → 1 ≤ y → 1 ≤ z → bit_and a b ≡ 0 → weight (y + z) (bit_or a b) ≡ weight y a + weight z b
@@ -133,9 +133,9 @@ module _ (asker live : ℕ) (d : List ℕ) where
   weigh_joined : (y z a b : ℕ) → 1 ≤ y → 1 ≤ z → T (apart a b) → weigh (y + z) (bit_or a b) ≡ both_of (weigh y a) (weigh z b)
   weigh_joined y z a b g h t =
       let e : bit_and a b ≡ 0 = eqb→eq (bit_and a b) 0 t in
-      let k : Quorum (bit_or a b) (weight (y + z) (bit_or a b)) ≡ Quorum (a + b) (weight y a + weight z b) =
-      ap₂ Quorum (or_disjoint a b e) (weights_add y z a b g h e) in
-      ap₂ (λ (p : Bool) (c : Choice). cond p c Nothing) (within_joined a b live) k
+      let k : quorum_with (bit_or a b) (weight (y + z) (bit_or a b)) ≡ quorum_with (a + b) (weight y a + weight z b) =
+      ap₂ quorum_with (or_disjoint a b e) (weights_add y z a b g h e) in
+      ap₂ (λ (p : Bool) (c : Choice). cond p c None) (within_joined a b live) k
       ∙ cond_and (within a live) (within b live) a (weight y a) b (weight z b)
 
   lightest_append : (z : ℕ) (xs ys : List ℕ) → lightest_of z (xs ++ ys) ≡ lighter_of (lightest_of z xs) (lightest_of z ys)
@@ -168,7 +168,7 @@ module _ (asker live : ℕ) (d : List ℕ) where
 
   weigh_power : (h r : ℕ) → weigh (2 ^ h) (2 ^ r) ≡ alone_of asker live d h r
   weigh_power h r =
-      ap₂ (λ (b : Bool) (w : ℕ). cond b (Quorum (2 ^ r) w) Nothing) (within_power r live)
+      ap₂ (λ (b : Bool) (w : ℕ). cond b (quorum_with (2 ^ r) w) None) (within_power r live)
       (ap₂ (λ (s c : ℕ). weight_of (2 ^ h) s c) (distance_power d r) (bit_power r asker))
 
   root_set : (k : Kind) (y x z q : ℕ) (ps : List ℕ) → 1 ≤ y → 1 ≤ x → Turns k y x z → T (every (apart q) ps)
@@ -225,7 +225,7 @@ module _ (asker live : ℕ) (d : List ℕ) where
   weigh_one : (z q : ℕ) → weigh z q ≡ weighed asker z (one_of live d q)
   weigh_one z q = by (within q live)
     where
-      by : (b : Bool) → cond b (Quorum q (weight z q)) Nothing ≡ weighed asker z (cond b (Quorum q (distance d q)) Nothing)
+      by : (b : Bool) → cond b (quorum_with q (weight z q)) None ≡ weighed asker z (cond b (quorum_with q (distance d q)) None)
       by true = refl
       by false = refl
 
@@ -240,8 +240,8 @@ module _ (asker live : ℕ) (d : List ℕ) where
 
   -- the masks of the smallest quorums are small
   mask_weighed : (f : ℕ → Bool) (z : ℕ) (x : Choice) → T (passes f (weighed asker z x)) → T (passes f x)
-  mask_weighed f z Nothing t = tt
-  mask_weighed f z (Quorum m s) t = t
+  mask_weighed f z None t = tt
+  mask_weighed f z (Some x) t = t
 
   pub mask_small : (k : Kind) → T (passes (λ (m : ℕ). ltb m 65536) (nearest_of asker live d (smallest k)))
   unfolding smallest

@@ -6,9 +6,9 @@ use Prim.Native.Nat.{ℕ, ◌+◌, ◌*◌, ◌≤◌, ◌<◌}
 use native.Mathlib.Nat.{add_comm}
 use native.Mathlib.Omega.{arith}
 use lib.Dec.{T, ltb, leb, eqb, ltb→lt, lt→ltb, leb→le, le→leb, eqb→eq, eqb_refl, T_not, not_T}
+use Rattle.std.specs.Prelude.{Some, None}
 use Rattle.mask.proofs.Tests.{and_both, and_left, and_right, or_left, or_right, or_cases, same_test, compared}
-use Rattle.quorum.specs.declared.Choice.{Choice}
-use Rattle.quorum.specs.declared.Choice.TheVariants.{Quorum, Nothing}
+use Rattle.quorum.specs.Choice.{Choice, quorum_with}
 use Rattle.quorum.specs.Levels.{lighter, lighter_of, both_of}
 
 -- ---- the order on sets with their weights
@@ -50,29 +50,29 @@ assoc_by f x y z false true c p q r h k = cc
 assoc_by f x y z false false true p q r h k = absurd (k tt tt)
 assoc_by f x y z false false false p q r h k = cc
 
-pub lighter_nothing : (x : Choice) → lighter_of x Nothing ≡ x
-lighter_nothing Nothing = refl
-lighter_nothing (Quorum m s) = refl
+pub lighter_nothing : (x : Choice) → lighter_of x None ≡ x
+lighter_nothing None = refl
+lighter_nothing (Some x) = refl
 
 pub lighter_assoc : (x y z : Choice) → lighter_of (lighter_of x y) z ≡ lighter_of x (lighter_of y z)
-lighter_assoc Nothing y z = refl
-lighter_assoc (Quorum m s) Nothing z = refl
-lighter_assoc (Quorum m s) (Quorum n t) Nothing = lighter_nothing _
-lighter_assoc (Quorum m s) (Quorum n t) (Quorum k u) =
-    assoc_by lighter_of (Quorum m s) (Quorum n t) (Quorum k u) (lighter m s n t) (lighter n t k u) (lighter m s k u) refl refl refl
-    (light_trans m s n t k u)
-    (λ a b. not_T (lighter m s k u) (λ w. T_not (lighter m s n t) a (light_trans m s k u n t w (light_total n t k u b))))
+lighter_assoc None y z = refl
+lighter_assoc (Some x) None z = refl
+lighter_assoc (Some x) (Some y) None = lighter_nothing _
+lighter_assoc (Some x) (Some y) (Some z) =
+    assoc_by lighter_of (Some x) (Some y) (Some z) (lighter x.mask x.sum y.mask y.sum) (lighter y.mask y.sum z.mask z.sum) (lighter x.mask x.sum z.mask z.sum) refl refl refl
+    (light_trans x.mask x.sum y.mask y.sum z.mask z.sum)
+    (λ a b. not_T (lighter x.mask x.sum z.mask z.sum) (λ w. T_not (lighter x.mask x.sum y.mask y.sum) a (light_trans x.mask x.sum z.mask z.sum y.mask y.sum w (light_total y.mask y.sum z.mask z.sum b))))
 
 -- ---- the join of two sets that share nothing: masks and weights add
-pub both_nothing : (x : Choice) → both_of x Nothing ≡ Nothing
-both_nothing Nothing = refl
-both_nothing (Quorum m s) = refl
+pub both_nothing : (x : Choice) → both_of x None ≡ None
+both_nothing None = refl
+both_nothing (Some x) = refl
 
 both_comm : (x y : Choice) → both_of x y ≡ both_of y x
-both_comm Nothing Nothing = refl
-both_comm Nothing (Quorum n t) = refl
-both_comm (Quorum m s) Nothing = refl
-both_comm (Quorum m s) (Quorum n t) = ap₂ Quorum (add_comm m n) (add_comm s t)
+both_comm None None = refl
+both_comm None (Some x) = refl
+both_comm (Some x) None = refl
+both_comm (Some x) (Some y) = ap₂ quorum_with (add_comm x.mask y.mask) (add_comm x.sum y.sum)
 
 lighter_shift : (m s n t k u : ℕ) → lighter (m + n) (s + t) (m + k) (s + u) ≡ lighter n t k u
 lighter_shift m s n t k u =
@@ -87,36 +87,36 @@ cond_ap f true x y = refl
 cond_ap f false x y = refl
 
 pub both_lighter : (x y z : Choice) → both_of x (lighter_of y z) ≡ lighter_of (both_of x y) (both_of x z)
-both_lighter Nothing y z = refl
-both_lighter (Quorum m s) Nothing z = refl
-both_lighter (Quorum m s) (Quorum n t) Nothing = refl
-both_lighter (Quorum m s) (Quorum n t) (Quorum k u) =
-    cond_ap (both_of (Quorum m s)) (lighter n t k u) (Quorum n t) (Quorum k u)
-    ∙ ap (λ (b : Bool). cond b (Quorum (m + n) (s + t)) (Quorum (m + k) (s + u))) (sym (lighter_shift m s n t k u))
+both_lighter None y z = refl
+both_lighter (Some x) None z = refl
+both_lighter (Some x) (Some y) None = refl
+both_lighter (Some x) (Some y) (Some z) =
+    cond_ap (both_of (Some x)) (lighter y.mask y.sum z.mask z.sum) (Some y) (Some z)
+    ∙ ap (λ (b : Bool). cond b (quorum_with (x.mask + y.mask) (x.sum + y.sum)) (quorum_with (x.mask + z.mask) (x.sum + z.sum))) (sym (lighter_shift x.mask x.sum y.mask y.sum z.mask z.sum))
 
 pub lighter_both : (x y z : Choice) → both_of (lighter_of x y) z ≡ lighter_of (both_of x z) (both_of y z)
 lighter_both x y z = both_comm (lighter_of x y) z ∙ both_lighter z x y ∙ ap₂ lighter_of (both_comm z x) (both_comm z y)
 
 -- ---- the two answers of a comparison
-lighter_left : (m s n t : ℕ) → T (lighter m s n t) → lighter_of (Quorum m s) (Quorum n t) ≡ Quorum m s
+lighter_left : (m s n t : ℕ) → T (lighter m s n t) → lighter_of (quorum_with m s) (quorum_with n t) ≡ quorum_with m s
 lighter_left m s n t h = by (lighter m s n t) h
   where
-    by : (b : Bool) → T b → cond b (Quorum m s) (Quorum n t) ≡ Quorum m s
+    by : (b : Bool) → T b → cond b (quorum_with m s) (quorum_with n t) ≡ quorum_with m s
     by true h = refl
     by false h = absurd h
 
-lighter_right : (m s n t : ℕ) → (T (lighter m s n t) → ⊥) → lighter_of (Quorum m s) (Quorum n t) ≡ Quorum n t
+lighter_right : (m s n t : ℕ) → (T (lighter m s n t) → ⊥) → lighter_of (quorum_with m s) (quorum_with n t) ≡ quorum_with n t
 lighter_right m s n t h = by (lighter m s n t) h
   where
-    by : (b : Bool) → (T b → ⊥) → cond b (Quorum m s) (Quorum n t) ≡ Quorum n t
+    by : (b : Bool) → (T b → ⊥) → cond b (quorum_with m s) (quorum_with n t) ≡ quorum_with n t
     by true h = absurd (h tt)
     by false h = refl
 
 -- the same of keys: a weight times 2 ^ 24, and a mask below that
-pub by_key : (m s n t : ℕ) → m < 16777216 → n < 16777216 → 16777216 * s + m ≤ 16777216 * t + n → lighter_of (Quorum m s) (Quorum n t) ≡ Quorum m s
+pub by_key : (m s n t : ℕ) → m < 16777216 → n < 16777216 → 16777216 * s + m ≤ 16777216 * t + n → lighter_of (quorum_with m s) (quorum_with n t) ≡ quorum_with m s
 by_key m s n t u v h =
-    compared (lighter_of (Quorum m s) (Quorum n t) ≡ Quorum m s) s t (λ e. lighter_left m s n t (by_weight m s n t e))
+    compared (lighter_of (quorum_with m s) (quorum_with n t) ≡ quorum_with m s) s t (λ e. lighter_left m s n t (by_weight m s n t e))
     (λ e. lighter_left m s n t (by_mask m s n t e (omega arith))) (λ e. absurd (omega arith))
 
-pub not_by_key : (m s n t : ℕ) → m < 16777216 → n < 16777216 → 16777216 * t + n < 16777216 * s + m → lighter_of (Quorum m s) (Quorum n t) ≡ Quorum n t
+pub not_by_key : (m s n t : ℕ) → m < 16777216 → n < 16777216 → 16777216 * t + n < 16777216 * s + m → lighter_of (quorum_with m s) (quorum_with n t) ≡ quorum_with n t
 not_by_key m s n t u v h = lighter_right m s n t (lighter_cases ⊥ m s n t (λ a. omega arith) (λ a b. omega arith))

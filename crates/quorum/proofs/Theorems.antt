@@ -6,11 +6,11 @@ use Prim.Native.Nat.{ℕ, ◌<◌}
 use native.Mathlib.Omega.{arith}
 use lib.Dec.{T}
 use lib.ListN.{length, get_or}
+use Rattle.std.specs.Prelude.{Some, None}
 use Rattle.numbers.specs.Numbers.{no_quorum}
 use Rattle.mask.specs.Mask.{contains, within}
 use Rattle.mask.proofs.Laws.{within_contains, within_self}
-use Rattle.quorum.specs.declared.Choice.{Choice}
-use Rattle.quorum.specs.declared.Choice.TheVariants.{Quorum, Nothing}
+use Rattle.quorum.specs.Choice.{Choice, quorum_with}
 use Rattle.quorum.specs.declared.Kind.{Kind}
 use Rattle.quorum.specs.declared.Kind.TheVariants.{Read, Write}
 use Rattle.quorum.specs.Tree.{leaves, root, height}
@@ -86,7 +86,7 @@ pub none_nearer : (asker live : ℕ) (d : List ℕ) (q : ℕ) (qs : List ℕ) �
 none_nearer asker live d q qs (here {qs = rest}) w = as_near_left asker (one_of live d q) (nearest_of asker live d rest) q (distance d q)
     (by (within q live) w)
   where
-    by : (b : Bool) → T b → T (as_near asker (cond b (Quorum q (distance d q)) Nothing) q (distance d q))
+    by : (b : Bool) → T b → T (as_near asker (cond b (quorum_with q (distance d q)) None) q (distance d q))
     by true t = as_near_self asker q (distance d q)
     by false t = absurd t
 none_nearer asker live d q qs (there {p = p} {qs = rest} i) w =
@@ -94,21 +94,21 @@ none_nearer asker live d q qs (there {p = p} {qs = rest} i) w =
 
 -- a choice is one of the list, inside live, with its own sum
 abbrev pub Chosen : ℕ → List ℕ → List ℕ → Choice → Type 0
-Chosen live d qs Nothing = T true
-Chosen live d qs (Quorum m s) = In m qs × T (within m live) × (s ≡ distance d m)
+Chosen live d qs None = T true
+Chosen live d qs (Some x) = In x.mask qs × T (within x.mask live) × (x.sum ≡ distance d x.mask)
 
 chosen_better : (asker live : ℕ) (d qs : List ℕ) (x y : Choice) → Chosen live d qs x → Chosen live d qs y → Chosen live d qs (better_of asker x y)
-chosen_better asker live d qs Nothing y p q = q
-chosen_better asker live d qs (Quorum m s) Nothing p q = p
-chosen_better asker live d qs (Quorum m s) (Quorum n t) p q = by (nearer asker m s n t)
+chosen_better asker live d qs None y p q = q
+chosen_better asker live d qs (Some x) None p q = p
+chosen_better asker live d qs (Some x) (Some y) p q = by (nearer asker x.mask x.sum y.mask y.sum)
   where
-    by : (b : Bool) → Chosen live d qs (cond b (Quorum m s) (Quorum n t))
+    by : (b : Bool) → Chosen live d qs (cond b (Some x) (Some y))
     by true = p
     by false = q
 
 chosen_more : (live : ℕ) (d : List ℕ) (q : ℕ) (qs : List ℕ) (x : Choice) → Chosen live d qs x → Chosen live d (q ∷ qs) x
-chosen_more live d q qs Nothing p = tt
-chosen_more live d q qs (Quorum m s) p = (there p.0, p.1, p.2)
+chosen_more live d q qs None p = tt
+chosen_more live d q qs (Some x) p = (there p.0, p.1, p.2)
 
 pub chosen : (asker live : ℕ) (d qs : List ℕ) → Chosen live d qs (nearest_of asker live d qs)
 chosen asker live d [] = tt
@@ -116,24 +116,24 @@ chosen asker live d (q ∷ qs) =
     chosen_better asker live d (q ∷ qs) (one_of live d q) (nearest_of asker live d qs) (by (within q live) (λ t. t))
     (chosen_more live d q qs (nearest_of asker live d qs) (chosen asker live d qs))
   where
-    by : (b : Bool) → (T b → T (within q live)) → Chosen live d (q ∷ qs) (cond b (Quorum q (distance d q)) Nothing)
+    by : (b : Bool) → (T b → T (within q live)) → Chosen live d (q ∷ qs) (cond b (quorum_with q (distance d q)) None)
     by true f = (here, f tt, refl)
     by false f = tt
 
 -- nothing is chosen exactly when no set of the list is inside live
 abbrev pub is_nothing : Choice → Bool
-is_nothing Nothing = true
-is_nothing (Quorum m s) = false
+is_nothing None = true
+is_nothing (Some x) = false
 
-nothing_better : (asker : ℕ) (b : Bool) (q s : ℕ) (y : Choice) → is_nothing (better_of asker (cond b (Quorum q s) Nothing) y) ≡ not (b || not (is_nothing y))
-nothing_better asker true q s Nothing = refl
-nothing_better asker true q s (Quorum n t) = by (nearer asker q s n t)
+nothing_better : (asker : ℕ) (b : Bool) (q s : ℕ) (y : Choice) → is_nothing (better_of asker (cond b (quorum_with q s) None) y) ≡ not (b || not (is_nothing y))
+nothing_better asker true q s None = refl
+nothing_better asker true q s (Some x) = by (nearer asker q s x.mask x.sum)
   where
-    by : (b : Bool) → is_nothing (cond b (Quorum q s) (Quorum n t)) ≡ false
+    by : (b : Bool) → is_nothing (cond b (quorum_with q s) (Some x)) ≡ false
     by true = refl
     by false = refl
-nothing_better asker false q s Nothing = refl
-nothing_better asker false q s (Quorum n t) = refl
+nothing_better asker false q s None = refl
+nothing_better asker false q s (Some x) = refl
 
 pub none_in_list : (asker live : ℕ) (d qs : List ℕ) → is_nothing (nearest_of asker live d qs) ≡ not (any_within qs live)
 none_in_list asker live d [] = refl
@@ -148,8 +148,8 @@ none_exactly k asker live d = none_in_list asker live d (smallest k) ∙ ap not 
 
 -- ---- document 01's number and values
 number_by : (x : Choice) → number_of x ≡ cond (is_nothing x) no_quorum 0
-number_by Nothing = refl
-number_by (Quorum m s) = refl
+number_by None = refl
+number_by (Some x) = refl
 
 not_cond : (b : Bool) → cond (not b) no_quorum 0 ≡ cond b 0 no_quorum
 not_cond true = refl
@@ -165,8 +165,8 @@ distance_none [] = refl
 distance_none (x ∷ d) = omega (arith, distance_none d)
 
 own_sum : (live : ℕ) (d qs : List ℕ) (x : Choice) → Chosen live d qs x → sum_of x ≡ distance d (mask_of x)
-own_sum live d qs Nothing p = sym (distance_none d)
-own_sum live d qs (Quorum m s) p = p.2
+own_sum live d qs None p = sym (distance_none d)
+own_sum live d qs (Some x) p = p.2
 
 pub sum_exactly : (asker live : ℕ) (d qs : List ℕ) → sum_of (nearest_of asker live d qs) ≡ distance d (mask_of (nearest_of asker live d qs))
 sum_exactly asker live d qs = own_sum live d qs (nearest_of asker live d qs) (chosen asker live d qs)

@@ -5,10 +5,10 @@ use mathlib.Core.Bool.{Bool, true, false, cond, beq, ◌&&◌, ◌||◌}
 use mathlib.Core.List.{List, [], ◌∷◌}
 use Prim.Native.Nat.{ℕ}
 use lib.Dec.{T, ltb, leb, eqb}
+use Rattle.std.specs.Prelude.{Some, None}
 use Rattle.mask.specs.Mask.{within}
 use Rattle.mask.proofs.Tests.{and_left, and_right}
-use Rattle.quorum.specs.declared.Choice.{Choice}
-use Rattle.quorum.specs.declared.Choice.TheVariants.{Quorum, Nothing}
+use Rattle.quorum.specs.Choice.{Choice, quorum_with}
 use Rattle.quorum.specs.declared.Kind.{Kind}
 use Rattle.quorum.specs.declared.Kind.TheVariants.{Read, Write}
 use Rattle.quorum.specs.Smallest.{smallest}
@@ -18,7 +18,7 @@ use Rattle.quorum.proofs.Optimal.{every, passes, passes_cond, passes_lighter}
 
 -- document 01's rule: of two sets with their sums the one with the lesser sum, and of equal sums the one with the lower mask
 abbrev pub plain_of : ℕ → List ℕ → List ℕ → Choice
-plain_of live d [] = Nothing
+plain_of live d [] = None
 plain_of live d (q ∷ qs) = lighter_of (one_of live d q) (plain_of live d qs)
 
 -- for asker 0 the set m goes before n exactly where its mask is not the higher; so for every two of a list
@@ -40,14 +40,14 @@ module _ (live : ℕ) (d : List ℕ) where
   passes_plain f [] t = tt
   passes_plain f (x ∷ xs) t =
       passes_lighter f (one_of live d x) (plain_of live d xs)
-      (passes_cond f (within x live) (Quorum x (distance d x)) Nothing (and_left (f x) (every f xs) t) tt)
+      (passes_cond f (within x live) (quorum_with x (distance d x)) None (and_left (f x) (every f xs) t) tt)
       (passes_plain f xs (and_right (f x) (every f xs) t))
 
   better_plain : (b : Bool) (q s : ℕ) (y : Choice) → T (passes (agree q) y)
-      → better_of 0 (cond b (Quorum q s) Nothing) y ≡ lighter_of (cond b (Quorum q s) Nothing) y
-  better_plain true q s Nothing t = refl
-  better_plain true q s (Quorum n u) t =
-      ap (λ (b : Bool). cond (ltb s u || eqb s u && b) (Quorum q s) (Quorum n u)) (same_by (ahead 0 q n) (leb q n) t)
+      → better_of 0 (cond b (quorum_with q s) None) y ≡ lighter_of (cond b (quorum_with q s) None) y
+  better_plain true q s None t = refl
+  better_plain true q s (Some x) t =
+      ap (λ (b : Bool). cond (ltb s x.sum || eqb s x.sum && b) (quorum_with q s) (Some x)) (same_by (ahead 0 q x.mask) (leb q x.mask) t)
   better_plain false q s y t = refl
 
   plain : (qs : List ℕ) → T (all_agree qs) → nearest_of 0 live d qs ≡ plain_of live d qs

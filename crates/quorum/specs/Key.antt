@@ -1,8 +1,7 @@
 -- A weighed choice as one number, as the private functions carry it: the weight times 2 ^ 24, and the mask. What is proved of them is in proofs/Keys.antt.
-use Rattle.std.specs.Prelude.{◌≡◌, cond, List, ℕ, zero, suc, ◌+◌, ◌*◌, ◌≤◌, ◌<◌, eqb, ltb, leb, get_or}
+use Rattle.std.specs.Prelude.{◌≡◌, cond, List, ℕ, zero, suc, ◌+◌, ◌*◌, ◌≤◌, ◌<◌, eqb, ltb, leb, get_or, Some, None}
 use Rattle.numbers.specs.Sizes.{nodes}
-use Rattle.quorum.specs.declared.Choice.{Choice}
-use Rattle.quorum.specs.declared.Choice.TheVariants.{Quorum, Nothing}
+use Rattle.quorum.specs.Choice.{Choice}
 use Rattle.quorum.specs.declared.Kind.{Kind}
 use Rattle.quorum.specs.declared.Kind.TheVariants.{Read, Write}
 use Rattle.quorum.specs.Tree.{child}
@@ -17,8 +16,8 @@ key_of m w = 16777216 * w + m
 
 -- the key k means the choice, whose mask is at most b, and whose weight is at most what a sum of b weighs
 abbrev pub Means : ℕ → ℕ → Choice → Type 0
-Means b k Nothing = absent ≤ k
-Means b k (Quorum m w) = (k ≡ key_of m w) × (m ≤ b) × (w ≤ 257 * b)
+Means b k None = absent ≤ k
+Means b k (Some x) = (k ≡ key_of x.mask x.sum) × (x.mask ≤ b) × (x.sum ≤ 257 * b)
 
 abbrev pub lesser_of : ℕ → ℕ → ℕ
 lesser_of a b = cond (leb a b) a b

@@ -1,10 +1,9 @@
 -- The choice made level by level: a subtree's best set comes from its children's best pairs, and a pair's from the subtrees one level down. The choices
 -- here are weighed: beside its mask a set has one number, its weight, which puts the sum of its distances first and then whether the asker is in it.
 -- Weights of sets that share no node add.
-use Rattle.std.specs.Prelude.{Bool, cond, ◌&&◌, ◌||◌, List, ℕ, zero, suc, ◌+◌, ◌-◌, ◌*◌, ◌^◌, eqb, ltb, leb, get_or}
+use Rattle.std.specs.Prelude.{Bool, cond, ◌&&◌, ◌||◌, List, ℕ, zero, suc, ◌+◌, ◌-◌, ◌*◌, ◌^◌, eqb, ltb, leb, get_or, Some, None}
 use Rattle.mask.specs.Mask.{contains}
-use Rattle.quorum.specs.declared.Choice.{Choice}
-use Rattle.quorum.specs.declared.Choice.TheVariants.{Quorum, Nothing}
+use Rattle.quorum.specs.Choice.{Choice, quorum_with}
 use Rattle.quorum.specs.declared.Kind.{Kind}
 use Rattle.quorum.specs.declared.Kind.TheVariants.{Read, Write}
 use Rattle.quorum.specs.Tree.{child}
@@ -16,7 +15,7 @@ turns_of asker h i = 2 ^ h - cond (eqb i asker) 1 0
 
 -- one node by itself, if it is live
 abbrev pub alone_of : ℕ → ℕ → List ℕ → ℕ → ℕ → Choice
-alone_of asker live d h i = cond (contains live i) (Quorum (2 ^ i) (256 * get_or d i 0 + turns_of asker h i)) Nothing
+alone_of asker live d h i = cond (contains live i) (quorum_with (2 ^ i) (256 * get_or d i 0 + turns_of asker h i)) None
 
 -- the set m of weight v goes before the set n of weight w
 abbrev pub lighter : ℕ → ℕ → ℕ → ℕ → Bool
@@ -24,15 +23,15 @@ lighter m v n w = ltb v w || eqb v w && leb m n
 
 -- of two choices the lighter
 abbrev pub lighter_of : Choice → Choice → Choice
-lighter_of Nothing b = b
-lighter_of (Quorum m v) Nothing = Quorum m v
-lighter_of (Quorum m v) (Quorum n w) = cond (lighter m v n w) (Quorum m v) (Quorum n w)
+lighter_of None b = b
+lighter_of (Some x) None = Some x
+lighter_of (Some x) (Some y) = cond (lighter x.mask x.sum y.mask y.sum) (Some x) (Some y)
 
 -- two choices of sets that share no node, joined, so that masks and weights add: nothing unless both are there
 abbrev pub both_of : Choice → Choice → Choice
-both_of Nothing b = Nothing
-both_of (Quorum m v) Nothing = Nothing
-both_of (Quorum m v) (Quorum n w) = Quorum (m + n) (v + w)
+both_of None b = None
+both_of (Some x) None = None
+both_of (Some x) (Some y) = quorum_with (x.mask + y.mask) (x.sum + y.sum)
 
 -- the lightest join of two of three
 abbrev pub choose_pair : Choice → Choice → Choice → Choice

@@ -4,6 +4,7 @@
 pub mod Tree
 pub mod Quorum
 pub mod Smallest
+pub mod Choice
 pub mod Nearest
 pub mod Levels
 pub mod Counts

@@ -22,11 +22,11 @@ pub enum Kind {
     Write,
 }
 
-// A set of nodes with its sum of distances, or nothing where there is no quorum.
-#[derive(Clone, Copy)]
-pub enum Choice {
-    Quorum(u16, u32),
-    Nothing,
+// A quorum that was chosen: its nodes, and the sum of their distances.
+#[derive(Clone, Copy, PartialEq, Eq)]
+pub struct Quorum {
+    pub mask: u16,
+    pub sum: u32,
 }
 
 // Two of three.
@@ -198,7 +198,7 @@ fn best_pair(kind: Kind, keys: &[u64; NODES], root: u8, height: u8) -> u64
 // The nearest quorum within the live nodes, for the node that asks: of the smallest quorums inside live the one with the least sum; of equal sums one with the
 // asker first, and then the lowest mask. Its number is 8 exactly where live has no quorum, and its sum is that of its mask. An asker above 12 is in no set.
 // Ruled out: a tie that goes to the lower mask although only the other set has the asker; the asker's set where another is nearer.
-pub fn nearest(kind: Kind, asker: u8, live: u16, distances: &[u16; NODES]) -> Choice
+pub fn nearest(kind: Kind, asker: u8, live: u16, distances: &[u16; NODES]) -> Option<Quorum>
     ensures value { result ≡ nearest_of asker live distances.now (smallest kind) }
     ensures result_value { number_of result ≡ cond (is_quorum kind live) 0 no_quorum }
     ensures result_value_2 { sum_of result ≡ distance distances.now (mask_of result) }
@@ -207,8 +207,11 @@ pub fn nearest(kind: Kind, asker: u8, live: u16, distances: &[u16; NODES]) -> Ch
     let pair = best_pair(kind, &keys, 0, 1);
     let key = with_root(kind, keys[0], pair);
     if key < ABSENT {
-        Choice::Quorum((key % 65536) as u16, (key / ABOVE) as u32)
+        Some(Quorum {
+            mask: (key % 65536) as u16,
+            sum: (key / ABOVE) as u32,
+        })
     } else {
-        Choice::Nothing
+        None
     }
 }

@@ -1,8 +1,7 @@
 -- Each byte of a reply. Assumes nothing.
-use Rattle.std.specs.Prelude.{ℕ, List, [], ◌∷◌, ◌++◌}
+use Rattle.std.specs.Prelude.{ℕ, List, [], ◌∷◌, ◌++◌, Some, None}
 use Rattle.decimal.specs.Decimal.{decimal}
-use Rattle.quorum.specs.declared.Choice.{Choice}
-use Rattle.quorum.specs.declared.Choice.TheVariants.{Quorum, Nothing}
+use Rattle.quorum.specs.Choice.{Choice}
 use Rattle.quorum.specs.declared.Kind.{Kind}
 use Rattle.quorum.specs.declared.Kind.TheVariants.{Read, Write}
 use Rattle.quorum.specs.Nearest.{nearest_of}
@@ -15,8 +14,8 @@ chosen kind asker live distances = nearest_of asker live distances (smallest kin
 
 -- its mask and its sum with a space between, or `- -`
 unfoldable pub choice_text : Choice → List ℕ
-choice_text (Quorum mask sum) = decimal mask ++ (32 ∷ []) ++ decimal sum
-choice_text Nothing = 45 ∷ 32 ∷ 45 ∷ []
+choice_text (Some x) = decimal x.mask ++ (32 ∷ []) ++ decimal x.sum
+choice_text None = 45 ∷ 32 ∷ 45 ∷ []
 
 -- a column: a space, and the quorum of a kind that is chosen
 unfoldable pub column : Kind → ℕ → ℕ → List ℕ → List ℕ

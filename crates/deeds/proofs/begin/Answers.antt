@@ -6,7 +6,7 @@ use borrow.Author.Tests.{eqb-true, ltb-true, not-false}
 use Rattle.numbers.specs.Sizes.{highest}
 use Rattle.octets.proofs.Laws.{Bytes}
 use Rattle.numbers.specs.Refusal.{first_of}
-use Rattle.quorum.specs.declared.Choice.{Choice}
+use Rattle.quorum.specs.Choice.{Choice}
 use Rattle.quorum.specs.Nearest.{mask_of}
 use Rattle.coordinator.specs.System.{tree}
 use Rattle.coordinator.specs.Calls.{begin_refusals, begun, begin_of}

@@ -1,7 +1,7 @@
 -- `deeds::request_ahead`: the first refusal of the step by value, with the write quorum that it chooses.
 use mathlib.Core.Path.{ap, ◌∙◌}
 use Rattle.numbers.specs.Refusal.{first_of}
-use Rattle.quorum.specs.declared.Choice.{Choice}
+use Rattle.quorum.specs.Choice.{Choice}
 use Rattle.coordinator.specs.System.{tree}
 use Rattle.coordinator.specs.Calls.{request_commit_refusals, request_commit_of}
 use Rattle.record.specs.Record.{record_of}

@@ -5,7 +5,7 @@ use native.Mathlib.Omega.{arith}
 use Rattle.octets.proofs.Laws.{Bytes}
 use Rattle.mask.specs.Mask.{joined}
 use Rattle.numbers.specs.Refusal.{first_of}
-use Rattle.quorum.specs.declared.Choice.{Choice}
+use Rattle.quorum.specs.Choice.{Choice}
 use Rattle.quorum.specs.Nearest.{mask_of}
 use Rattle.coordinator.specs.System.{tree}
 use Rattle.coordinator.specs.Calls.{request_commit_refusals, requested, request_commit_of}

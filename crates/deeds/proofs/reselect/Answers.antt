@@ -4,7 +4,7 @@ use Prim.Native.Nat.{ℕ}
 use native.Mathlib.Omega.{arith}
 use Rattle.octets.proofs.Laws.{Bytes}
 use Rattle.numbers.specs.Refusal.{first_of}
-use Rattle.quorum.specs.declared.Choice.{Choice}
+use Rattle.quorum.specs.Choice.{Choice}
 use Rattle.quorum.specs.Nearest.{mask_of}
 use Rattle.coordinator.specs.System.{tree}
 use Rattle.coordinator.specs.Calls.{reselect_refusals, reselected, reselect_of}

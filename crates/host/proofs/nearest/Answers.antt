@@ -20,18 +20,18 @@ returns-then-asker-ge-NODES_END c = let a = c.args in
     c.refused-then-asker-ge-NODES_END.ensures
     ∙ sym (answer_no_node a.kind a.live a.distances.now a.asker c.if-distances-ne-DISTANCES.false c.if-live-gt-EVERY_NODE.false c.if-asker-ge-NODES_END.true)
 
-pub returns-in-Quorum : goal.returns-in-Quorum
-returns-in-Quorum c = let a = c.args in
+pub returns-in-Some : goal.returns-in-Some
+returns-in-Some c = let a = c.args in
     let p = ap (λ (d : List ℕ). nearest_of a.asker a.live d (smallest a.kind)) (sym c.distances_of-d.ensures)
-    ∙ sym c.nearest-choice.ensures.value ∙ c.in-Quorum.is in
+    ∙ sym c.nearest-choice.ensures.value ∙ c.in-Some.is in
     sym (answer_choice a.kind a.live a.distances.now a.asker _
     c.if-distances-ne-DISTANCES.false c.if-live-gt-EVERY_NODE.false
     c.if-asker-ge-NODES_END.false p)
 
-pub returns-in-Nothing : goal.returns-in-Nothing
-returns-in-Nothing c = let a = c.args in
+pub returns-in-None : goal.returns-in-None
+returns-in-None c = let a = c.args in
     let p = ap (λ (d : List ℕ). nearest_of a.asker a.live d (smallest a.kind)) (sym c.distances_of-d.ensures)
-    ∙ sym c.nearest-choice.ensures.value ∙ c.in-Nothing.is in
-    c.refused-in-Nothing.ensures ∙ sym (answer_choice a.kind a.live a.distances.now a.asker _
+    ∙ sym c.nearest-choice.ensures.value ∙ c.in-None.is in
+    c.refused-in-None.ensures ∙ sym (answer_choice a.kind a.live a.distances.now a.asker _
     c.if-distances-ne-DISTANCES.false c.if-live-gt-EVERY_NODE.false
     c.if-asker-ge-NODES_END.false p)

@@ -4,15 +4,16 @@ use mathlib.Core.Bool.{Bool, cond}
 use Prim.Native.Nat.{ℕ, ◌+◌, ◌*◌, ◌^◌, ◌≤◌, ◌<◌}
 use native.Mathlib.Omega.{arith}
 use lib.ListN.{get_or}
+use Rattle.std.specs.Prelude.{None}
 use Rattle.mask.proofs.Laws.{only_small}
-use Rattle.quorum.specs.declared.Choice.TheVariants.{Quorum, Nothing}
+use Rattle.quorum.specs.Choice.{quorum_with}
 use Rattle.quorum.specs.Levels.{turns_of}
 use Rattle.quorum.specs.Key.{absent, Means}
 use Rattle.quorum.proofs.alone.Goals as goal
 
 -- the three parts of a key
 parts : (far turns one d t m : ℕ) → far ≡ d → turns ≡ t → one ≡ m → far < 65536 → turns ≤ 4 → one < 65536
-    → Means 65535 (4294967296 * far + 16777216 * turns + one) (Quorum m (256 * d + t))
+    → Means 65535 (4294967296 * far + 16777216 * turns + one) (quorum_with m (256 * d + t))
 parts far turns one d t m e f g p q r = (omega (arith, e, f, g), omega (arith, g), omega (arith, e, f))
 
 pub returns-then-has-clause-means : goal.returns-then-has-clause-means
@@ -24,7 +25,7 @@ returns-then-has-clause-means c = let a = c.args in
     let there = sym c.if-has.true ∙ c.has.ensures in
     subst
     (λ (t : Bool). Means 65535 (4294967296 * far.result + 16777216 * many.result + c.wide-then-has.result)
-    (cond t (Quorum (2 ^ a.node) (256 * get_or d a.node 0 + turns_of a.asker a.height a.node)) Nothing)) there
+    (cond t (quorum_with (2 ^ a.node) (256 * get_or d a.node 0 + turns_of a.asker a.height a.node)) None)) there
     (parts far.result many.result c.wide-then-has.result _ _ _ far.ensures.0 many.ensures.0 one far.ensures.1 many.ensures.1
     c.wide-then-has.ensures.1)
 
@@ -43,7 +44,7 @@ returns-else-has-clause-means c = let a = c.args in
     let there = sym c.if-has.false ∙ c.has.ensures in
     subst
     (λ (t : Bool). Means 65535 absent
-    (cond t (Quorum (2 ^ a.node) (256 * get_or d a.node 0 + turns_of a.asker a.height a.node)) Nothing)) there (omega arith)
+    (cond t (quorum_with (2 ^ a.node) (256 * get_or d a.node 0 + turns_of a.asker a.height a.node)) None)) there (omega arith)
 
 pub returns-else-has-clause-upper_bound : goal.returns-else-has-clause-upper_bound
 returns-else-has-clause-upper_bound c = let a = c.args in

@@ -6,7 +6,7 @@ use Prim.Native.Nat.{ℕ}
 use native.Mathlib.Omega.{arith}
 use lib.ListN.{get_or}
 use Rattle.numbers.specs.Numbers.{no_quorum}
-use Rattle.quorum.specs.declared.Choice.{Choice}
+use Rattle.quorum.specs.Choice.{Choice}
 use Rattle.quorum.specs.declared.Kind.{Kind}
 use Rattle.quorum.specs.Quorum.{is_quorum}
 use Rattle.quorum.specs.Smallest.{smallest}

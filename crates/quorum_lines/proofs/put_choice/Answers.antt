@@ -9,33 +9,33 @@ use Rattle.decimal.specs.Laws.{next_fits, put_first, put_behind, decimal_short}
 use Rattle.quorum_lines.specs.Reply.{choice_text}
 use Rattle.quorum_lines.proofs.put_choice.Goals as goal
 
-pub returns-in-Nothing-clause-next : goal.returns-in-Nothing-clause-next
+pub returns-in-None-clause-next : goal.returns-in-None-clause-next
 unfolding choice_text
-returns-in-Nothing-clause-next c = let x = c.args in
+returns-in-None-clause-next c = let x = c.args in
     let r = c.append in
-    let e = c.in-Nothing.is in
+    let e = c.in-None.is in
     rw e (r.ensures.next ∙ next_fits x.out.now x.at (45 ∷ 32 ∷ 45 ∷ []) (omega arith))
 
-pub returns-in-Nothing-clause-buffer : goal.returns-in-Nothing-clause-buffer
+pub returns-in-None-clause-buffer : goal.returns-in-None-clause-buffer
 unfolding choice_text
-returns-in-Nothing-clause-buffer c = let x = c.args in
+returns-in-None-clause-buffer c = let x = c.args in
     let r = c.append in
-    let e = c.in-Nothing.is in
+    let e = c.in-None.is in
     rw e r.ensures.buffer
 
-pub returns-in-Nothing-clause-within : goal.returns-in-Nothing-clause-within
+pub returns-in-None-clause-within : goal.returns-in-None-clause-within
 unfolding choice_text
-returns-in-Nothing-clause-within c = let x = c.args in
+returns-in-None-clause-within c = let x = c.args in
     let r = c.append in
-    let e = c.in-Nothing.is in
+    let e = c.in-None.is in
     rw e (omega arith)
 
-pub returns-in-Quorum-clause-next : goal.returns-in-Quorum-clause-next
+pub returns-in-Some-clause-next : goal.returns-in-Some-clause-next
 unfolding choice_text
-returns-in-Quorum-clause-next c = let x = c.args in
-    let m = c.in-Quorum.mask in
-    let s = c.in-Quorum.sum in
-    let e = c.in-Quorum.is in
+returns-in-Some-clause-next c = let x = c.args in
+    let m = c.in-Some.mask in
+    let s = c.in-Some.sum in
+    let e = c.in-Some.is in
     let hm : length (decimal m) ≤ 5 = decimal_short 5 m (omega arith) (omega arith) in
     let hs : length (decimal s) ≤ 10 = decimal_short 10 s (omega arith) (omega arith) in
     let a1 = length-append (decimal m) (32 ∷ []) in
@@ -46,12 +46,12 @@ returns-in-Quorum-clause-next c = let x = c.args in
     let three = put_behind x.out.now x.at (decimal m ++ (32 ∷ [])) (decimal s) (omega arith) two r.next r.buffer in
     rw e three.0
 
-pub returns-in-Quorum-clause-buffer : goal.returns-in-Quorum-clause-buffer
+pub returns-in-Some-clause-buffer : goal.returns-in-Some-clause-buffer
 unfolding choice_text
-returns-in-Quorum-clause-buffer c = let x = c.args in
-    let m = c.in-Quorum.mask in
-    let s = c.in-Quorum.sum in
-    let e = c.in-Quorum.is in
+returns-in-Some-clause-buffer c = let x = c.args in
+    let m = c.in-Some.mask in
+    let s = c.in-Some.sum in
+    let e = c.in-Some.is in
     let hm : length (decimal m) ≤ 5 = decimal_short 5 m (omega arith) (omega arith) in
     let hs : length (decimal s) ≤ 10 = decimal_short 10 s (omega arith) (omega arith) in
     let a1 = length-append (decimal m) (32 ∷ []) in
@@ -62,12 +62,12 @@ returns-in-Quorum-clause-buffer c = let x = c.args in
     let three = put_behind x.out.now x.at (decimal m ++ (32 ∷ [])) (decimal s) (omega arith) two r.next r.buffer in
     rw e three.1
 
-pub returns-in-Quorum-clause-within : goal.returns-in-Quorum-clause-within
+pub returns-in-Some-clause-within : goal.returns-in-Some-clause-within
 unfolding choice_text
-returns-in-Quorum-clause-within c = let x = c.args in
-    let m = c.in-Quorum.mask in
-    let s = c.in-Quorum.sum in
-    let e = c.in-Quorum.is in
+returns-in-Some-clause-within c = let x = c.args in
+    let m = c.in-Some.mask in
+    let s = c.in-Some.sum in
+    let e = c.in-Some.is in
     let hm : length (decimal m) ≤ 5 = decimal_short 5 m (omega arith) (omega arith) in
     let hs : length (decimal s) ≤ 10 = decimal_short 10 s (omega arith) (omega arith) in
     let a1 = length-append (decimal m) (32 ∷ []) in

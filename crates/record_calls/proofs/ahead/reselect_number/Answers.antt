@@ -1,7 +1,7 @@
 -- `record_calls::ahead::reselect_number`: the number of the bytes, or that of the refusals.
 use mathlib.Core.Path.{refl, sym, ap, ◌∙◌}
 use Rattle.numbers.specs.Refusal.{first_of}
-use Rattle.quorum.specs.declared.Choice.{Choice}
+use Rattle.quorum.specs.Choice.{Choice}
 use Rattle.coordinator.specs.declared.Coordinator.{Coordinator}
 use Rattle.coordinator.specs.System.{tree}
 use Rattle.coordinator.specs.Calls.{reselect_refusals, reselect_of}
