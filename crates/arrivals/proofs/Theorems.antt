@@ -11,7 +11,7 @@ use Rattle.mask.specs.Mask.{within}
 use Rattle.numbers.specs.Refusal.{first_of}
 use Rattle.wire.specs.Items.{entry_of, rival_of}
 use Rattle.coordinator.specs.declared.Coordinator.{Coordinator}
-use Rattle.coordinator.specs.declared.Step.{Step}
+use Rattle.coordinator.specs.Step.{Step}
 use Rattle.coordinator.specs.System.{System}
 use Rattle.coordinator.specs.State.{open_phase, voting_phase, finishing_phase, nothing, committed, finished, object_at, ready, awaited}
 use Rattle.arrivals.specs.Receive.{brought, answers, copy_fits, copy_taken, with_yes, vote_taken, with_done, done_taken, yield_taken}

@@ -11,7 +11,7 @@ use Rattle.wire.specs.Decode.{kind_of, from_of, to_of, serial_of, stamp_of, riva
 use Rattle.wire.specs.Items.{entry_of, rival_of, word_of}
 use Rattle.coordinator.specs.declared.Object.{Object}
 use Rattle.coordinator.specs.declared.Coordinator.{Coordinator}
-use Rattle.coordinator.specs.declared.Step.{Step}
+use Rattle.coordinator.specs.Step.{Step}
 use Rattle.coordinator.specs.System.{System}
 use Rattle.coordinator.specs.State.{open_phase, voting_phase, finishing_phase, nothing, committed, aborted, became_ready, finished}
 use Rattle.coordinator.specs.State.{idle_after, place_of, object_at, is_open, ready, awaited}

@@ -1,7 +1,7 @@
 -- What a call on a lent record does: a step of the coordinator. It answers the step's number and answer, and leaves the step's record.
 use Rattle.std.specs.Prelude.{◌≡◌}
 use Rattle.coordinator.specs.declared.Coordinator.{Coordinator}
-use Rattle.coordinator.specs.declared.Step.{Step}
+use Rattle.coordinator.specs.Step.{Step}
 use Rattle.booking.specs.declared.Called.{Called}
 
 abbrev pub called_of : Step → Called

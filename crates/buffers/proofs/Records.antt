@@ -13,7 +13,7 @@ use Rattle.parts.specs.Parts.{part, splice}
 use Rattle.parts.proofs.Laws.{length_part}
 use Rattle.replica.proofs.Spoken.{false_true}
 use Rattle.coordinator.specs.declared.Coordinator.{Coordinator}
-use Rattle.coordinator.specs.declared.Step.{Step}
+use Rattle.coordinator.specs.Step.{Step}
 use Rattle.coordinator.specs.System.{tree}
 use Rattle.clauses.specs.Clauses.{meets}
 use Rattle.record.specs.Record.{given_ok, record_of, check}

@@ -8,7 +8,7 @@ use lib.Dec.{T, eqb}
 use borrow.Author.Tests.{eqb-true, eqb-false, not-false}
 use Rattle.numbers.specs.Refusal.{Refusal, first_of}
 use Rattle.coordinator.specs.declared.Coordinator.{Coordinator}
-use Rattle.coordinator.specs.declared.Step.{Step}
+use Rattle.coordinator.specs.Step.{Step}
 use Rattle.coordinator.specs.State.{step_of, open_phase, voting_phase, finishing_phase, aborted, idle_after, awaited}
 use Rattle.coordinator.proofs.Refusals.{Clear, numbered, clear}
 use Rattle.coordinator.specs.Calls.{with_phase, ended_aborted, abort_refusals, abort_of}

@@ -13,7 +13,7 @@ use Rattle.wire.specs.Decode.{from_of, rival_count}
 use Rattle.wire.specs.Items.{entry_of, rival_of}
 use Rattle.coordinator.specs.declared.Object.{Object}
 use Rattle.coordinator.specs.declared.Coordinator.{Coordinator}
-use Rattle.coordinator.specs.declared.Step.{Step}
+use Rattle.coordinator.specs.Step.{Step}
 use Rattle.coordinator.specs.System.{System}
 use Rattle.coordinator.specs.State.{idle_phase, voting_phase, finishing_phase, committed, place_of, object_at, awaited}
 use Rattle.coordinator.specs.Calls.{with_phase}

@@ -16,7 +16,7 @@ use Rattle.wire.specs.Decode.{kind_of, from_of, serial_of, stamp_of, rival_count
 use Rattle.wire.specs.Items.{entry_of, rival_of, word_of}
 use Rattle.coordinator.specs.declared.Object.{Object}
 use Rattle.coordinator.specs.declared.Coordinator.{Coordinator}
-use Rattle.coordinator.specs.declared.Step.{Step}
+use Rattle.coordinator.specs.Step.{Step}
 use Rattle.coordinator.specs.System.{System}
 use Rattle.coordinator.specs.State.{open_phase, voting_phase, finishing_phase, nothing, committed, aborted, became_ready, finished, idle_after}
 use Rattle.coordinator.specs.State.{place_of, object_at, is_open, ready, awaited}

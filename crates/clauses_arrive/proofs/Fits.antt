@@ -12,7 +12,7 @@ use Rattle.wire.specs.Encode.{entry_size, rival_size}
 use Rattle.wire.specs.Items.{no_entry, no_rival, entry_of, rival_of}
 use Rattle.coordinator.specs.declared.Object.{Object}
 use Rattle.coordinator.specs.declared.Coordinator.{Coordinator}
-use Rattle.coordinator.specs.declared.Step.{Step}
+use Rattle.coordinator.specs.Step.{Step}
 use Rattle.coordinator.specs.System.{System}
 use Rattle.coordinator.specs.State.{no_object, object_at, place_of}
 use Rattle.arrivals.specs.Receive.{better, with_copy, raise, raise_from, receive_of}

@@ -16,7 +16,7 @@ use Rattle.wire.specs.Items.{entry_of}
 use Rattle.coordinator.specs.declared.Object.{Object}
 use Rattle.coordinator.specs.declared.Coordinator.{Coordinator}
 use Rattle.coordinator.specs.declared.BeginWith.{BeginWith}
-use Rattle.coordinator.specs.declared.Step.{Step}
+use Rattle.coordinator.specs.Step.{Step}
 use Rattle.coordinator.specs.System.{System}
 use Rattle.coordinator.specs.State.{idle_phase, aborted, idle_after, place_in, place_of, object_at, is_open, ready}
 use Rattle.coordinator.specs.Calls.{fresh, renewed, begin_refusals, begun, begin_of, open_refusals, opened, open_of, set_refusals, with_new, set_of}

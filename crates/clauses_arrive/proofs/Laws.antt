@@ -12,7 +12,7 @@ use Rattle.mask.proofs.Tests.{T_true}
 use Rattle.wire.specs.Decode.{from_of, to_of, serial_of, stamp_of}
 use Rattle.wire.specs.Items.{word_of}
 use Rattle.coordinator.specs.declared.Coordinator.{Coordinator}
-use Rattle.coordinator.specs.declared.Step.{Step}
+use Rattle.coordinator.specs.Step.{Step}
 use Rattle.coordinator.specs.System.{System}
 use Rattle.coordinator.specs.State.{idle_phase, voting_phase, committed, aborted, became_ready, nothing, ready, awaited}
 use Rattle.arrivals.specs.Receive.{with_yes, vote_taken, delivered, receive_refusals, receive_of}

@@ -12,7 +12,7 @@ use Rattle.wire.specs.Decode.{rival_count}
 use Rattle.wire.specs.Items.{rival_of}
 use Rattle.coordinator.specs.declared.Coordinator.{Coordinator}
 use Rattle.coordinator.specs.declared.BeginWith.{BeginWith}
-use Rattle.coordinator.specs.declared.Step.{Step}
+use Rattle.coordinator.specs.Step.{Step}
 use Rattle.coordinator.specs.System.{System}
 use Rattle.coordinator.specs.State.{aborted, idle_after, blank_record}
 use Rattle.coordinator.specs.Calls.{begin_refusals, begun, begin_of, open_refusals, opened, open_of, set_refusals, with_new, set_of, reselect_refusals}

@@ -8,7 +8,7 @@ use Rattle.numbers.specs.Refusal.{first_of}
 use Rattle.quorum.specs.Nearest.{mask_of}
 use Rattle.coordinator.specs.declared.Coordinator.{Coordinator}
 use Rattle.coordinator.specs.declared.BeginWith.{BeginWith}
-use Rattle.coordinator.specs.declared.Step.{Step}
+use Rattle.coordinator.specs.Step.{Step}
 use Rattle.coordinator.specs.System.{System}
 use Rattle.coordinator.specs.State.{step_of}
 use Rattle.coordinator.specs.Calls.{begin_refusals, begun, begin_of, found_refusals, found_of}

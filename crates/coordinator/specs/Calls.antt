@@ -10,7 +10,7 @@ use Rattle.quorum.specs.Nearest.{number_of, mask_of}
 use Rattle.coordinator.specs.declared.Object.{Object}
 use Rattle.coordinator.specs.declared.Coordinator.{Coordinator}
 use Rattle.coordinator.specs.declared.BeginWith.{BeginWith}
-use Rattle.coordinator.specs.declared.Step.{Step}
+use Rattle.coordinator.specs.Step.{Step}
 use Rattle.coordinator.specs.System.{System}
 use Rattle.coordinator.specs.State.{no_object, aborted}
 use Rattle.coordinator.specs.State.{idle_phase, open_phase, voting_phase, finishing_phase}

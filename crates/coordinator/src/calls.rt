@@ -1,7 +1,9 @@
-// The host's calls: each finds its number, and does the deed where that is 0.
-ghost use Rattle.std.specs.Prelude.{◌≡◌, ◌<◌, cond, eqb, set};
+// The host's calls: each is refused by the first of its refusals that fits, or does its deed.
+ghost use Rattle.std.specs.Prelude.{◌≡◌, ◌<◌, cond, eqb, set, Some, IfOk};
 ghost use Rattle.numbers.specs.Sizes.{most_open, highest};
 ghost use Rattle.numbers.specs.Refusal.{first_of};
+ghost use Rattle.numbers.specs.Outcome.{number_of};
+ghost use Rattle.coordinator.specs.Step.{step};
 ghost use Rattle.coordinator.specs.System.{tree};
 ghost use Rattle.mask.specs.Mask.{joined};
 ghost use Rattle.coordinator.specs.State.{blank_record, awaited};
@@ -9,11 +11,11 @@ ghost use Rattle.coordinator.specs.Calls.{begin_refusals, begun, begin_of, open_
 ghost use Rattle.coordinator.specs.Calls.{found_refusals, found_of, reselect_refusals, reselected, reselect_of, request_commit_refusals, request_commit_of};
 ghost use Rattle.coordinator.specs.Calls.{abort_refusals, ended_aborted, abort_of};
 
-use crate::common::{idle_with, is_none, mask_of, refused, taken, wide};
+use crate::common::idle_with;
 use crate::objects::{all_settled, any_used_up, at_place, is_ready, place, put};
-use crate::{ABORTED, BeginWith, Coordinator, FINISHING, IDLE, OPEN, Object, Step, VOTING};
-use numbers::{EVERY_NODE, HIGHEST, MOST_OPEN, NODES, NODES_END, OBJECTS_END, either, refuse};
-use quorum::{Choice, Kind};
+use crate::{ABORTED, BeginWith, Coordinator, FINISHING, IDLE, OPEN, Object, Taken, VOTING};
+use numbers::{EVERY_NODE, HIGHEST, MOST_OPEN, NODES, NODES_END, OBJECTS_END, Refusal};
+use quorum::{Kind, Quorum};
 
 // The record of a node that never began a transaction.
 // Ruled out: a record that is not idle; one whose first serial would not be 1.
@@ -23,20 +25,31 @@ pub fn blank() -> Coordinator
     idle_with(0, 0, 0)
 }
 
-// The number of a begin.
-fn begin_number(c: Coordinator, me: u8, w: BeginWith, chosen: Choice) -> u8
-    ensures { result ≡ first_of (begin_refusals c me w chosen) }
+// The read quorum that a transaction begins with, or why it may not begin.
+#[tactic(auto, unfolding(crate::specs::Calls::begin_refusals))]
+fn may_begin(
+    c: Coordinator,
+    me: u8,
+    w: BeginWith,
+    chosen: Option<Quorum>,
+) -> Result<Quorum, Refusal>
+    ensures number { number_of result ≡ first_of (begin_refusals c me w chosen) }
+    ensures quorum { IfOk result (λ q. (chosen ≡ Some q) × (c.serial < highest)) }
 {
-    let used_up = refuse(numbers::USED_UP, !(c.serial < HIGHEST), 0);
-    let no_quorum = refuse(numbers::NO_QUORUM, is_none(chosen), used_up);
-    let behind = age::is_early(c.outcome == ABORTED, c.timestamp, w.timestamp);
-    let early = refuse(numbers::OUT_OF_TURN, behind, no_quorum);
-    let busy = refuse(numbers::BUSY, c.phase != IDLE, early);
-    refuse(
-        numbers::STRANGER,
-        either(!(me < NODES_END), EVERY_NODE < w.live),
-        busy,
-    )
+    if NODES_END <= me || EVERY_NODE < w.live {
+        return Err(Refusal::Stranger);
+    }
+    if c.phase != IDLE {
+        return Err(Refusal::Busy);
+    }
+    if age::is_early(c.outcome == ABORTED, c.timestamp, w.timestamp) {
+        return Err(Refusal::OutOfTurn);
+    }
+    let quorum = chosen.ok_or(Refusal::NoQuorum)?;
+    if c.serial == HIGHEST {
+        return Err(Refusal::UsedUp);
+    }
+    Ok(quorum)
 }
 
 // The record of a transaction that begins.
@@ -76,32 +89,38 @@ fn with_begun(c: Coordinator, w: BeginWith, quorum: u16) -> Coordinator
 
 // Begins a transaction; answers the chosen read quorum.
 // Ruled out: a serial that does not rise; 'out of turn' for a begin that is not idle.
-pub fn begin(c: Coordinator, me: u8, w: BeginWith) -> Step
-    ensures { result ≡ begin_of tree c me w }
+#[tactic(auto, unfolding(crate::specs::Calls::begin_of, crate::specs::State::step_of))]
+pub fn begin(c: Coordinator, me: u8, w: BeginWith) -> Result<Taken, Refusal>
+    ensures { step c result ≡ begin_of tree c me w }
 {
     let distances = w.distances;
     let chosen = quorum::nearest(Kind::Read, me, w.live, &distances);
-    let number = begin_number(c, me, w, chosen);
-    if number != 0 {
-        return refused(number, c);
-    }
-    let m = mask_of(chosen);
-    taken(wide(m), with_begun(c, w, m))
+    let mask = may_begin(c, me, w, chosen)?.mask;
+    Ok(Taken {
+        answer: u64::from(mask),
+        coordinator: with_begun(c, w, mask),
+    })
 }
 
-// The number of an open.
-fn open_number(c: Coordinator, me: u8, object: u8) -> u8
-    ensures { result ≡ first_of (open_refusals c me object) }
+// Whether an object may be opened, or why not.
+#[tactic(auto, unfolding(crate::specs::Calls::open_refusals))]
+fn may_open(c: Coordinator, me: u8, object: u8) -> Result<(), Refusal>
+    ensures number { number_of result ≡ first_of (open_refusals c me object) }
+    ensures room { IfOk result (λ _. c.count < most_open) }
 {
-    let ninth = refuse(numbers::EIGHT_OPEN, !(c.count < MOST_OPEN), 0);
-    let here = place(c, object) < MOST_OPEN;
-    let twice = refuse(
-        numbers::NO_SUCH_OBJECT,
-        either(!(object < OBJECTS_END), here),
-        ninth,
-    );
-    let turn = refuse(numbers::OUT_OF_TURN, c.phase != OPEN, twice);
-    refuse(numbers::STRANGER, !(me < NODES_END), turn)
+    if NODES_END <= me {
+        return Err(Refusal::Stranger);
+    }
+    if c.phase != OPEN {
+        return Err(Refusal::OutOfTurn);
+    }
+    if OBJECTS_END <= object || place(c, object) < MOST_OPEN {
+        return Err(Refusal::NoSuchObject);
+    }
+    if MOST_OPEN <= c.count {
+        return Err(Refusal::EightOpen);
+    }
+    Ok(())
 }
 
 // The record with one object more, and the present read quorum contacted.
@@ -128,40 +147,47 @@ fn with_opened(c: Coordinator, object: u8, mode: u8) -> Coordinator
 }
 
 // Opens an object in a mode.
-fn open_in(c: Coordinator, me: u8, object: u8, mode: u8) -> Step
-    ensures { result ≡ open_of c me object mode }
+#[tactic(auto, unfolding(crate::specs::Calls::open_of, crate::specs::State::step_of))]
+fn open_in(c: Coordinator, me: u8, object: u8, mode: u8) -> Result<Taken, Refusal>
+    ensures { step c result ≡ open_of c me object mode }
 {
-    let number = open_number(c, me, object);
-    if number != 0 {
-        return refused(number, c);
-    }
-    taken(0, with_opened(c, object, mode))
+    may_open(c, me, object)?;
+    Ok(Taken {
+        answer: 0,
+        coordinator: with_opened(c, object, mode),
+    })
 }
 
 // Opens an object, to read it or to write it.
 // Ruled out: an open that does not contact the present read quorum; a second open of the same object.
-pub fn open_read(c: Coordinator, me: u8, object: u8) -> Step
-    ensures { result ≡ open_of c me object 0 }
+pub fn open_read(c: Coordinator, me: u8, object: u8) -> Result<Taken, Refusal>
+    ensures { step c result ≡ open_of c me object 0 }
 {
     open_in(c, me, object, 0)
 }
 
 // Ruled out: it is opened to be read; a ninth object taken.
-pub fn open_write(c: Coordinator, me: u8, object: u8) -> Step
-    ensures { result ≡ open_of c me object 1 }
+pub fn open_write(c: Coordinator, me: u8, object: u8) -> Result<Taken, Refusal>
+    ensures { step c result ≡ open_of c me object 1 }
 {
     open_in(c, me, object, 1)
 }
 
-// The number of a set.
-fn set_number(c: Coordinator, me: u8, object: u8) -> u8
-    ensures { result ≡ first_of (set_refusals c me object) }
+// Whether an object may be given a value, or why not.
+#[tactic(auto, unfolding(crate::specs::Calls::set_refusals))]
+fn may_set(c: Coordinator, me: u8, object: u8) -> Result<(), Refusal>
+    ensures { number_of result ≡ first_of (set_refusals c me object) }
 {
-    let absent = !(place(c, object) < MOST_OPEN);
-    let x = at_place(c, object);
-    let none = refuse(numbers::NO_SUCH_OBJECT, either(absent, x.mode == 0), 0);
-    let turn = refuse(numbers::OUT_OF_TURN, c.phase != OPEN, none);
-    refuse(numbers::STRANGER, !(me < NODES_END), turn)
+    if NODES_END <= me {
+        return Err(Refusal::Stranger);
+    }
+    if c.phase != OPEN {
+        return Err(Refusal::OutOfTurn);
+    }
+    if MOST_OPEN <= place(c, object) || at_place(c, object).mode == 0 {
+        return Err(Refusal::NoSuchObject);
+    }
+    Ok(())
 }
 
 // The record with another object at a place; past the eighth there is none. Ruled out: the count raised; the object put at the end.
@@ -177,55 +203,71 @@ pub fn with_object(c: Coordinator, p: usize, x: Object) -> Coordinator
 
 // Gives a written object its new value; the last one counts.
 // Ruled out: the first of two values kept; a value set on a read.
-pub fn set_value(c: Coordinator, me: u8, object: u8, value: u64) -> Step
-    ensures { result ≡ set_of c me object value }
+#[tactic(auto, unfolding(crate::specs::Calls::set_of, crate::specs::Calls::with_new, crate::specs::State::step_of))]
+pub fn set_value(c: Coordinator, me: u8, object: u8, value: u64) -> Result<Taken, Refusal>
+    ensures { step c result ≡ set_of c me object value }
 {
-    let number = set_number(c, me, object);
-    if number != 0 {
-        return refused(number, c);
-    }
+    may_set(c, me, object)?;
     let mut x = at_place(c, object);
     x.given = true;
     x.new = value;
-    taken(0, with_object(c, place(c, object), x))
+    Ok(Taken {
+        answer: 0,
+        coordinator: with_object(c, place(c, object), x),
+    })
 }
 
-// The number of a found.
-fn found_number(c: Coordinator, me: u8, object: u8) -> u8
-    ensures { result ≡ first_of (found_refusals tree c me object) }
+// Whether the value found for an object may be told, or why not.
+#[tactic(auto, unfolding(crate::specs::Calls::found_refusals))]
+fn may_tell(c: Coordinator, me: u8, object: u8) -> Result<(), Refusal>
+    ensures { number_of result ≡ first_of (found_refusals tree c me object) }
 {
-    let x = at_place(c, object);
-    let early = refuse(numbers::NOT_READY, !is_ready(x), 0);
-    let absent = !(place(c, object) < MOST_OPEN);
-    let none = refuse(numbers::NO_SUCH_OBJECT, absent, early);
-    let turn = refuse(numbers::OUT_OF_TURN, c.phase == IDLE, none);
-    refuse(numbers::STRANGER, !(me < NODES_END), turn)
+    if NODES_END <= me {
+        return Err(Refusal::Stranger);
+    }
+    if c.phase == IDLE {
+        return Err(Refusal::OutOfTurn);
+    }
+    if MOST_OPEN <= place(c, object) {
+        return Err(Refusal::NoSuchObject);
+    }
+    if !is_ready(at_place(c, object)) {
+        return Err(Refusal::NotReady);
+    }
+    Ok(())
 }
 
 // Answers the value found for a ready object.
 // Ruled out: 'not ready' without looking; the new value instead of the one found.
-pub fn found(c: Coordinator, me: u8, object: u8) -> Step
-    ensures { result ≡ found_of tree c me object }
+#[tactic(auto, unfolding(crate::specs::Calls::found_of, crate::specs::State::step_of))]
+pub fn found(c: Coordinator, me: u8, object: u8) -> Result<Taken, Refusal>
+    ensures { step c result ≡ found_of tree c me object }
 {
-    let number = found_number(c, me, object);
-    if number != 0 {
-        return refused(number, c);
-    }
-    let x = at_place(c, object);
-    taken(x.value, c)
+    may_tell(c, me, object)?;
+    Ok(Taken {
+        answer: at_place(c, object).value,
+        coordinator: c,
+    })
 }
 
-// The number of a reselect.
-fn reselect_number(c: Coordinator, me: u8, live: u16, chosen: Choice) -> u8
-    ensures { result ≡ first_of (reselect_refusals c me live chosen) }
+// The read quorum that is taken in place of the present one, or why none is.
+#[tactic(auto, unfolding(crate::specs::Calls::reselect_refusals))]
+fn may_reselect(
+    c: Coordinator,
+    me: u8,
+    live: u16,
+    chosen: Option<Quorum>,
+) -> Result<Quorum, Refusal>
+    ensures number { number_of result ≡ first_of (reselect_refusals c me live chosen) }
+    ensures quorum { IfOk result (λ q. chosen ≡ Some q) }
 {
-    let no_quorum = refuse(numbers::NO_QUORUM, is_none(chosen), 0);
-    let turn = refuse(numbers::OUT_OF_TURN, c.phase != OPEN, no_quorum);
-    refuse(
-        numbers::STRANGER,
-        either(!(me < NODES_END), EVERY_NODE < live),
-        turn,
-    )
+    if NODES_END <= me || EVERY_NODE < live {
+        return Err(Refusal::Stranger);
+    }
+    if c.phase != OPEN {
+        return Err(Refusal::OutOfTurn);
+    }
+    chosen.ok_or(Refusal::NoQuorum)
 }
 
 // The contacted nodes after a reselect: the new quorum joins if some object is open already.
@@ -252,51 +294,63 @@ fn with_reselected(c: Coordinator, live: u16, distances: [u16; NODES], quorum: u
 
 // Takes a fresh live mask and distances (document 01: look again); answers the chosen read quorum.
 // Ruled out: a new quorum that is not contacted though an object is open; the old quorum forgotten where there is no new one.
-pub fn reselect(c: Coordinator, me: u8, live: u16, distances: [u16; NODES]) -> Step
-    ensures { result ≡ reselect_of tree c me live distances }
+#[tactic(auto, unfolding(crate::specs::Calls::reselect_of, crate::specs::State::step_of))]
+pub fn reselect(
+    c: Coordinator,
+    me: u8,
+    live: u16,
+    distances: [u16; NODES],
+) -> Result<Taken, Refusal>
+    ensures { step c result ≡ reselect_of tree c me live distances }
 {
     let chosen = quorum::nearest(Kind::Read, me, live, &distances);
-    let number = reselect_number(c, me, live, chosen);
-    if number != 0 {
-        return refused(number, c);
-    }
-    let m = mask_of(chosen);
-    taken(wide(m), with_reselected(c, live, distances, m))
+    let mask = may_reselect(c, me, live, chosen)?.mask;
+    Ok(Taken {
+        answer: u64::from(mask),
+        coordinator: with_reselected(c, live, distances, mask),
+    })
 }
 
-// The number of a request to commit: 11, then 8, then 9.
-fn request_number(c: Coordinator, me: u8, chosen: Choice) -> u8
-    ensures { result ≡ first_of (request_commit_refusals tree c me chosen) }
+// The write quorum that is asked for votes, or why none is.
+#[tactic(auto, unfolding(crate::specs::Calls::request_commit_refusals))]
+fn may_request(c: Coordinator, me: u8, chosen: Option<Quorum>) -> Result<Quorum, Refusal>
+    ensures number { number_of result ≡ first_of (request_commit_refusals tree c me chosen) }
+    ensures quorum { IfOk result (λ q. chosen ≡ Some q) }
 {
+    if NODES_END <= me {
+        return Err(Refusal::Stranger);
+    }
+    if c.phase != OPEN {
+        return Err(Refusal::OutOfTurn);
+    }
     let objects = c.objects;
-    let used_up = refuse(numbers::USED_UP, any_used_up(objects, c.count), 0);
-    let no_quorum = refuse(numbers::NO_QUORUM, is_none(chosen), used_up);
-    let unsettled = !all_settled(objects, c.count);
-    let early = refuse(
-        numbers::NOT_READY,
-        either(c.count == 0, unsettled),
-        no_quorum,
-    );
-    let turn = refuse(numbers::OUT_OF_TURN, c.phase != OPEN, early);
-    refuse(numbers::STRANGER, !(me < NODES_END), turn)
+    if c.count == 0 || !all_settled(objects, c.count) {
+        return Err(Refusal::NotReady);
+    }
+    let quorum = chosen.ok_or(Refusal::NoQuorum)?;
+    if any_used_up(objects, c.count) {
+        return Err(Refusal::UsedUp);
+    }
+    Ok(quorum)
 }
 
 // Asks for votes; answers the participants, who are the chosen write quorum and the contacted nodes.
 // Ruled out: participants without the contacted nodes; 'no quorum' where an object is not ready.
-pub fn request_commit(c: Coordinator, me: u8) -> Step
-    ensures { result ≡ request_commit_of tree c me }
+#[tactic(auto, unfolding(crate::specs::Calls::request_commit_of, crate::specs::Calls::requested, crate::specs::State::step_of))]
+pub fn request_commit(c: Coordinator, me: u8) -> Result<Taken, Refusal>
+    ensures { step c result ≡ request_commit_of tree c me }
 {
     let distances = c.distances;
     let chosen = quorum::nearest(Kind::Write, me, c.live, &distances);
-    let number = request_number(c, me, chosen);
-    if number != 0 {
-        return refused(number, c);
-    }
-    let participants = mask::join(mask_of(chosen), c.contacted);
+    let quorum = may_request(c, me, chosen)?;
+    let participants = mask::join(quorum.mask, c.contacted);
     let mut d = c;
     d.phase = VOTING;
     d.participants = participants;
-    taken(wide(participants), d)
+    Ok(Taken {
+        answer: u64::from(participants),
+        coordinator: d,
+    })
 }
 
 // Who must say done: the participants, when never voted the contacted nodes.
@@ -311,16 +365,18 @@ pub fn awaited_by(c: Coordinator) -> u16
     }
 }
 
-// The number of an abort.
-fn abort_number(c: Coordinator, me: u8) -> u8
-    ensures { result ≡ first_of (abort_refusals c me) }
+// Whether the transaction may be given up, or why not.
+#[tactic(auto, unfolding(crate::specs::Calls::abort_refusals))]
+fn may_abort(c: Coordinator, me: u8) -> Result<(), Refusal>
+    ensures { number_of result ≡ first_of (abort_refusals c me) }
 {
-    let turn = refuse(
-        numbers::OUT_OF_TURN,
-        !either(c.phase == OPEN, c.phase == VOTING),
-        0,
-    );
-    refuse(numbers::STRANGER, !(me < NODES_END), turn)
+    if NODES_END <= me {
+        return Err(Refusal::Stranger);
+    }
+    if c.phase != OPEN && c.phase != VOTING {
+        return Err(Refusal::OutOfTurn);
+    }
+    Ok(())
 }
 
 // The record of a transaction that ends aborted.
@@ -339,12 +395,13 @@ pub fn with_aborted(c: Coordinator) -> Coordinator
 
 // Gives the transaction up while it is open or voting.
 // Ruled out: an abort of a finishing transaction; idle at once although a node was contacted.
-pub fn abort(c: Coordinator, me: u8) -> Step
-    ensures { result ≡ abort_of c me }
+#[tactic(auto, unfolding(crate::specs::Calls::abort_of, crate::specs::State::step_of))]
+pub fn abort(c: Coordinator, me: u8) -> Result<Taken, Refusal>
+    ensures { step c result ≡ abort_of c me }
 {
-    let number = abort_number(c, me);
-    if number != 0 {
-        return refused(number, c);
-    }
-    taken(0, with_aborted(c))
+    may_abort(c, me)?;
+    Ok(Taken {
+        answer: 0,
+        coordinator: with_aborted(c),
+    })
 }

@@ -1,60 +1,9 @@
-// How a call ends, and the small tests that the calls share.
+// The idle record.
 ghost use Rattle.std.specs.Prelude.{◌≡◌};
-ghost use Rattle.quorum.specs.Nearest.{mask_of};
 ghost use Rattle.coordinator.specs.State.{idle_after};
-ghost use Rattle.coordinator.specs.Calls.{is_none};
 
-use crate::{Coordinator, IDLE, Object, Step};
+use crate::{Coordinator, IDLE, Object};
 use numbers::{MOST_OPEN, NODES};
-use quorum::Choice;
-
-// The call is refused: the record is as before. Ruled out: a blank record; an answer other than 0.
-pub fn refused(number: u8, c: Coordinator) -> Step
-    ensures { result ≡ record { number = number; answer = 0; coordinator = c } }
-{
-    Step {
-        number,
-        answer: 0,
-        coordinator: c,
-    }
-}
-
-// The call is taken: its answer, and the record after it.
-pub(crate) fn taken(answer: u64, c: Coordinator) -> Step
-    ensures { result ≡ record { number = 0; answer = answer; coordinator = c } }
-{
-    Step {
-        number: 0,
-        answer,
-        coordinator: c,
-    }
-}
-
-// A mask as an answer.
-pub(crate) fn wide(m: u16) -> u64
-    ensures { result ≡ m }
-{
-    m as u64
-}
-
-// The set of a choice, and whether there is none. Ruled out: the sum of distances; 'none' for a choice at distance 0.
-pub fn mask_of(x: Choice) -> u16
-    ensures { result ≡ mask_of x }
-{
-    match x {
-        Choice::Quorum(m, _) => m,
-        Choice::Nothing => 0,
-    }
-}
-
-pub fn is_none(x: Choice) -> bool
-    ensures { result ≡ is_none x }
-{
-    match x {
-        Choice::Quorum(_, _) => false,
-        Choice::Nothing => true,
-    }
-}
 
 // An idle record with a lasting part; the rest is blank. Ruled out: the phase left finishing; the serial set back to 0.
 pub fn idle_with(serial: u32, timestamp: u32, outcome: u8) -> Coordinator

@@ -10,7 +10,7 @@ pub use calls::{
     abort, awaited_by, begin, blank, found, open_read, open_write, request_commit, reselect,
     set_value, with_aborted, with_object,
 };
-pub use common::{idle_with, is_none, mask_of, refused};
+pub use common::idle_with;
 use numbers::{MOST_OPEN, NODES};
 pub use objects::{all_settled, any_used_up, at_index, at_place, is_ready, place};
 
@@ -76,10 +76,9 @@ pub struct BeginWith {
     pub timestamp: u32,
 }
 
-// What a call gives: its number, its answer (0 where there is none), and the record after it.
+// What a call that is taken gives: its answer (0 where there is none), and the record after it.
 #[derive(Clone, Copy)]
-pub struct Step {
-    pub number: u8,
+pub struct Taken {
     pub answer: u64,
     pub coordinator: Coordinator,
 }

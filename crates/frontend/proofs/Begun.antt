@@ -18,7 +18,7 @@ use Rattle.classes.proofs.Table.{accepted_bounded}
 use Rattle.classes.proofs.Theorems.{length_tallies, tally_at_lem}
 use Rattle.coordinator.specs.declared.Coordinator.{Coordinator}
 use Rattle.coordinator.specs.declared.BeginWith.{BeginWith}
-use Rattle.coordinator.specs.declared.Step.{Step}
+use Rattle.coordinator.specs.Step.{Step}
 use Rattle.coordinator.specs.System.{tree}
 use Rattle.coordinator.specs.Calls.{begin_of}
 use Rattle.increments.specs.Deeds.{begins, deed_of, ran, amounts, amounts_of, adding}

@@ -15,7 +15,7 @@ use Rattle.wire.specs.Message.{copy}
 use Rattle.wire.specs.Decode.{from_of}
 use Rattle.wire.specs.Items.{entry_of}
 use Rattle.coordinator.specs.declared.Coordinator.{Coordinator}
-use Rattle.coordinator.specs.declared.Step.{Step}
+use Rattle.coordinator.specs.Step.{Step}
 use Rattle.coordinator.specs.State.{voting_phase, finishing_phase, place_of, ready, awaited, idle_after}
 use Rattle.coordinator.specs.Calls.{with_phase, ended_aborted}
 use Rattle.arrivals.specs.Receive.{brought}

@@ -18,7 +18,7 @@ use Rattle.image.specs.Layout.{shape, value, version, version_field}
 use Rattle.image.proofs.Blanks.{blank_zero}
 use Rattle.image.proofs.Each.{lt_or_le}
 use Rattle.coordinator.specs.declared.Coordinator.{Coordinator}
-use Rattle.coordinator.specs.declared.Step.{Step}
+use Rattle.coordinator.specs.Step.{Step}
 use Rattle.coordinator.specs.State.{idle_phase, place_of, object_at, is_open, ready, step_of}
 use Rattle.coordinator.specs.Calls.{found_refusals, found_of}
 use Rattle.coordinator.proofs.Refusals.{clear}

@@ -18,7 +18,7 @@ use Rattle.wire.specs.Formed.{counts_ok, names_ok, direction_ok, well_formed}
 use Rattle.wire.specs.Decode.{from_of, to_of, owner_of, serial_of, decode, check_of}
 use Rattle.coordinator.specs.declared.Coordinator.{Coordinator}
 use Rattle.coordinator.specs.declared.BeginWith.{BeginWith}
-use Rattle.coordinator.specs.declared.Step.{Step}
+use Rattle.coordinator.specs.Step.{Step}
 use Rattle.coordinator.specs.State.{idle_phase, open_phase, aborted, awaited, idle_after}
 use Rattle.coordinator.specs.Calls.{begin_refusals, begun, begin_of, open_refusals, opened, open_of, set_refusals, with_new, set_of, found_of}
 use Rattle.coordinator.specs.Calls.{reselect_refusals, reselected, reselect_of, request_commit_refusals, requested, request_commit_of, abort_of}

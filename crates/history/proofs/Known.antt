@@ -28,7 +28,7 @@ use Rattle.replica.proofs.Holders.{writes_in}
 use Rattle.replica.proofs.Late.{same_fetch, same_ask}
 use Rattle.replica.proofs.Taken.{Taken, taken as is-taken, by_kind}
 use Rattle.arrivals.specs.Receive.{for_replica, receive_of}
-use Rattle.coordinator.specs.declared.Step.{Step}
+use Rattle.coordinator.specs.Step.{Step}
 use Rattle.coordinator.specs.Calls.{no_node}
 use Rattle.due.specs.Kind.{due_kind}
 use Rattle.due.specs.Due.{message_due}

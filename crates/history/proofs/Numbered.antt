@@ -26,7 +26,7 @@ use Rattle.replica.specs.Receive.{outcome_wrong_turn, wrong_turn, refusals, refu
 use Rattle.replica.proofs.Delivered.{either_way, cleared, step_fine, entries_of_lem, delivered_is}
 use Rattle.replica.proofs.Spoken.{named_of}
 use Rattle.coordinator.specs.declared.Coordinator.{Coordinator}
-use Rattle.coordinator.specs.declared.Step.{Step}
+use Rattle.coordinator.specs.Step.{Step}
 use Rattle.coordinator.specs.System.{System}
 use Rattle.coordinator.specs.State.{awaited}
 use Rattle.arrivals.specs.Receive.{answers, copy_fits, copy_taken, with_yes, vote_taken, with_done, done_taken, yield_taken, delivered, for_replica}

@@ -23,7 +23,7 @@ use Rattle.replica.specs.Receive.{deliver}
 use Rattle.replica.proofs.Delivered.{either_way}
 use Rattle.coordinator.specs.declared.Coordinator.{Coordinator}
 use Rattle.coordinator.specs.declared.BeginWith.{BeginWith}
-use Rattle.coordinator.specs.declared.Step.{Step}
+use Rattle.coordinator.specs.Step.{Step}
 use Rattle.coordinator.specs.State.{idle_phase, open_phase, voting_phase, finishing_phase, object_at, ready, awaited, idle_after}
 use Rattle.coordinator.specs.Calls.{no_node, begin_refusals, begun, begin_of, open_refusals, opened, open_of, set_refusals, with_new, set_of, found_refusals}
 use Rattle.coordinator.specs.Calls.{found_of}

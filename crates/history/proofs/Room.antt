@@ -17,7 +17,7 @@ use Rattle.wire.specs.Decode.{kind_of, to_of, check_of}
 use Rattle.replica.specs.Steps.{Answer, silent, says}
 use Rattle.replica.specs.Receive.{deliver}
 use Rattle.replica.proofs.Delivered.{either_way}
-use Rattle.coordinator.specs.declared.Step.{Step}
+use Rattle.coordinator.specs.Step.{Step}
 use Rattle.coordinator.specs.Calls.{no_node}
 use Rattle.arrivals.specs.Receive.{for_replica, receive_of}
 use Rattle.due.specs.Kind.{due_kind, due_refusals}

@@ -18,7 +18,7 @@ use Rattle.replica.specs.Steps.{Answer, silent, says}
 use Rattle.replica.specs.Receive.{deliver}
 use Rattle.replica.proofs.Delivered.{either_way}
 use Rattle.coordinator.specs.declared.Coordinator.{Coordinator}
-use Rattle.coordinator.specs.declared.Step.{Step}
+use Rattle.coordinator.specs.Step.{Step}
 use Rattle.coordinator.specs.State.{open_phase, voting_phase, idle_after, step_of, ready}
 use Rattle.coordinator.specs.Calls.{open_refusals, open_of, set_refusals, set_of}
 use Rattle.arrivals.specs.Receive.{for_replica, receive_of}

@@ -18,7 +18,7 @@ use Rattle.replica.specs.Receive.{deliver}
 use Rattle.replica.proofs.Delivered.{either_way}
 use Rattle.coordinator.specs.declared.Coordinator.{Coordinator}
 use Rattle.coordinator.specs.declared.BeginWith.{BeginWith}
-use Rattle.coordinator.specs.declared.Step.{Step}
+use Rattle.coordinator.specs.Step.{Step}
 use Rattle.coordinator.specs.System.{System}
 use Rattle.coordinator.specs.State.{idle_phase, open_phase, idle_after}
 use Rattle.coordinator.specs.Calls.{no_node, too_wide, begin_refusals, begun, begin_of, open_refusals, opened, open_of, set_refusals, with_new, set_of}

@@ -20,7 +20,7 @@ use Rattle.replica.specs.Receive.{step as replicaStep}
 use Rattle.replica.proofs.Delivered.{either_way}
 use Rattle.replica.proofs.Late.{late_fetch, late_ask, late_outcome}
 use Rattle.coordinator.specs.declared.Coordinator.{Coordinator}
-use Rattle.coordinator.specs.declared.Step.{Step}
+use Rattle.coordinator.specs.Step.{Step}
 use Rattle.coordinator.specs.System.{System}
 use Rattle.arrivals.specs.Receive.{for_replica, receive_of}
 use Rattle.clauses_arrive.proofs.Messages.{answer_owner}

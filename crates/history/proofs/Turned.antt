@@ -23,7 +23,7 @@ use Rattle.replica.specs.Receive.{refusal, step, Delivered}
 use Rattle.replica.proofs.Delivered.{either_way, or_neither, refused_is, delivered_is}
 use Rattle.replica.proofs.Taken.{Taken, taken}
 use Rattle.coordinator.specs.declared.Coordinator.{Coordinator}
-use Rattle.coordinator.specs.declared.Step.{Step}
+use Rattle.coordinator.specs.Step.{Step}
 use Rattle.coordinator.specs.State.{open_phase, voting_phase, finishing_phase, place_of, object_at, is_open, awaited, ready}
 use Rattle.coordinator.specs.Calls.{no_node}
 use Rattle.arrivals.specs.Receive.{for_replica, receive_of}

@@ -18,7 +18,7 @@ use Rattle.replica.specs.Steps.{Answer, silent, says}
 use Rattle.replica.specs.Receive.{refusal, step, Delivered, deliver}
 use Rattle.replica.proofs.Delivered.{cleared, either_way}
 use Rattle.coordinator.specs.declared.Coordinator.{Coordinator}
-use Rattle.coordinator.specs.declared.Step.{Step}
+use Rattle.coordinator.specs.Step.{Step}
 use Rattle.coordinator.specs.Calls.{no_node, found_of}
 use Rattle.arrivals.specs.Receive.{for_replica, receive_of}
 use Rattle.due.specs.Kind.{due_kind}

@@ -26,7 +26,7 @@ use Rattle.replica.specs.Steps.{Answer, silent, says}
 use Rattle.replica.specs.Receive.{Delivered, deliver, spoken}
 use Rattle.replica.proofs.Spoken.{and-false}
 use Rattle.replica.proofs.Delivered.{past, Fine}
-use Rattle.coordinator.specs.declared.Step.{Step}
+use Rattle.coordinator.specs.Step.{Step}
 use Rattle.coordinator.specs.System.{tree}
 use Rattle.coordinator.specs.Calls.{no_node, begin_of, open_of, set_of, found_of, reselect_of, request_commit_of, abort_of}
 use Rattle.due.specs.Kind.{due_kind, due_refusals}

@@ -5,7 +5,7 @@ use Rattle.numbers.specs.Numbers.{wrong_length}
 use Rattle.octets.specs.Signed.{signed_of}
 use Rattle.coordinator.specs.declared.BeginWith.{BeginWith}
 use Rattle.coordinator.specs.declared.Coordinator.{Coordinator}
-use Rattle.coordinator.specs.declared.Step.{Step}
+use Rattle.coordinator.specs.Step.{Step}
 use Rattle.coordinator.specs.System.{tree}
 use Rattle.coordinator.specs.Calls.{reselect_of}
 use Rattle.record.specs.declared.Called.{Called}

@@ -5,7 +5,7 @@ use Rattle.wire.specs.Formed.{every}
 use Rattle.coordinator.specs.declared.Object.{Object}
 use Rattle.coordinator.specs.declared.Coordinator.{Coordinator}
 use Rattle.coordinator.specs.declared.BeginWith.{BeginWith}
-use Rattle.coordinator.specs.declared.Step.{Step}
+use Rattle.coordinator.specs.Step.{Step}
 use Rattle.coordinator.specs.System.{System}
 use Rattle.coordinator.specs.Calls.{begin_of, open_of, set_of, request_commit_of, abort_of}
 use Rattle.increments.specs.Sums.{sum64, past}

@@ -4,8 +4,10 @@
 ghost use Rattle.std.specs.Prelude.{◌≡◌, cond, ◌&&◌, ◌||◌};
 ghost use Rattle.numbers.specs.Refusal.{lower};
 
+mod refusals;
 mod sizes;
 
+pub use refusals::{Refusal, number};
 pub use sizes::{
     EVERY_NODE, HIGHEST, LONGEST_MESSAGE, MOST_OPEN, MOST_WAITING, NOBODY, NODES, NODES_END,
     OBJECTS, OBJECTS_END, SHORTEST_MESSAGE, UNKNOWN,

@@ -16,7 +16,7 @@ use Rattle.wire.specs.Decode.{kind_of, to_of, decode, check_of}
 use Rattle.replica.specs.Receive.{Delivered}
 use Rattle.replica.proofs.Delivered.{cleared, step_fine, entries_of_lem, delivered_is}
 use Rattle.replica.proofs.Spoken.{named_of}
-use Rattle.coordinator.specs.declared.Step.{Step}
+use Rattle.coordinator.specs.Step.{Step}
 use Rattle.arrivals.specs.Receive.{for_replica, delivered, receive_refusals, receive_of}
 use Rattle.steps.specs.Station.{Station, system, with_record, without}
 use Rattle.steps.specs.Step.{delivery, Outcome, refused_with, taken, taken_out, answered, at_replica, at_coordinator, arriving, delivery_of, step}

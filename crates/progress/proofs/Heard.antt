@@ -19,7 +19,7 @@ use Rattle.wire.specs.Formed.{counts_ok, names_ok, direction_ok, ascend, every, 
 use Rattle.wire.specs.Decode.{kind_of, from_of, to_of, owner_of, serial_of, stamp_of, decode, check_of}
 use Rattle.wire.specs.Items.{no_rival, word_of}
 use Rattle.coordinator.specs.declared.Coordinator.{Coordinator}
-use Rattle.coordinator.specs.declared.Step.{Step}
+use Rattle.coordinator.specs.Step.{Step}
 use Rattle.coordinator.specs.System.{System}
 use Rattle.coordinator.specs.State.{idle_phase, open_phase, voting_phase, finishing_phase, committed, awaited, idle_after}
 use Rattle.coordinator.specs.Calls.{with_phase}

@@ -16,7 +16,7 @@ use Rattle.quorum.specs.Nearest.{mask_of}
 use Rattle.wire.specs.Message.{done}
 use Rattle.image.specs.Layout.{serial}
 use Rattle.coordinator.specs.declared.Coordinator.{Coordinator}
-use Rattle.coordinator.specs.declared.Step.{Step}
+use Rattle.coordinator.specs.Step.{Step}
 use Rattle.coordinator.specs.State.{open_phase, voting_phase, finishing_phase, awaited}
 use Rattle.coordinator.specs.Calls.{request_commit_refusals, requested, request_commit_of}
 use Rattle.arrivals.specs.Receive.{with_yes, with_done}

@@ -19,7 +19,7 @@ use Rattle.judge.specs.Standing.{standing}
 use Rattle.replica.specs.Steps.{says, vote_to, done_to}
 use Rattle.replica.specs.Receive.{step}
 use Rattle.coordinator.specs.declared.Coordinator.{Coordinator}
-use Rattle.coordinator.specs.declared.Step.{Step}
+use Rattle.coordinator.specs.Step.{Step}
 use Rattle.coordinator.specs.State.{voting_phase, finishing_phase, awaited}
 use Rattle.arrivals.specs.Receive.{raise_from, with_yes, with_done}
 use Rattle.clauses.proofs.Facts.{Meets}

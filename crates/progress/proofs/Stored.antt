@@ -24,7 +24,7 @@ use Rattle.replica.specs.Receive.{refusal, Delivered}
 use Rattle.replica.proofs.Delivered.{either_way, refused_is, delivered_is}
 use Rattle.replica.proofs.Taken.{Taken, taken}
 use Rattle.coordinator.specs.declared.Coordinator.{Coordinator}
-use Rattle.coordinator.specs.declared.Step.{Step}
+use Rattle.coordinator.specs.Step.{Step}
 use Rattle.coordinator.specs.System.{System}
 use Rattle.coordinator.specs.State.{idle_phase, open_phase, voting_phase, finishing_phase, object_at, ready}
 use Rattle.coordinator.specs.Calls.{no_node}

@@ -13,7 +13,7 @@ use Rattle.octets.specs.Octets.{get}
 use Rattle.octets.proofs.Laws.{Bytes, get_small}
 use Rattle.wire.specs.Decode.{items_from}
 use Rattle.coordinator.specs.declared.Coordinator.{Coordinator}
-use Rattle.coordinator.specs.declared.Step.{Step}
+use Rattle.coordinator.specs.Step.{Step}
 use Rattle.coordinator.specs.System.{tree}
 use Rattle.coordinator.specs.State.{no_object, blank_record}
 use Rattle.clauses.specs.Clauses.{meets}

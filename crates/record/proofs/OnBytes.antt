@@ -11,7 +11,7 @@ use borrow.Author.Tests.{eq-eqb, ne_eqb, eqb-true}
 use Rattle.record.specs.Layout.{record_size}
 use Rattle.letters.specs.Write.{answer}
 use Rattle.coordinator.specs.declared.Coordinator.{Coordinator}
-use Rattle.coordinator.specs.declared.Step.{Step}
+use Rattle.coordinator.specs.Step.{Step}
 use Rattle.coordinator.specs.State.{step_of}
 use Rattle.record.specs.declared.Called.{Called}
 use Rattle.record.specs.Record.{record_of, bytes_of, check}

@@ -2,7 +2,7 @@
 use Rattle.std.specs.Prelude.{cond, List, ℕ, eqb, length}
 use Rattle.numbers.specs.Numbers.{wrong_length}
 use Rattle.coordinator.specs.declared.Coordinator.{Coordinator}
-use Rattle.coordinator.specs.declared.Step.{Step}
+use Rattle.coordinator.specs.Step.{Step}
 use Rattle.coordinator.specs.State.{blank_record}
 use Rattle.record.specs.declared.Called.{Called}
 use Rattle.record.specs.Layout.{record_size}

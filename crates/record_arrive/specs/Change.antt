@@ -3,7 +3,7 @@ use Rattle.std.specs.Prelude.{List, ℕ}
 use Rattle.mask.specs.Mask.{only, joined}
 use Rattle.wire.specs.Decode.{from_of, rival_count}
 use Rattle.coordinator.specs.declared.Coordinator.{Coordinator}
-use Rattle.coordinator.specs.declared.Step.{Step}
+use Rattle.coordinator.specs.Step.{Step}
 use Rattle.coordinator.specs.Calls.{with_phase}
 use Rattle.arrivals.specs.Receive.{raise_from, with_yes}
 

@@ -8,7 +8,7 @@ use lib.Dec.{eqb}
 use lib.ListN.{length}
 use borrow.Author.Tests.{ne_eqb}
 use Rattle.numbers.specs.Numbers.{wrong_length}
-use Rattle.coordinator.specs.declared.Step.{Step}
+use Rattle.coordinator.specs.Step.{Step}
 use Rattle.coordinator.specs.System.{tree}
 use Rattle.coordinator.specs.Calls.{found_of, reselect_of, abort_of}
 use Rattle.steps.specs.Step.{found, reselect, abort, hosted}

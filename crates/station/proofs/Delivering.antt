@@ -20,7 +20,7 @@ use Rattle.replica.specs.Receive.{refusal, step, Delivered, deliver, length_of, 
 use Rattle.replica.proofs.Spoken.{false_true, named_of}
 use Rattle.replica.proofs.Delivered.{Fine, cleared, step_fine, entries_of_lem, refused_is, delivered_is}
 use Rattle.coordinator.specs.declared.Coordinator.{Coordinator}
-use Rattle.coordinator.specs.declared.Step.{Step}
+use Rattle.coordinator.specs.Step.{Step}
 use Rattle.coordinator.specs.System.{tree}
 use Rattle.arrivals.specs.Receive.{receive_of}
 use Rattle.pool.specs.Pool.{count, waiting, message_at, check}

@@ -11,7 +11,7 @@ use Rattle.record.specs.Layout.{record_size}
 use Rattle.numbers.specs.Sizes.{nodes, every_node}
 use Rattle.mask.specs.Mask.{contains}
 use Rattle.coordinator.specs.declared.Coordinator.{Coordinator}
-use Rattle.coordinator.specs.declared.Step.{Step}
+use Rattle.coordinator.specs.Step.{Step}
 use Rattle.parts.specs.Parts.{part, splice}
 use Rattle.parts.proofs.Laws.{lent}
 use Rattle.record.specs.declared.Called.{Called}

@@ -12,7 +12,7 @@ use Rattle.numbers.specs.Sizes.{nodes}
 use Rattle.mask.proofs.Tests.{and_left, and_right}
 use Rattle.numbers.specs.Refusal.{Refusal, first_of}
 use Rattle.coordinator.specs.declared.Coordinator.{Coordinator}
-use Rattle.coordinator.specs.declared.Step.{Step}
+use Rattle.coordinator.specs.Step.{Step}
 use Rattle.coordinator.specs.State.{step_of}
 use Rattle.clauses.proofs.Parts.{eq-T}
 use Rattle.parts.specs.Parts.{part}

@@ -14,7 +14,7 @@ use Rattle.replica.specs.Steps.{Answer, silent, says}
 use Rattle.replica.specs.Receive.{Delivered, deliver}
 use Rattle.coordinator.specs.declared.Coordinator.{Coordinator}
 use Rattle.coordinator.specs.declared.BeginWith.{BeginWith}
-use Rattle.coordinator.specs.declared.Step.{Step}
+use Rattle.coordinator.specs.Step.{Step}
 use Rattle.coordinator.specs.Calls.{no_node, begin_of, open_of, set_of, found_of, reselect_of, request_commit_of, abort_of}
 use Rattle.arrivals.specs.Receive.{for_replica, receive_of}
 use Rattle.due.specs.Kind.{no_kind, due_kind, due_refusals}

@@ -1,7 +1,7 @@
 -- `record_arrive::receive`: a message of another length, refused bytes, or the delivery on all of them.
 use mathlib.Core.Path.{sym, ◌∙◌}
 use Rattle.coordinator.specs.declared.Coordinator.{Coordinator}
-use Rattle.coordinator.specs.declared.Step.{Step}
+use Rattle.coordinator.specs.Step.{Step}
 use Rattle.coordinator.specs.System.{tree}
 use Rattle.arrivals.specs.Receive.{receive_of}
 use Rattle.record.specs.Record.{record_of}

@@ -5,7 +5,7 @@ use native.Mathlib.Omega.{arith}
 use borrow.Author.Tests.{le-ltb}
 use Rattle.numbers.specs.Sizes.{nodes}
 use Rattle.coordinator.specs.declared.Coordinator.{Coordinator}
-use Rattle.coordinator.specs.declared.Step.{Step}
+use Rattle.coordinator.specs.Step.{Step}
 use Rattle.coordinator.specs.Calls.{set_refusals, set_of}
 use Rattle.steps.specs.Step.{set_value, step}
 use Rattle.buffers.specs.Buffers.{station_of, ends, record_in}
