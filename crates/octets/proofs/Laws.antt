@@ -235,10 +235,3 @@ tests_same a b c d f g = go (leb a b) (leb c d) refl refl
 
 pub leb_shift : (n i k : ℕ) → k ≤ n → leb i (n - k) ≡ leb (i + k) n
 leb_shift n i k h = tests_same i (n - k) (i + k) n (λ p. omega arith) (λ p. omega arith)
-
-pub leb_short : (n i k : ℕ) → n < k → false ≡ leb (i + k) n
-leb_short n i k h = go (leb (i + k) n) refl
-  where
-    go : (x : Bool) → leb (i + k) n ≡ x → false ≡ x
-    go true p = absurd (let z = leb-true (i + k) n p in omega arith)
-    go false p = refl

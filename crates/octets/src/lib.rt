@@ -10,11 +10,7 @@ ghost use Rattle.octets.specs.Signed.{signed_of, bits_of};
 fn there(len: usize, at: usize, k: usize) -> usize
     ensures { result ≡ min k (len - at) }
 {
-    if len <= at {
-        return 0;
-    }
-    let room = len - at;
-    if room < k { room } else { k }
+    k.min(len.saturating_sub(at))
 }
 
 // The number that the k bytes from `at` make, little-endian, read from the last one on.
@@ -24,11 +20,8 @@ fn get_bytes(s: &[u8], at: usize, k: usize) -> u64
 {
     let n = there(s.len(), at, k);
     let mut acc: u64 = 0;
-    let mut left = n;
-    while 0 < left {
-        left = left - 1;
-        let j = at + left;
-        acc = 256 * acc + s[j] as u64;
+    for i in (0..n).rev() {
+        acc = 256 * acc + u64::from(s[at + i]);
     }
     acc
 }
@@ -39,13 +32,9 @@ fn put_bytes(s: &mut [u8], at: usize, k: usize, v: u64)
 {
     let n = there(s.len(), at, k);
     let mut rest = v;
-    let mut j = at;
-    let mut left = n;
-    while 0 < left {
-        s[j] = (rest % 256) as u8;
+    for i in 0..n {
+        s[at + i] = (rest % 256) as u8;
         rest = rest / 256;
-        j = j + 1;
-        left = left - 1;
     }
 }
 
@@ -53,7 +42,7 @@ fn put_bytes(s: &mut [u8], at: usize, k: usize, v: u64)
 fn within(len: usize, at: usize, k: usize) -> bool
     ensures { result ≡ leb (at + k) len }
 {
-    if k <= len { at <= len - k } else { false }
+    k <= len && at <= len - k
 }
 
 // Two, four and eight bytes that are there, read without a loop: a compiler makes one load of them.
@@ -61,8 +50,7 @@ fn two(s: &[u8], at: usize) -> u64
     requires { at + 2 ≤ length s.now }
     ensures { (result ≡ get 2 s.now at) × (result < 65536) }
 {
-    let next = at + 1;
-    s[at] as u64 + 256 * (s[next] as u64)
+    u64::from(s[at]) + 256 * u64::from(s[at + 1])
 }
 
 fn four(s: &[u8], at: usize) -> u64
@@ -84,9 +72,8 @@ fn put_two(s: &mut [u8], at: usize, v: u64)
     requires { at + 2 ≤ length s.old }
     ensures { s.new ≡ put 2 s.old at v }
 {
-    let next = at + 1;
     s[at] = (v % 256) as u8;
-    s[next] = (v / 256 % 256) as u8;
+    s[at + 1] = (v / 256 % 256) as u8;
 }
 
 fn put_four(s: &mut [u8], at: usize, v: u64)
@@ -154,9 +141,9 @@ pub fn put_u16(s: &mut [u8], at: usize, v: u16)
     ensures { s.new ≡ put 2 s.old at v }
 {
     if within(s.len(), at, 2) {
-        put_two(s, at, v as u64);
+        put_two(s, at, u64::from(v));
     } else {
-        put_bytes(s, at, 2, v as u64);
+        put_bytes(s, at, 2, u64::from(v));
     }
 }
 
@@ -164,9 +151,9 @@ pub fn put_u32(s: &mut [u8], at: usize, v: u32)
     ensures { s.new ≡ put 4 s.old at v }
 {
     if within(s.len(), at, 4) {
-        put_four(s, at, v as u64);
+        put_four(s, at, u64::from(v));
     } else {
-        put_bytes(s, at, 4, v as u64);
+        put_bytes(s, at, 4, u64::from(v));
     }
 }
 
@@ -184,22 +171,12 @@ pub fn put_u64(s: &mut [u8], at: usize, v: u64)
 pub fn signed(x: u64) -> i64
     ensures { result ≡ signed_of x }
 {
-    if x < 9223372036854775808 {
-        x as i64
-    } else {
-        let m = (18446744073709551615 - x) as i64;
-        -1 - m
-    }
+    x.cast_signed()
 }
 
 // The 64 bits of a signed number in two's complement. Ruled out: its magnitude; the bits of its opposite.
 pub fn bits(x: i64) -> u64
     ensures { result ≡ bits_of x }
 {
-    if x < 0 {
-        let m = -1 - x;
-        18446744073709551615 - (m as u64)
-    } else {
-        x as u64
-    }
+    x.cast_unsigned()
 }

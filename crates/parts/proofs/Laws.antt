@@ -1,12 +1,12 @@
 -- The laws of parts: a part depends on its own bytes alone, a replaced part is what was put there, and every other part is as it was. Laid bytes read as
 -- the list does.
-use mathlib.Core.Path.{◌≡◌, refl, sym, ap, ap₂, ◌∙◌}
+use mathlib.Core.Path.{◌≡◌, refl, sym, ap, ◌∙◌}
 use mathlib.Core.Logic.{◌⊎◌, inl, inr, ⊎_elim}
-use mathlib.Core.List.{List, [], ◌∷◌, ◌++◌, append-nil}
-use Prim.Native.Nat.{ℕ, zero, suc, ◌+◌, ◌-◌, ◌<◌, ◌≤◌}
+use mathlib.Core.List.{List, [], ◌∷◌, ◌++◌}
+use Prim.Native.Nat.{ℕ, zero, suc, ◌+◌, ◌-◌, ◌<◌, ◌≤◌, min}
 use native.Mathlib.Omega.{arith}
-use lib.ListN.{length, get_or, take, drop, length-append, length-drop, drop_of_length-le, get_or-append, get_or-eq_default}
-use lib.Seq.{take_at, drop_at, take-length, length-take-le, ext_get_or, get_or-drop, get_or-take, get_or-append-add, paste, length_paste_head}
+use lib.ListN.{length, get_or, take, drop, replicate, length-append, length-drop, get_or-append, get_or-eq_default}
+use lib.Seq.{take_at, drop_at, length-take-le, ext_get_or, get_or-drop, get_or-take, get_or-append-add, paste, length_paste_head}
 use Rattle.octets.proofs.Laws.{lt_or_le}
 use Rattle.parts.specs.Parts.{part, splice, padded}
 
@@ -102,17 +102,24 @@ module _ (d : List ℕ) (at : ℕ) (s : List ℕ) (n : ℕ) (h : at + n ≤ leng
       ∙ ap (λ (k : ℕ). get_or d k 0) f)
       o
 
--- a copy over the whole of a list
-pub paste_whole : (d s : List ℕ) → length d ≡ length s → paste d 0 s (length s) ≡ s
-paste_whole d s e =
-    ap₂ (λ (a b : List ℕ). a ++ b) (take-length s) (drop_of_length-le d {i = 0 + length s} (omega (arith, e))) ∙ append-nil s
-
 -- ---- a list with zeros behind it
 pub length_padded : (n : ℕ) (l : List ℕ) → length (padded n l) ≡ n
 unfolding padded
 length_padded zero l = refl
 length_padded (suc n) [] = ap suc (length_padded n [])
 length_padded (suc n) (x ∷ l) = ap suc (length_padded n l)
+
+-- the front of the list, and the zeros
+pub padded_parts : (n k m : ℕ) (l : List ℕ) → k ≡ min n (length l) → k + m ≡ n → take k l ++ replicate m 0 ≡ padded n l
+unfolding padded
+padded_parts zero zero zero l e f = refl
+padded_parts zero zero (suc m) l e f = absurd (let z : ⊥ = omega arith in z)
+padded_parts zero (suc k) m l e f = absurd (let z : ⊥ = omega arith in z)
+padded_parts (suc n) zero zero l e f = absurd (let z : ⊥ = omega arith in z)
+padded_parts (suc n) zero (suc m) [] e f = ap (λ (r : List ℕ). 0 ∷ r) (padded_parts n zero m [] (omega arith) (omega arith))
+padded_parts (suc n) zero (suc m) (x ∷ l) e f = absurd (let z : ⊥ = omega arith in z)
+padded_parts (suc n) (suc k) m [] e f = absurd (let z : ⊥ = omega arith in z)
+padded_parts (suc n) (suc k) m (x ∷ l) e f = ap (λ (r : List ℕ). x ∷ r) (padded_parts n k m l (omega arith) (omega arith))
 
 pub padded_at : (n : ℕ) (l : List ℕ) (i : ℕ) → i < n → get_or (padded n l) i 0 ≡ get_or l i 0
 unfolding padded

@@ -9,20 +9,15 @@ ghost use Rattle.parts.specs.Parts.{padded};
 pub fn zero(bytes: &mut [u8])
     ensures { bytes.new ≡ replicate (length bytes.old) 0 }
 {
-    let mut i = 0;
-    while i < bytes.len() {
-        bytes[i] = 0;
-        i = i + 1;
-    }
+    bytes.fill(0);
 }
 
 // Lays a list into bytes, zeros behind it; what has no room is left out. Ruled out: the last byte of the list lost; what stood behind the list kept.
 pub fn lay(to: &mut [u8], list: &[u8])
     ensures { to.new ≡ padded (length to.old) list.now }
 {
-    let mut i = 0;
-    while i < to.len() {
-        to[i] = octets::get_u8(list, i);
-        i = i + 1;
-    }
+    let copied = to.len().min(list.len());
+    let (front, rest) = to.split_at_mut(copied);
+    front.copy_from_slice(&list[..copied]);
+    zero(rest);
 }
