@@ -1,17 +1,16 @@
 -- The nearness rule as an order of weights: a sum counts 256, and a set without the asker weighs one more than it would with him. So it is total and
 -- transitive, and what the better of two choices is as near as, holds of either.
-use mathlib.Core.Path.{◌≡◌, refl, sym, ap, ap₂, ◌∙◌, subst}
+use mathlib.Core.Path.{◌≡◌, refl, sym, ap, ◌∙◌, subst}
 use mathlib.Core.Bool.{Bool, true, false, not, cond, ◌&&◌, ◌||◌}
-use mathlib.Core.List.{List, [], ◌∷◌}
 use Prim.Native.Nat.{ℕ, ◌+◌, ◌-◌, ◌*◌, ◌≤◌, ◌<◌}
 use native.Mathlib.Omega.{arith}
-use lib.Dec.{T, ltb, leb, eqb, ltb→lt, lt→ltb, leb→le, le→leb, eqb→eq, eqb_refl, T_not, not_T}
-use Rattle.mask.specs.Mask.{bit, within}
+use lib.Dec.{T, ltb, leb, eqb, ltb→lt, lt→ltb, leb→le, le→leb, eqb→eq, eqb_refl}
+use Rattle.mask.specs.Mask.{bit}
 use Rattle.mask.proofs.Tests.{and_both, and_left, and_right, or_left, or_right, or_cases, same_test, compared}
 use Rattle.mask.proofs.Laws.{bit_lt}
 use Rattle.quorum.specs.declared.Choice.{Choice}
 use Rattle.quorum.specs.declared.Choice.TheVariants.{Quorum, Nothing}
-use Rattle.quorum.specs.Nearest.{distance, nearer, better_of, one_of, nearest_of}
+use Rattle.quorum.specs.Nearest.{nearer, better_of}
 use Rattle.quorum.specs.Levels.{lighter, lighter_of}
 use Rattle.quorum.proofs.Order.{by_weight, by_mask, lighter_cases, light_self, light_total, light_trans}
 
