@@ -3,7 +3,7 @@
 use mathlib.Core.Path.{◌≡◌, refl, sym, ap, ap₂, ◌∙◌, subst}
 use mathlib.Core.Bool.{Bool, true, false, cond, ◌&&◌}
 use mathlib.Core.List.{List, [], ◌∷◌, ◌++◌, map}
-use Prim.Native.Nat.{ℕ, zero, suc, ◌+◌, ◌-◌, ◌*◌, ◌/◌, ◌%◌, ◌^◌, ◌≤◌, ◌<◌, min, max}
+use Prim.Native.Nat.{ℕ, zero, suc, ◌+◌, ◌*◌, ◌/◌, ◌%◌, ◌^◌, ◌≤◌, ◌<◌, min, max}
 use native.Mathlib.Nat.{pow-suc, add-mul}
 use native.Mathlib.Omega.{arith}
 use lib.Dec.{T, eqb, ltb, eqb→eq}
@@ -20,7 +20,7 @@ use Rattle.quorum.specs.declared.Kind.TheVariants.{Read, Write}
 use Rattle.quorum.specs.Tree.{child}
 use Rattle.quorum.specs.Smallest.{each, pairs, with_root_set, smallest_of, smallest}
 use Rattle.quorum.specs.Nearest.{distance, one_of, nearest_of}
-use Rattle.quorum.specs.Levels.{turns_of, lighter, lighter_of, both_of, alone_of, with_root, best_of, choose_pair}
+use Rattle.quorum.specs.Levels.{lighter, lighter_of, both_of, alone_of, with_root, best_of, choose_pair}
 use Rattle.quorum.proofs.Order.{lighter_nothing, lighter_assoc, both_nothing, both_lighter, lighter_both}
 use Rattle.quorum.proofs.Near.{weight_of, weighed, weighed_better}
 

@@ -11,7 +11,7 @@ ghost use Rattle.quorum.specs.Counts.{leaf_counts};
 ghost use Rattle.quorum.specs.Smallest.{smallest};
 ghost use Rattle.quorum.specs.Nearest.{nearest_of, distance, number_of, mask_of, sum_of};
 ghost use Rattle.quorum.specs.Levels.{turns_of, alone_of};
-ghost use Rattle.quorum.specs.Key.{Means, height_of, AllMean, AllSmall, lesser_of, pair_key, root_key, best_key, best_pair_key};
+ghost use Rattle.quorum.specs.Key.{Means, height_of, AllMean, AllSmall, pair_key, root_key, best_key, best_pair_key};
 
 use numbers::NODES;
 
@@ -86,20 +86,6 @@ const ABOVE: u64 = 4294967296;
 
 const TURN: u64 = 16777216;
 
-// Of two keys the lesser.
-fn lesser(a: u64, b: u64) -> u64
-    ensures { result ≡ lesser_of a b }
-{
-    if a <= b { a } else { b }
-}
-
-// A distance or a mask as a wider number.
-fn wide(x: u16) -> u64
-    ensures { (result ≡ x) × (result < 65536) }
-{
-    x as u64
-}
-
 // The turns of a node as the top of a subtree of this height: twice as many with each level, so that all sets which are compared have equally many, but for
 // the asker, who has one less.
 fn turns(asker: u8, node: u8, height: u8) -> u64
@@ -118,7 +104,8 @@ fn alone(asker: u8, live: u16, distances: &[u16; NODES], node: u8, height: u8) -
 {
     if mask::has(live, node) {
         let i = node as usize;
-        ABOVE * wide(distances[i]) + TURN * turns(asker, node, height) + wide(mask::single(node))
+        let sum = u64::from(distances[i]);
+        ABOVE * sum + TURN * turns(asker, node, height) + u64::from(mask::single(node))
     } else {
         ABSENT
     }
@@ -139,11 +126,9 @@ fn keys_of(asker: u8, live: u16, distances: &[u16; NODES]) -> [u64; NODES]
     ensures { AllMean asker live distances.now result }
 {
     let mut keys = [ABSENT; NODES];
-    let mut i = 0;
-    while i < NODES {
+    for i in 0..NODES {
         let node = i as u8;
         keys[i] = alone(asker, live, distances, node, height_of(node));
-        i += 1;
     }
     keys
 }
@@ -153,7 +138,7 @@ fn choose_pair(a: u64, b: u64, c: u64) -> u64
     requires { (a < 2 ^ 62) × (b < 2 ^ 62) × (c < 2 ^ 62) }
     ensures { result ≡ pair_key a b c }
 {
-    lesser(a + b, lesser(a + c, b + c))
+    (a + b).min((a + c).min(b + c))
 }
 
 // For a read quorum the nearer of the root and the pair, for a write quorum the two joined.
@@ -162,7 +147,7 @@ fn with_root(kind: Kind, own: u64, pair: u64) -> u64
     ensures { result ≡ root_key kind own pair }
 {
     match kind {
-        Kind::Read => lesser(own, pair),
+        Kind::Read => own.min(pair),
         Kind::Write => own + pair,
     }
 }

@@ -8,7 +8,7 @@ use Rattle.std.specs.Prelude.{None}
 use Rattle.mask.proofs.Laws.{only_small}
 use Rattle.quorum.specs.Choice.{quorum_with}
 use Rattle.quorum.specs.Levels.{turns_of}
-use Rattle.quorum.specs.Key.{absent, Means}
+use Rattle.quorum.specs.Key.{Means}
 use Rattle.quorum.proofs.alone.Goals as goal
 
 -- the three parts of a key
@@ -19,35 +19,12 @@ parts far turns one d t m e f g p q r = (omega (arith, e, f, g), omega (arith, g
 pub returns-then-has-clause-means : goal.returns-then-has-clause-means
 returns-then-has-clause-means c = let a = c.args in
     let d = a.distances.now in
-    let one = c.wide-then-has.ensures.0 ∙ c.single.ensures ∙ only_small a.node (omega arith) in
+    let one = c.from.ensures ∙ c.single.ensures ∙ only_small a.node (omega arith) in
     let many = c.turns in
-    let far = c.wide in
+    let far = c.from-sum in
     let there = sym c.if-has.true ∙ c.has.ensures in
     subst
-    (λ (t : Bool). Means 65535 (4294967296 * far.result + 16777216 * many.result + c.wide-then-has.result)
+    (λ (t : Bool). Means 65535 (4294967296 * far.result + 16777216 * many.result + c.from.result)
     (cond t (quorum_with (2 ^ a.node) (256 * get_or d a.node 0 + turns_of a.asker a.height a.node)) None)) there
-    (parts far.result many.result c.wide-then-has.result _ _ _ far.ensures.0 many.ensures.0 one far.ensures.1 many.ensures.1
-    c.wide-then-has.ensures.1)
-
-pub returns-then-has-clause-upper_bound : goal.returns-then-has-clause-upper_bound
-returns-then-has-clause-upper_bound c = let a = c.args in
-    let d = a.distances.now in
-    let one = c.wide-then-has.ensures.0 ∙ c.single.ensures ∙ only_small a.node (omega arith) in
-    let many = c.turns in
-    let far = c.wide in
-    let there = sym c.if-has.true ∙ c.has.ensures in
-    omega (arith, c.wide-then-has.ensures.1, far.ensures.1, many.ensures.1)
-
-pub returns-else-has-clause-means : goal.returns-else-has-clause-means
-returns-else-has-clause-means c = let a = c.args in
-    let d = a.distances.now in
-    let there = sym c.if-has.false ∙ c.has.ensures in
-    subst
-    (λ (t : Bool). Means 65535 absent
-    (cond t (quorum_with (2 ^ a.node) (256 * get_or d a.node 0 + turns_of a.asker a.height a.node)) None)) there (omega arith)
-
-pub returns-else-has-clause-upper_bound : goal.returns-else-has-clause-upper_bound
-returns-else-has-clause-upper_bound c = let a = c.args in
-    let d = a.distances.now in
-    let there = sym c.if-has.false ∙ c.has.ensures in
-    omega arith
+    (parts far.result many.result c.from.result _ _ _ far.ensures many.ensures.0 one (omega arith) many.ensures.1
+    (omega arith))

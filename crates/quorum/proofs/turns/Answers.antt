@@ -10,9 +10,6 @@ use Rattle.quorum.proofs.turns.Goals as goal
 less_none : (n : ℕ) → n ≡ n - 0
 less_none n = omega arith
 
-pub overflow_sub-result : goal.overflow_sub-result
-overflow_sub-result c = let t = turn_count c.args.height c.requires in omega (arith, t.0, t.1)
-
 pub returns-then-node-asker : goal.returns-then-node-asker
 returns-then-node-asker c = let a = c.args in
     let t = turn_count a.height c.requires in (
