@@ -9,7 +9,7 @@ ghost use Rattle.coordinator.specs.Calls.{begin_refusals, begun, begin_of, open_
 ghost use Rattle.coordinator.specs.Calls.{found_refusals, found_of, reselect_refusals, reselected, reselect_of, request_commit_refusals, request_commit_of};
 ghost use Rattle.coordinator.specs.Calls.{abort_refusals, ended_aborted, abort_of};
 
-use crate::common::{idle_with, is_none, mask_of, refused, taken, wide};
+use crate::common::{idle_with, is_none, mask_of, refused, taken};
 use crate::objects::{all_settled, any_used_up, at_place, is_ready, place, put};
 use crate::{ABORTED, BeginWith, Coordinator, FINISHING, IDLE, OPEN, Object, Step, VOTING};
 use numbers::{EVERY_NODE, HIGHEST, MOST_OPEN, NODES, NODES_END, OBJECTS_END, either, refuse};
@@ -45,32 +45,13 @@ fn with_begun(c: Coordinator, w: BeginWith, quorum: u16) -> Coordinator
     ensures { result ≡ begun c w quorum }
 {
     let distances = w.distances;
-    let none = Object {
-        object: 0,
-        mode: 0,
-        came: 0,
-        version: 0,
-        value: 0,
-        given: false,
-        new: 0,
-    };
-    let objects = [none; MOST_OPEN];
-    let rivals = [0u32; NODES];
+    let idle = idle_with(c.serial + 1, w.timestamp, c.outcome);
     Coordinator {
-        serial: c.serial + 1,
-        timestamp: w.timestamp,
-        outcome: c.outcome,
         phase: OPEN,
         live: w.live,
         distances,
         quorum,
-        contacted: 0,
-        count: 0,
-        objects,
-        participants: 0,
-        yes: 0,
-        done: 0,
-        rivals,
+        ..idle
     }
 }
 
@@ -86,7 +67,7 @@ pub fn begin(c: Coordinator, me: u8, w: BeginWith) -> Step
         return refused(number, c);
     }
     let m = mask_of(chosen);
-    taken(wide(m), with_begun(c, w, m))
+    taken(u64::from(m), with_begun(c, w, m))
 }
 
 // The number of an open.
@@ -261,7 +242,7 @@ pub fn reselect(c: Coordinator, me: u8, live: u16, distances: [u16; NODES]) -> S
         return refused(number, c);
     }
     let m = mask_of(chosen);
-    taken(wide(m), with_reselected(c, live, distances, m))
+    taken(u64::from(m), with_reselected(c, live, distances, m))
 }
 
 // The number of a request to commit: 11, then 8, then 9.
@@ -296,7 +277,7 @@ pub fn request_commit(c: Coordinator, me: u8) -> Step
     let mut d = c;
     d.phase = VOTING;
     d.participants = participants;
-    taken(wide(participants), d)
+    taken(u64::from(participants), d)
 }
 
 // Who must say done: the participants, when never voted the contacted nodes.

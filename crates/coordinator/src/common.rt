@@ -4,7 +4,7 @@ ghost use Rattle.quorum.specs.Nearest.{mask_of};
 ghost use Rattle.coordinator.specs.State.{idle_after};
 ghost use Rattle.coordinator.specs.Calls.{is_none};
 
-use crate::{Coordinator, IDLE, Object, Step};
+use crate::{Coordinator, IDLE, NO_OBJECT, Step};
 use numbers::{MOST_OPEN, NODES};
 use quorum::Choice;
 
@@ -30,13 +30,6 @@ pub(crate) fn taken(answer: u64, c: Coordinator) -> Step
     }
 }
 
-// A mask as an answer.
-pub(crate) fn wide(m: u16) -> u64
-    ensures { result ≡ m }
-{
-    m as u64
-}
-
 // The set of a choice, and whether there is none. Ruled out: the sum of distances; 'none' for a choice at distance 0.
 pub fn mask_of(x: Choice) -> u16
     ensures { result ≡ mask_of x }
@@ -60,16 +53,7 @@ pub fn is_none(x: Choice) -> bool
 pub fn idle_with(serial: u32, timestamp: u32, outcome: u8) -> Coordinator
     ensures { result ≡ idle_after serial timestamp outcome }
 {
-    let none = Object {
-        object: 0,
-        mode: 0,
-        came: 0,
-        version: 0,
-        value: 0,
-        given: false,
-        new: 0,
-    };
-    let objects = [none; MOST_OPEN];
+    let objects = [NO_OBJECT; MOST_OPEN];
     let distances = [0u16; NODES];
     let rivals = [0u32; NODES];
     Coordinator {

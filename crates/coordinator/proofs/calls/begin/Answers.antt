@@ -25,8 +25,8 @@ pub returns : goal.returns
 unfolding begin_of step_of
 returns c = simp (
   c.taken.ensures,
+  c.from.ensures,
   c.with_begun.ensures,
-  c.wide.ensures,
   c.mask_of-m.ensures,
   sym c.nearest-chosen.ensures.value,
   sym c.begin_number-number.ensures,

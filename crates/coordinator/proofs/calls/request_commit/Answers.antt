@@ -18,7 +18,7 @@ pub returns : goal.returns
 unfolding request_commit_of requested step_of
 returns c = simp (
   c.taken.ensures,
-  c.wide.ensures,
+  c.from.ensures,
   c.join-participants.ensures,
   c.mask_of.ensures,
   sym c.nearest-chosen.ensures.value,

@@ -18,8 +18,8 @@ pub returns : goal.returns
 unfolding reselect_of step_of
 returns c = simp (
   c.taken.ensures,
+  c.from.ensures,
   c.with_reselected.ensures,
-  c.wide.ensures,
   c.mask_of-m.ensures,
   sym c.nearest-chosen.ensures.value,
   sym c.reselect_number-number.ensures,
