@@ -58,32 +58,13 @@ fn with_begun(c: Coordinator, w: BeginWith, quorum: u16) -> Coordinator
     ensures { result ≡ begun c w quorum }
 {
     let distances = w.distances;
-    let none = Object {
-        object: 0,
-        mode: 0,
-        came: 0,
-        version: 0,
-        value: 0,
-        given: false,
-        new: 0,
-    };
-    let objects = [none; MOST_OPEN];
-    let rivals = [0u32; NODES];
+    let idle = idle_with(c.serial + 1, w.timestamp, c.outcome);
     Coordinator {
-        serial: c.serial + 1,
-        timestamp: w.timestamp,
-        outcome: c.outcome,
         phase: OPEN,
         live: w.live,
         distances,
         quorum,
-        contacted: 0,
-        count: 0,
-        objects,
-        participants: 0,
-        yes: 0,
-        done: 0,
-        rivals,
+        ..idle
     }
 }
 

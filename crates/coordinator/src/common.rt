@@ -2,23 +2,14 @@
 ghost use Rattle.std.specs.Prelude.{◌≡◌};
 ghost use Rattle.coordinator.specs.State.{idle_after};
 
-use crate::{Coordinator, IDLE, Object};
+use crate::{Coordinator, IDLE, NO_OBJECT};
 use numbers::{MOST_OPEN, NODES};
 
 // An idle record with a lasting part; the rest is blank. Ruled out: the phase left finishing; the serial set back to 0.
 pub fn idle_with(serial: u32, timestamp: u32, outcome: u8) -> Coordinator
     ensures { result ≡ idle_after serial timestamp outcome }
 {
-    let none = Object {
-        object: 0,
-        mode: 0,
-        came: 0,
-        version: 0,
-        value: 0,
-        given: false,
-        new: 0,
-    };
-    let objects = [none; MOST_OPEN];
+    let objects = [NO_OBJECT; MOST_OPEN];
     let distances = [0u16; NODES];
     let rivals = [0u32; NODES];
     Coordinator {

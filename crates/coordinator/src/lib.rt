@@ -47,6 +47,17 @@ pub struct Object {
     pub new: u64,
 }
 
+// A blank object: it stands at each place that no object was opened at.
+pub const NO_OBJECT: Object = Object {
+    object: 0,
+    mode: 0,
+    came: 0,
+    version: 0,
+    value: 0,
+    given: false,
+    new: 0,
+};
+
 // The record. The lasting part: the last serial and timestamp, the last outcome. The rest is the transaction, blank while idle: its phase; the
 // live nodes and distances last given; the present read quorum; the contacted nodes; how many objects are open, in the order of opening; the
 // participants, who voted yes, who said done; for each owner the highest serial of a rival that was named, 0 for none.

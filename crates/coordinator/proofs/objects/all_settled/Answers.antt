@@ -1,33 +1,17 @@
--- `coordinator::objects::all_settled`: going down, what was found is `across` of the places passed.
-use Prim.Native.Nat.{ℕ}
-use mathlib.Core.Path.{◌≡◌, sym, ap, ◌∙◌}
-use mathlib.Core.Bool.{true}
-use native.Mathlib.Omega.{arith}
-use borrow.Author.Rules.{rules}
-use lib.ListN.{drop}
-use Rattle.numbers.specs.Sizes.{most_open}
+-- `coordinator::objects::all_settled`: what the chain answers of the objects below the count.
+use Rattle.std.proofs.Common.{sym, ◌∙◌, rules, tests, arith}
+use Rattle.std.proofs.lemmas.Iterator.{YieldsList-from_slice, YieldsList-from_take}
+use Rattle.std.proofs.lemmas.Iterator.Search.{all_from_yields_List}
 use Rattle.coordinator.specs.System.{tree}
-use Rattle.coordinator.specs.State.{across, all_settled, and_settled}
-use Rattle.coordinator.proofs.Across.{across_turn, across_start}
+use Rattle.coordinator.specs.State.{settled, all_settled}
+use Rattle.coordinator.proofs.Firsts.{settled_all}
 use Rattle.coordinator.proofs.objects.all_settled.Goals as goal
-
-pub loop-i-init : goal.loop-i-init
-loop-i-init c = let x = c.args in (omega arith, sym (across_start (and_settled tree x.count) true x.objects most_open (omega arith)))
-
-pub overflow_sub-i : goal.overflow_sub-i
-overflow_sub-i c = omega arith
-
-pub loop-i-smaller : goal.loop-i-smaller
-loop-i-smaller c = omega arith
-
-pub loop-i-preserved : goal.loop-i-preserved
-loop-i-preserved c = let l = c.loop-i in
-    let x = c.args in
-    (omega arith, rw (across_turn (and_settled tree x.count) true x.objects l.i (omega arith) (search rules)) (cc))
 
 pub returns : goal.returns
 unfolding all_settled
-returns c = let l = c.loop-i in
+returns c =
     let x = c.args in
-    let last : l.i ≡ 0 = omega arith in
-    l.invariant.1 ∙ ap (λ (n : ℕ). across (and_settled tree x.count) true n (drop n x.objects)) last
+    all_from_yields_List (settled tree) _ _ _ c.all.ensures.ran
+    (YieldsList-from_take x.count (YieldsList-from_slice x.objects (cc)) (cc))
+    (λ y b q k. search (rules, tests))
+    ∙ sym (settled_all tree x.count 0 x.count x.objects (omega arith))

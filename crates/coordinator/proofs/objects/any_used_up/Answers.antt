@@ -1,32 +1,16 @@
--- `coordinator::objects::any_used_up`: going down, what was found is `across` of the places passed.
-use Prim.Native.Nat.{ℕ}
-use mathlib.Core.Path.{◌≡◌, sym, ap, ◌∙◌}
-use mathlib.Core.Bool.{false}
-use native.Mathlib.Omega.{arith}
-use borrow.Author.Rules.{rules}
-use lib.ListN.{drop}
-use Rattle.numbers.specs.Sizes.{most_open}
-use Rattle.coordinator.specs.State.{across, any_used_up, or_used_up}
-use Rattle.coordinator.proofs.Across.{across_turn, across_start}
+-- `coordinator::objects::any_used_up`: what the chain answers of the objects below the count.
+use Rattle.std.proofs.Common.{sym, ◌∙◌, rules, tests, arith}
+use Rattle.std.proofs.lemmas.Iterator.{YieldsList-from_slice, YieldsList-from_take}
+use Rattle.std.proofs.lemmas.Iterator.Search.{any_from_yields_List}
+use Rattle.coordinator.specs.State.{any_used_up}
+use Rattle.coordinator.proofs.Firsts.{used_up, used_up_any}
 use Rattle.coordinator.proofs.objects.any_used_up.Goals as goal
-
-pub loop-i-init : goal.loop-i-init
-loop-i-init c = let x = c.args in (omega arith, sym (across_start (or_used_up x.count) false x.objects most_open (omega arith)))
-
-pub overflow_sub-i : goal.overflow_sub-i
-overflow_sub-i c = omega arith
-
-pub loop-i-smaller : goal.loop-i-smaller
-loop-i-smaller c = omega arith
-
-pub loop-i-preserved : goal.loop-i-preserved
-loop-i-preserved c = let l = c.loop-i in
-    let x = c.args in
-    (omega arith, rw (across_turn (or_used_up x.count) false x.objects l.i (omega arith) (search rules)) (cc))
 
 pub returns : goal.returns
 unfolding any_used_up
-returns c = let l = c.loop-i in
+returns c =
     let x = c.args in
-    let last : l.i ≡ 0 = omega arith in
-    l.invariant.1 ∙ ap (λ (n : ℕ). across (or_used_up x.count) false n (drop n x.objects)) last
+    any_from_yields_List used_up _ _ _ c.any.ensures.ran
+    (YieldsList-from_take x.count (YieldsList-from_slice x.objects (cc)) (cc))
+    (λ y b q k. search (rules, tests))
+    ∙ sym (used_up_any x.count 0 x.count x.objects (omega arith))
