@@ -1,6 +1,8 @@
 -- A call on a record as bytes: 1 and 2 of the bytes, else the call by value, written back where its number is 0.
-use Rattle.std.specs.Prelude.{cond, List, ℕ, eqb, length}
+use Rattle.std.specs.Prelude.{cond, List, ℕ, eqb, length, Result, Ok, Err}
 use Rattle.numbers.specs.Numbers.{wrong_length}
+use Rattle.numbers.specs.declared.refusals.Refusal.{Refusal}
+use Rattle.numbers.specs.Outcome.{code_of}
 use Rattle.coordinator.specs.declared.Coordinator.{Coordinator}
 use Rattle.coordinator.specs.Step.{Step}
 use Rattle.coordinator.specs.State.{blank_record}
@@ -11,7 +13,11 @@ use Rattle.record.specs.Record.{record_of, bytes_of, check}
 abbrev pub called : ℕ → ℕ → Called
 called number answer = record { number = number; answer = answer }
 
--- what the caller is told: of a step, and of a call on bytes
+-- what the caller is told: by what a call returned, of a step, and of a call on bytes
+abbrev pub told : Result ℕ Refusal → Called
+told (Ok answer) = called 0 answer
+told (Err r) = called (code_of r) 0
+
 abbrev pub told_by : Step → Called
 told_by s = called s.number s.answer
 

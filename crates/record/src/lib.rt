@@ -4,7 +4,7 @@
 #![tactic(auto)]
 
 ghost use Rattle.std.specs.Prelude.{◌≡◌};
-ghost use Rattle.record.specs.Call.{called};
+ghost use Rattle.record.specs.Call.{told};
 
 pub mod load;
 pub mod look;
@@ -13,12 +13,12 @@ mod tell;
 mod verify;
 
 pub use load::read;
-use numbers::{MOST_OPEN, NODES};
+use numbers::{MOST_OPEN, NODES, Refusal};
 pub use store::{blank, write};
 pub use tell::{count, is_ready, mode, object, outcome, participants, phase, serial, timestamp};
 pub use verify::check;
 
-// What a call answers: its number, and its answer (0 where there is none).
+// What C is told of a call: its number, and its answer (0 where there is none).
 #[repr(C)]
 #[derive(Clone, Copy)]
 pub struct Called {
@@ -26,18 +26,18 @@ pub struct Called {
     pub answer: u64,
 }
 
-// A call that is refused. Ruled out: number 0; an answer beside the number.
-pub fn refused(number: u8) -> Called
-    ensures { result ≡ called number 0 }
-{
-    Called { number, answer: 0 }
-}
+impl From<Result<u64, Refusal>> for Called {
+    ghost from_gives = { λ outcome called. called ≡ told outcome };
 
-// A call that is taken. Ruled out: a number other than 0; the answer left out.
-pub fn taken(answer: u64) -> Called
-    ensures { result ≡ called 0 answer }
-{
-    Called { number: 0, answer }
+    fn from(outcome: Result<u64, Refusal>) -> Called {
+        match outcome {
+            Ok(answer) => Called { number: 0, answer },
+            Err(refusal) => Called {
+                number: u8::from(refusal),
+                answer: 0,
+            },
+        }
+    }
 }
 
 // Sizes in bytes: a distance, an object, a rival's serial.

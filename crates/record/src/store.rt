@@ -1,6 +1,7 @@
 // A record written over bytes, piece by piece.
 ghost use Rattle.std.specs.Prelude.{◌≡◌, cond, ◌<◌, ◌%◌, length, set};
 ghost use Rattle.std.proofs.lemmas.List.Edits.{sets};
+ghost use Rattle.numbers.specs.Outcome.{number_of};
 ghost use Rattle.numbers.specs.Sizes.{nodes, most_open};
 ghost use Rattle.octets.specs.Octets.{le};
 ghost use Rattle.wire.specs.Encode.{together};
@@ -17,7 +18,7 @@ use crate::{
     SIZE, TIMESTAMP, VALUE_IN, VERSION_IN, YES,
 };
 use coordinator::{ABORTED, Coordinator, FINISHING, Object};
-use numbers::{MOST_OPEN, NODES};
+use numbers::{MOST_OPEN, NODES, Refusal};
 
 // 1 for yes, 0 for no.
 fn bit(b: bool) -> u8
@@ -139,16 +140,17 @@ pub fn write(bytes: &mut [u8], c: Coordinator)
     }
 }
 
-// Writes a blank record: 1 for another length. Ruled out: a byte left as it was; a byte written where the length is another.
-pub fn blank(bytes: &mut [u8]) -> u8
-    ensures value { result ≡ blank_number bytes.old }
+// Writes a blank record; refused for another length. Ruled out: a byte left as it was; a byte written where the length is another.
+#[tactic(auto, unfolding(crate::specs::Call::blank_number, crate::specs::Call::blank_after, crate::specs::Record::written))]
+pub fn blank(bytes: &mut [u8]) -> Result<(), Refusal>
+    ensures value { number_of result ≡ blank_number bytes.old }
     ensures bytes_after { bytes.new ≡ blank_after bytes.old }
 {
     if bytes.len() != SIZE {
-        return numbers::LENGTH;
+        return Err(Refusal::Length);
     }
     write(bytes, coordinator::blank());
-    0
+    Ok(())
 }
 
 // Another outcome and phase. Ruled out: the two the other way round; the live nodes behind them altered.

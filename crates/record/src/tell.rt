@@ -9,10 +9,11 @@ use crate::verify::check;
 use coordinator::{Coordinator, Object};
 
 // The record, or a blank one.
+#[tactic(auto, unfolding(crate::specs::Record::shown))]
 fn shown(bytes: &[u8]) -> Coordinator
     ensures { result ≡ shown bytes.now }
 {
-    if check(bytes) == 0 {
+    if check(bytes).is_ok() {
         read(bytes)
     } else {
         coordinator::blank()

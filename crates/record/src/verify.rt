@@ -2,6 +2,7 @@
 ghost use Rattle.std.specs.Prelude.{◌≡◌, cond, ◌≤◌, ◌<◌, length};
 ghost use Rattle.record.specs.Layout.{record_size};
 ghost use Rattle.numbers.specs.Sizes.{most_open};
+ghost use Rattle.numbers.specs.Outcome.{number_of};
 ghost use Rattle.coordinator.specs.System.{tree};
 ghost use Rattle.coordinator.specs.State.{settled};
 ghost use Rattle.clauses.specs.Clauses.{implies, zeros, numbers_meet, no_nodes, nodes_meet, agreed, votes_meet, dones_meet};
@@ -18,7 +19,7 @@ use crate::{
 };
 use coordinator::{ABORTED, COMMITTED, FINISHING, IDLE, OPEN, VOTING};
 use mask::subset;
-use numbers::{EVERY_NODE, HIGHEST, MOST_OPEN, OBJECTS_END, both, either};
+use numbers::{EVERY_NODE, HIGHEST, MOST_OPEN, OBJECTS_END, Refusal, both, either};
 use quorum::Kind;
 
 // One test or another.
@@ -348,13 +349,17 @@ fn is_valid(bytes: &[u8]) -> bool
     objects_meet(bytes)
 }
 
-// The number of a record: 1 another length, 2 a clause is broken, 0 neither.
-// Ruled out: 2 for bytes of another length; 0 for a record in a phase above 3.
-pub fn check(bytes: &[u8]) -> u8
-    ensures { result ≡ check bytes.now }
+// Whether bytes are a record: refused for another length, and where a clause is broken.
+// Ruled out: 'damaged' for bytes of another length; a record in a phase above 3 taken.
+#[tactic(auto, using(crate::proofs::Valid::valid_meets), unfolding(crate::specs::Record::check))]
+pub fn check(bytes: &[u8]) -> Result<(), Refusal>
+    ensures { number_of result ≡ check bytes.now }
 {
     if bytes.len() != SIZE {
-        return numbers::LENGTH;
+        return Err(Refusal::Length);
     }
-    if is_valid(bytes) { 0 } else { numbers::DAMAGED }
+    if !is_valid(bytes) {
+        return Err(Refusal::Damaged);
+    }
+    Ok(())
 }
