@@ -19,12 +19,13 @@ fn text_of(n: u64) -> Text
     let mut bytes = [0u8; 20];
     let mut from: usize = 19;
     let mut rest = n;
+    // Stays a while: it ends where the number does, and not after a count.
     while 10 <= rest {
-        bytes[from] = 48 + (rest % 10) as u8;
-        rest = rest / 10;
-        from = from - 1;
+        bytes[from] = b'0' + (rest % 10) as u8;
+        rest /= 10;
+        from -= 1;
     }
-    bytes[from] = 48 + rest as u8;
+    bytes[from] = b'0' + rest as u8;
     Text { from, bytes }
 }
 
@@ -40,12 +41,9 @@ pub fn append(out: &mut [u8], at: usize, text: &[u8]) -> usize
     if out.len() - at < text.len() {
         return at;
     }
-    let mut i = 0;
-    while i < text.len() {
-        out[at + i] = text[i];
-        i += 1;
-    }
-    at + i
+    let end = at + text.len();
+    out[at..end].copy_from_slice(text);
+    end
 }
 
 // Puts the decimal text of a number into a buffer at a position and answers the position behind it; where it does not
@@ -55,7 +53,5 @@ pub fn put(out: &mut [u8], at: usize, n: u64) -> usize
     ensures buffer { out.new ≡ put_at out.old at (decimal n) }
 {
     let t = text_of(n);
-    let from = t.from;
-    let bytes = t.bytes;
-    append(out, at, &bytes[from..])
+    append(out, at, &t.bytes[t.from..])
 }

@@ -1,8 +1,8 @@
 // What a replica changes in an image beside single fields: all of it made blank, the lists of an object, and what an owner holds or is listed in.
-ghost use Rattle.std.specs.Prelude.{◌≡◌, ◌<◌, length, replicate};
+ghost use Rattle.std.specs.Prelude.{◌≡◌, ◌<◌, length};
 ghost use Rattle.image.specs.Layout.{shape, image_size, holder_field};
-ghost use Rattle.image.specs.Field.{Near, changed};
-ghost use Rattle.image.specs.Blank.{counted, unheld, unwritten, blank, blank_number};
+ghost use Rattle.image.specs.Field.{Near, changed, changed_all};
+ghost use Rattle.image.specs.Blank.{counted, blank, blank_number};
 ghost use Rattle.image.specs.Change.{listing, add_reader, add_writer, freeing, free, unlist};
 ghost use Rattle.image.specs.Pass.{struck};
 
@@ -12,17 +12,6 @@ use crate::write::{set_holder, set_readers, set_writers};
 use crate::{AUTHOR, Field, HOLDER, OBJECT_COUNT, OWNER_COUNT, READERS, SIZE, WRITERS};
 use numbers::{NOBODY, NODES_END, OBJECTS_END};
 
-// Every byte becomes 0.
-fn zero(image: &mut [u8])
-    ensures { image.new ≡ replicate (length image.old) 0 }
-{
-    let mut i = 0;
-    while i < image.len() {
-        image[i] = 0;
-        i = i + 1;
-    }
-}
-
 // The two counts are set.
 fn count(image: &mut [u8])
     ensures { image.new ≡ counted shape image.old }
@@ -31,25 +20,13 @@ fn count(image: &mut [u8])
     put_u8(image, OWNER_COUNT, 0, NODES_END);
 }
 
-// Nobody holds a copy.
-fn unhold(image: &mut [u8])
-    ensures { image.new ≡ unheld shape image.old }
+// Every object has the number v in the field f.
+fn set_all(image: &mut [u8], f: Field, v: u8)
+    requires { Near f × (f.width ≡ 1) }
+    ensures { image.new ≡ changed_all f (λ a. v) shape.objects image.old }
 {
-    let mut t: u8 = 0;
-    while t < OBJECTS_END {
-        set_holder(image, t, NOBODY);
-        t = t + 1;
-    }
-}
-
-// Nobody has written a copy.
-fn unwrite(image: &mut [u8])
-    ensures { image.new ≡ unwritten shape image.old }
-{
-    let mut t: u8 = 0;
-    while t < OBJECTS_END {
-        put_u8(image, AUTHOR, t, NOBODY);
-        t = t + 1;
+    for t in 0..OBJECTS_END {
+        put_u8(image, f, t, v);
     }
 }
 
@@ -62,10 +39,10 @@ pub fn blank(image: &mut [u8]) -> u8
     if image.len() != SIZE {
         return numbers::LENGTH;
     }
-    zero(image);
+    image.fill(0);
     count(image);
-    unhold(image);
-    unwrite(image);
+    set_all(image, HOLDER, NOBODY);
+    set_all(image, AUTHOR, NOBODY);
     0
 }
 
@@ -105,10 +82,8 @@ fn free_one(image: &mut [u8], t: u8, o: u8)
 fn free_any(image: &mut [u8], o: u8)
     ensures { image.new ≡ free image.old o }
 {
-    let mut t: u8 = 0;
-    while t < OBJECTS_END {
+    for t in 0..OBJECTS_END {
         free_one(image, t, o);
-        t = t + 1;
     }
 }
 
@@ -126,10 +101,8 @@ fn free_all(image: &mut [u8], o: u8)
     requires { length image.old ≡ image_size shape }
     ensures { image.new ≡ free image.old o }
 {
-    let mut t: u8 = 0;
-    while t < OBJECTS_END {
+    for t in 0..OBJECTS_END {
         free_here(image, t, o);
-        t = t + 1;
     }
 }
 
@@ -159,10 +132,8 @@ fn strike_any(image: &mut [u8], o: u8)
     ensures { image.new ≡ unlist image.old o }
 {
     let own = mask::single(o);
-    let mut t: u8 = 0;
-    while t < OBJECTS_END {
+    for t in 0..OBJECTS_END {
         strike_one(image, t, own);
-        t = t + 1;
     }
 }
 
@@ -182,10 +153,8 @@ fn strike_all(image: &mut [u8], o: u8)
     ensures { image.new ≡ unlist image.old o }
 {
     let own = mask::single(o);
-    let mut t: u8 = 0;
-    while t < OBJECTS_END {
+    for t in 0..OBJECTS_END {
         strike_here(image, t, own);
-        t = t + 1;
     }
 }
 

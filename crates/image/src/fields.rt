@@ -11,7 +11,7 @@ fn place(len: usize, f: Field, i: u8) -> usize
     ensures { result ≡ place f len i }
 {
     if i < f.items {
-        f.base + f.stride * i as usize + f.offset
+        f.base + f.stride * usize::from(i) + f.offset
     } else {
         len
     }
@@ -91,8 +91,7 @@ pub(crate) fn here_u16(image: &[u8], f: Field, i: u8) -> u16
     ensures { result ≡ field_of f image.now i }
 {
     let at = place(image.len(), f, i);
-    let next = at + 1;
-    image[at] as u16 + 256 * (image[next] as u16)
+    u16::from(image[at]) + 256 * u16::from(image[at + 1])
 }
 
 pub(crate) fn put_here_u8(image: &mut [u8], f: Field, i: u8, v: u8)
@@ -108,7 +107,6 @@ pub(crate) fn put_here_u16(image: &mut [u8], f: Field, i: u8, v: u16)
     ensures { image.new ≡ with_field f image.old i v }
 {
     let at = place(image.len(), f, i);
-    let next = at + 1;
     image[at] = (v % 256) as u8;
-    image[next] = (v / 256 % 256) as u8;
+    image[at + 1] = (v / 256 % 256) as u8;
 }

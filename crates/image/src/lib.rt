@@ -91,77 +91,76 @@ const OBJECT_COUNT: Field = Field {
     width: COUNT_SIZE,
 };
 
-const VALUE: Field = Field {
+// A field of every copy, and one of every owner; each field says which bytes it has.
+const OF_COPY: Field = Field {
     items: OBJECTS_END,
     base: COPIES_PLACE,
     stride: COPY_SIZE,
     offset: 0,
+    width: 0,
+};
+
+const OF_OWNER: Field = Field {
+    items: NODES_END,
+    base: OWNERS_PLACE,
+    stride: OWNER_SIZE,
+    offset: 0,
+    width: 0,
+};
+
+const VALUE: Field = Field {
+    offset: 0,
     width: 8,
+    ..OF_COPY
 };
 
 const VERSION: Field = Field {
-    items: OBJECTS_END,
-    base: COPIES_PLACE,
-    stride: COPY_SIZE,
     offset: 8,
     width: 4,
+    ..OF_COPY
 };
 
 const HOLDER: Field = Field {
-    items: OBJECTS_END,
-    base: COPIES_PLACE,
-    stride: COPY_SIZE,
     offset: 12,
     width: 1,
+    ..OF_COPY
 };
 
 const READERS: Field = Field {
-    items: OBJECTS_END,
-    base: COPIES_PLACE,
-    stride: COPY_SIZE,
     offset: 13,
     width: 2,
+    ..OF_COPY
 };
 
 const WRITERS: Field = Field {
-    items: OBJECTS_END,
-    base: COPIES_PLACE,
-    stride: COPY_SIZE,
     offset: 15,
     width: 2,
+    ..OF_COPY
 };
 
 const AUTHOR: Field = Field {
-    items: OBJECTS_END,
-    base: COPIES_PLACE,
-    stride: COPY_SIZE,
     offset: 17,
     width: 1,
+    ..OF_COPY
 };
 
 const AUTHOR_SERIAL: Field = Field {
-    items: OBJECTS_END,
-    base: COPIES_PLACE,
-    stride: COPY_SIZE,
     offset: 18,
     width: 4,
+    ..OF_COPY
 };
 
 // The two halves of an author's serial.
 const AUTHOR_LOW: Field = Field {
-    items: OBJECTS_END,
-    base: COPIES_PLACE,
-    stride: COPY_SIZE,
     offset: 18,
     width: 2,
+    ..OF_COPY
 };
 
 const AUTHOR_HIGH: Field = Field {
-    items: OBJECTS_END,
-    base: COPIES_PLACE,
-    stride: COPY_SIZE,
     offset: 20,
     width: 2,
+    ..OF_COPY
 };
 
 const OWNER_COUNT: Field = Field {
@@ -173,25 +172,19 @@ const OWNER_COUNT: Field = Field {
 };
 
 const SERIAL: Field = Field {
-    items: NODES_END,
-    base: OWNERS_PLACE,
-    stride: OWNER_SIZE,
     offset: 0,
     width: 4,
+    ..OF_OWNER
 };
 
 const STATE: Field = Field {
-    items: NODES_END,
-    base: OWNERS_PLACE,
-    stride: OWNER_SIZE,
     offset: 4,
     width: 1,
+    ..OF_OWNER
 };
 
 const STAMP: Field = Field {
-    items: NODES_END,
-    base: OWNERS_PLACE,
-    stride: OWNER_SIZE,
     offset: 5,
     width: 4,
+    ..OF_OWNER
 };

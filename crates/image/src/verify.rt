@@ -51,13 +51,11 @@ fn walk(image: &[u8]) -> Walk
     let mut ok = true;
     let mut listed: u16 = 0;
     let mut held: u16 = 0;
-    let mut o: u8 = 0;
-    while o < NODES_END {
+    for o in 0..NODES_END {
         let w = owner_of(image, o);
         ok = both(ok, owner_ok(w));
         listed = mark(listed, o, w.state == LISTED);
         held = mark(held, o, w.state == HELD);
-        o = o + 1;
     }
     Walk { ok, listed, held }
 }
@@ -66,11 +64,7 @@ fn walk(image: &[u8]) -> Walk
 fn holder_ok(held: u16, h: u8) -> bool
     ensures { result ≡ holder_fits held h }
 {
-    if h == NOBODY {
-        true
-    } else {
-        mask::has(held, h)
-    }
+    h == NOBODY || mask::has(held, h)
 }
 
 // Every holder is in one mask, and every list is within the other: the lists are joined, and looked at once.
@@ -79,15 +73,13 @@ fn copies_ok(image: &[u8], listed: u16, held: u16) -> bool
     ensures { result ≡ each shape.objects (copy_fits listed held image.now) }
 {
     let mut lists: u16 = 0;
-    let mut t: u8 = 0;
-    while t < OBJECTS_END {
+    for t in 0..OBJECTS_END {
         if !holder_ok(held, here_u8(image, HOLDER, t)) {
             return false;
         }
         let r = here_u16(image, READERS, t);
         let w = here_u16(image, WRITERS, t);
         lists = mask::join(lists, mask::join(r, w));
-        t = t + 1;
     }
     mask::subset(lists, listed)
 }
@@ -107,15 +99,13 @@ fn authors_ok(image: &[u8]) -> bool
     requires { length image.now ≡ image_size shape }
     ensures { result ≡ authors_ok shape image.now }
 {
-    let mut t: u8 = 0;
-    while t < OBJECTS_END {
+    for t in 0..OBJECTS_END {
         let low = here_u16(image, AUTHOR_LOW, t);
         let high = here_u16(image, AUTHOR_HIGH, t);
         let none = both(low == 0, high == 0);
         if !author_ok(here_u8(image, AUTHOR, t), none) {
             return false;
         }
-        t = t + 1;
     }
     true
 }

@@ -1,33 +1,28 @@
 -- One turn, and the end, of the loop that lays a list: four bytes are put for every number, and as many count as its place has.
-use Prim.Native.Nat.{ℕ, zero, suc, ◌+◌, ◌/◌, ◌%◌, ◌≤◌, ◌<◌}
+use Prim.Native.Nat.{ℕ, zero, suc, ◌+◌, ◌/◌, ◌%◌, ◌≤◌, ◌<◌, min}
 use native.Mathlib.Numerals.{add-one}
 use native.Mathlib.Omega.{arith}
 use mathlib.Core.Path.{◌≡◌, refl, sym, ap, ◌∙◌}
 use mathlib.Core.Bool.{Bool, true, false, ◌&&◌}
-use mathlib.Core.List.{List, [], ◌∷◌, ◌++◌, append_assoc, append-nil}
-use borrow.Author.Tests.{lt-ltb, le-ltb}
+use mathlib.Core.List.{List, ◌∷◌, ◌++◌, append_assoc, append-nil}
+use borrow.Author.Tests.{lt-ltb, le-ltb, lt-leb, le-leb}
 use lib.Dec.{ltb}
 use lib.ListN.{length, get_or, take, drop, length-append}
 use lib.Seq.{drop-cons, drop-length, length-take-le, take-append-le, take-append-add, take_all, sets-eq}
 use Rattle.octets.specs.Octets.{le, put}
 use Rattle.octets.proofs.Laws.{put_le, length_le}
 use Rattle.lists.specs.declared.Shape.{Shape}
-use Rattle.lists.specs.Lists.{width, limit, first, fit_from, laid_from}
+use Rattle.lists.specs.Lists.{width, limit, first, fit_from, laid_from, fits}
 
--- ---- the first number of a list is that of its front
-pub first_fits : (s : Shape) (l : List ℕ) (k : ℕ) → fit_from s (first l) 0 (take k l) ≡ fit_from s (first (take k l)) 0 (take k l)
-unfolding fit_from
-first_fits s [] zero = refl
-first_fits s [] (suc k) = refl
-first_fits s (v ∷ l) zero = refl
-first_fits s (v ∷ l) (suc k) = refl
+-- ---- too many numbers do not fit; of fewer, each has to fit its place
+pub fits_over : (s : Shape) (room : ℕ) (numbers : List ℕ) → min 4098 (room / 4) ≤ length numbers → fits s room numbers ≡ false
+unfolding fits
+fits_over s room numbers h = simp (lt-leb (length numbers + 1) (min 4098 (room / 4)) (omega arith))
 
-pub first_laid : (s : Shape) (l : List ℕ) (k : ℕ) → laid_from s (first l) 0 (take k l) ≡ laid_from s (first (take k l)) 0 (take k l)
-unfolding laid_from
-first_laid s [] zero = refl
-first_laid s [] (suc k) = refl
-first_laid s (v ∷ l) zero = refl
-first_laid s (v ∷ l) (suc k) = refl
+pub fits_few : (s : Shape) (room : ℕ) (numbers : List ℕ) → length numbers < min 4098 (room / 4)
+    → fits s room numbers ≡ fit_from s (first numbers) 0 numbers
+unfolding fits
+fits_few s room numbers h = simp (le-leb (length numbers + 1) (min 4098 (room / 4)) (omega arith))
 
 -- ---- four bytes put, of which the front counts
 take_le : (w k v : ℕ) → w ≤ k → take w (le k v) ≡ le w v

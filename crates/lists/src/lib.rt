@@ -26,17 +26,10 @@ pub struct Laid {
     pub long: usize,
 }
 
-// The lower of two.
-fn least(a: usize, b: usize) -> usize
-    ensures { result ≡ min a b }
-{
-    if a < b { a } else { b }
-}
-
 fn has_room(long: usize, listed: usize, count: usize) -> bool
     ensures { result ≡ leb (count + listed) (min 4097 long) }
 {
-    let room = least(MOST, long);
+    let room = MOST.min(long);
     if room < listed {
         return false;
     }
@@ -52,13 +45,8 @@ pub fn append(list: &mut [u64], listed: usize, numbers: [u64; MOST_AT_ONCE], cou
     if !has_room(list.len(), listed, count) {
         return false;
     }
-    let n = least(count, MOST_AT_ONCE);
-    let mut i: usize = 0;
-    while i < n {
-        let at = listed + i;
-        list[at] = numbers[i];
-        i += 1;
-    }
+    let n = count.min(MOST_AT_ONCE);
+    list[listed..listed + n].copy_from_slice(&numbers[..n]);
     true
 }
 
@@ -118,7 +106,7 @@ fn limit(k: usize) -> u64
 fn first(list: &[u64]) -> usize
     ensures { (result ≡ first list.now) × (result < 256) }
 {
-    if list.len() == 0 {
+    if list.is_empty() {
         return 0;
     }
     (list[0] % 256) as usize
@@ -152,22 +140,19 @@ pub fn lay(list: &[u64], listed: usize, shape: Shape, out: &mut [u8]) -> Laid
         fits: false,
         long: 0,
     };
-    let count = least(listed, list.len());
-    if least(MOST + 1, out.len() / 4) <= count {
+    let numbers = &list[..listed.min(list.len())];
+    if (MOST + 1).min(out.len() / 4) <= numbers.len() {
         return none;
     }
-    let n = first(list);
-    let mut at: usize = lead(shape, count, out);
-    let mut i: usize = 0;
-    while i < count {
-        let v = list[i];
+    let n = first(numbers);
+    let mut at = lead(shape, numbers.len(), out);
+    for (i, v) in numbers.iter().enumerate() {
         let w = width(shape, n, i);
-        if limit(w) <= v {
+        if limit(w) <= *v {
             return none;
         }
-        octets::put_u32(out, at, v as u32);
+        octets::put_u32(out, at, *v as u32);
         at += w;
-        i += 1;
     }
     Laid {
         fits: true,

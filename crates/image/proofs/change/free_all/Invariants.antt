@@ -1,15 +1,9 @@
 -- `image::change::free_all`: the holders of the objects passed are freed.
-use Prim.Native.Nat.{◌-◌, ◌≤◌}
 use mathlib.Core.Path.{◌≡◌}
-use lib.ListN.{length}
 use Rattle.image.specs.Field.{changed_all}
 use Rattle.image.specs.Layout.{shape, holder_field}
 use Rattle.image.specs.Change.{freeing}
 use Rattle.image.proofs.change.free_all.Given as goal
 
 abbrev pub invariant-loop-t : goal.invariant-loop-t
-invariant-loop-t l = (l.t ≤ shape.objects) × (length l.image ≡ length l.initial.image)
-    × (l.image ≡ changed_all (holder_field shape) (freeing l.o) l.t l.initial.image)
-
-abbrev pub decreases-loop-t : goal.decreases-loop-t
-decreases-loop-t l = shape.objects - l.t
+invariant-loop-t l = l.image ≡ changed_all (holder_field shape) (freeing l.o) l.t l.initial.image

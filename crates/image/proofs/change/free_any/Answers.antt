@@ -1,6 +1,6 @@
 -- `image::change::free_any`: the holders of the objects passed are freed.
 use native.Mathlib.Omega.{arith}
-use mathlib.Core.Path.{◌≡◌, refl, sym, ◌∙◌}
+use mathlib.Core.Path.{◌≡◌, refl, sym}
 use Rattle.image.specs.Field.{changed_all}
 use Rattle.image.specs.Layout.{shape, holder_field}
 use Rattle.image.specs.Change.{freeing, free}
@@ -9,22 +9,15 @@ use Rattle.image.proofs.change.free_any.Goals as goal
 
 pub loop-t-init : goal.loop-t-init
 unfolding changed_all
-loop-t-init c = (omega arith, refl, refl)
+loop-t-init c = refl
 
 pub loop-t-preserved : goal.loop-t-preserved
 loop-t-preserved c = let l = c.loop-t in
     let k = c.free_one in
-    let x = c.args in (
-      omega arith,
-      k.auto.image ∙ l.invariant.1,
-      rw (k.ensures, l.invariant.2) (sym (all_more (holder_field shape) (freeing x.o) l.t x.image.now)),
-    )
-
-pub shape_of-image : goal.shape_of-image
-shape_of-image c = c.loop-t.invariant.1
+    let x = c.args in rw (k.ensures, l.invariant) (sym (all_more (holder_field shape) (freeing x.o) l.t x.image.now))
 
 pub returns : goal.returns
 unfolding free
 returns c = let l = c.loop-t in
     let e : l.t ≡ shape.objects = omega arith in
-    rw e at l.invariant.2
+    rw e at l.invariant

@@ -1,6 +1,6 @@
 -- `image::change::strike_all`: the owner has left the lists of the objects passed.
 use native.Mathlib.Omega.{arith}
-use mathlib.Core.Path.{◌≡◌, refl, ◌∙◌}
+use mathlib.Core.Path.{◌≡◌, refl}
 use Rattle.image.specs.Field.{changed_all}
 use Rattle.image.specs.Layout.{shape}
 use Rattle.image.specs.Change.{leave, unlist}
@@ -9,23 +9,17 @@ use Rattle.image.proofs.change.strike_all.Goals as goal
 
 pub loop-t-init : goal.loop-t-init
 unfolding changed_all
-loop-t-init c = (omega arith, refl, refl)
-
-pub strike_here-requires : goal.strike_here-requires
-strike_here-requires c = let l = c.loop-t in (omega arith, l.invariant.1 ∙ c.requires)
+loop-t-init c = refl
 
 pub loop-t-preserved : goal.loop-t-preserved
 loop-t-preserved c = let l = c.loop-t in
     let k = c.strike_here in
     let x = c.args in
     let own = c.single-own.ensures in
-    (omega arith, k.auto.image ∙ l.invariant.1, rw (k.ensures, own, l.invariant.2) (struck_next x.image.now x.o l.t))
-
-pub shape_of-image : goal.shape_of-image
-shape_of-image c = c.loop-t.invariant.1
+    rw (k.ensures, own, l.invariant) (struck_next x.image.now x.o l.t)
 
 pub returns : goal.returns
 unfolding unlist leave
 returns c = let l = c.loop-t in
     let e : l.t ≡ shape.objects = omega arith in
-    rw e at l.invariant.2
+    rw e at l.invariant

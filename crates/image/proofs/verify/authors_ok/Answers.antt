@@ -1,17 +1,17 @@
 -- `image::verify::authors_ok`: the authors passed are in order.
 use native.Mathlib.Omega.{arith}
 use mathlib.Core.Path.{◌≡◌, refl, sym, ◌∙◌}
-use mathlib.Core.Bool.{true, false}
+use mathlib.Core.Bool.{true}
 use Rattle.image.specs.Layout.{shape}
-use Rattle.image.specs.Valid.{each, author_ok}
-use Rattle.image.proofs.Each.{each_more, each_fails, unless, indeed}
+use Rattle.image.specs.Valid.{each}
+use Rattle.image.proofs.Each.{each_more, each_fails}
 use Rattle.image.proofs.Authors.{author_by}
 use Rattle.image.proofs.verify.authors_ok.Invariants.{fine}
 use Rattle.image.proofs.verify.authors_ok.Goals as goal
 
 pub loop-t-init : goal.loop-t-init
 unfolding each
-loop-t-init c = (omega arith, refl)
+loop-t-init c = refl
 
 pub returns-then-not-author_ok : goal.returns-then-not-author_ok
 returns-then-not-author_ok c = let l = c.loop-t in
@@ -36,9 +36,9 @@ loop-t-preserved c = let l = c.loop-t in
       c.here_u16-low.ensures,
     ) (author_by image l.t (omega arith)) in
     let e : fine image l.t ≡ true = sym said ∙ c.if-not-author_ok.false in
-    (omega arith, each_more (fine image) l.t ∙ rw (l.invariant.1, e))
+    each_more (fine image) l.t ∙ rw (l.invariant, e)
 
 pub returns : goal.returns
 returns c = let l = c.loop-t in
     let e : l.t ≡ shape.objects = omega arith in
-    sym (rw e at l.invariant.1)
+    sym (rw e at l.invariant)

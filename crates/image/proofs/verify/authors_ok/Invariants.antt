@@ -1,9 +1,9 @@
 -- `image::verify::authors_ok`: the authors passed are in order.
-use Prim.Native.Nat.{ℕ, ◌-◌, ◌≤◌}
+use Prim.Native.Nat.{ℕ}
 use mathlib.Core.Path.{◌≡◌}
 use mathlib.Core.Bool.{Bool, true}
 use mathlib.Core.List.{List}
-use Rattle.image.specs.Layout.{shape, author, author_serial}
+use Rattle.image.specs.Layout.{author, author_serial}
 use Rattle.image.specs.Valid.{each, author_ok}
 use Rattle.image.proofs.verify.authors_ok.Given as goal
 
@@ -11,7 +11,4 @@ abbrev pub fine : List ℕ → ℕ → Bool
 fine l t = author_ok (author l t) (author_serial l t)
 
 abbrev pub invariant-loop-t : goal.invariant-loop-t
-invariant-loop-t l = (l.t ≤ shape.objects) × (each l.t (fine l.image) ≡ true)
-
-abbrev pub decreases-loop-t : goal.decreases-loop-t
-decreases-loop-t l = shape.objects - l.t
+invariant-loop-t l = each l.t (fine l.image) ≡ true

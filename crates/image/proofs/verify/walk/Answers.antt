@@ -14,20 +14,19 @@ use Rattle.image.proofs.verify.walk.Goals as goal
 pub loop-o-init : goal.loop-o-init
 unfolding each
 loop-o-init c = let l = c.args.image.now in
-    (omega arith, refl, marks_none (λ (k : ℕ). eqb (state l k) 1), marks_none (λ (k : ℕ). eqb (state l k) 2))
+    (refl, marks_none (λ (k : ℕ). eqb (state l k) 1), marks_none (λ (k : ℕ). eqb (state l k) 2))
 
 pub loop-o-preserved : goal.loop-o-preserved
 unfolding owner_of
 loop-o-preserved c = let l = c.loop-o in
     let i = c.args.image.now in
     let w = c.owner_of-w.ensures in (
-      omega arith,
-      rw (c.both-ok.ensures, c.owner_ok.ensures, w, l.invariant.1) (sym (each_more (owner_fits i) l.o)),
-      rw (c.mark-listed.ensures, w) (marks_next (λ (k : ℕ). eqb (state i k) 1) l.listed l.o (omega arith) l.invariant.2),
-      rw (c.mark-held.ensures, w) (marks_next (λ (k : ℕ). eqb (state i k) 2) l.held l.o (omega arith) l.invariant.3),
+      rw (c.both-ok.ensures, c.owner_ok.ensures, w, l.invariant.0) (sym (each_more (owner_fits i) l.o)),
+      rw (c.mark-listed.ensures, w) (marks_next (λ (k : ℕ). eqb (state i k) 1) l.listed l.o (omega arith) l.invariant.1),
+      rw (c.mark-held.ensures, w) (marks_next (λ (k : ℕ). eqb (state i k) 2) l.held l.o (omega arith) l.invariant.2),
     )
 
 pub returns : goal.returns
 returns c = let l = c.loop-o in
     let e : l.o ≡ nodes = omega arith in
-    record { each_fits = rw e at l.invariant.1; in_listed = rw e at l.invariant.2; in_held = rw e at l.invariant.3 }
+    record { each_fits = rw e at l.invariant.0; in_listed = rw e at l.invariant.1; in_held = rw e at l.invariant.2 }

@@ -1,8 +1,7 @@
 -- `image::verify::walk`: what was tested so far is `each` of the owners passed, and the masks mark those of them in states 1 and 2.
-use Prim.Native.Nat.{ℕ, ◌-◌, ◌≤◌}
+use Prim.Native.Nat.{ℕ}
 use mathlib.Core.Path.{◌≡◌}
 use lib.Dec.{eqb}
-use Rattle.numbers.specs.Sizes.{nodes}
 use Rattle.image.specs.Layout.{state}
 use Rattle.image.specs.Valid.{each}
 use Rattle.image.specs.Pass.{owner_fits}
@@ -10,8 +9,5 @@ use Rattle.image.proofs.Marks.{Marks}
 use Rattle.image.proofs.verify.walk.Given as goal
 
 abbrev pub invariant-loop-o : goal.invariant-loop-o
-invariant-loop-o l = (l.o ≤ nodes) × (l.ok ≡ each l.o (owner_fits l.image)) × Marks l.listed l.o (λ (k : ℕ). eqb (state l.image k) 1)
+invariant-loop-o l = (l.ok ≡ each l.o (owner_fits l.image)) × Marks l.listed l.o (λ (k : ℕ). eqb (state l.image k) 1)
     × Marks l.held l.o (λ (k : ℕ). eqb (state l.image k) 2)
-
-abbrev pub decreases-loop-o : goal.decreases-loop-o
-decreases-loop-o l = nodes - l.o
