@@ -1,4 +1,4 @@
--- The loops over items keep a test of all that was met beside the definition of what is left. A row of places is filled one by one.
+-- A test of each place where an item stands is that of the items. A row of places is filled one by one.
 use mathlib.Core.Path.{◌≡◌, refl, sym, ap, ap₂, ◌∙◌}
 use mathlib.Core.Bool.{Bool, true, false, cond, ◌&&◌, ◌||◌}
 use mathlib.Core.List.{List, [], ◌∷◌, ◌++◌}
@@ -6,32 +6,74 @@ use Prim.Native.Nat.{ℕ, zero, suc, ◌+◌, ◌-◌, ◌*◌, ◌≤◌, ◌<�
 use native.Mathlib.Nat.{mul-suc}
 use native.Mathlib.Omega.{arith}
 use borrow.Author.Count.{below_more}
-use borrow.Author.Tests.{lt-leb, eqb-true, eqb-false}
-use lib.Dec.{eqb, leb}
+use borrow.Author.Tests.{lt-leb, lt-ltb, le-ltb, ltb-true, eqb-true, eqb-false}
+use lib.Dec.{eqb, ltb, leb}
 use lib.ListN.{length, get_or, set, take, drop, replicate, drop_of_length-le, get_or-eq_default}
 use lib.Seq.{ext_get_or, get_or-set_same, get_or-set_other, paste, take_all, drop-cons}
 use Rattle.octets.specs.Octets.{get}
+use Rattle.std.specs.List.{list_all, list_any, range_with_len}
+use Rattle.wire.specs.Formed.{every}
 use Rattle.wire.specs.Decode.{items_from}
 use Rattle.wire.proofs.Accepted.{length_items}
-use Rattle.classes.specs.Classes.{bound_count, bounds, class_of}
+use Rattle.classes.specs.Classes.{too_heavy, bound_count, tally_at, bounds, rising, has, repeated, class_of}
 use Rattle.classes.specs.Weights.{count_up, weighed}
 
--- ---- one turn, and the end, of a loop that asks whether every item fits, or some item does
-pub both_turn : (ok fits rest next whole : Bool) → next ≡ (ok && fits) → (ok && (fits && rest)) ≡ whole → (next && rest) ≡ whole
-both_turn true fits rest next whole e w = ap (λ (b : Bool). b && rest) e ∙ w
-both_turn false fits rest next whole e w = ap (λ (b : Bool). b && rest) e ∙ w
+-- ---- a test of every item, or of some item, asked of each place where an item stands; g is the place of each
+module _ (at : List ℕ → ℕ → ℕ) (size : ℕ) (l : List ℕ) (g : ℕ → ℕ) (step : (j : ℕ) → g (j + 1) ≡ g j + size) where
+  module _ (f : ℕ → Bool) where
+    all_from : (n j : ℕ) → list_all (λ k. f (at l (g k))) (range_with_len j n) ≡ every f (items_from at size n l (g j))
+    unfolding items_from
+    all_from zero j = refl
+    all_from (suc n) j =
+        ap (λ (b : Bool). f (at l (g j)) && b) (all_from n (j + 1) ∙ ap (λ (p : ℕ). every f (items_from at size n l p)) (step j))
 
-pub both_end : (ok rest whole : Bool) → rest ≡ true → (ok && rest) ≡ whole → ok ≡ whole
-both_end true rest whole e w = sym e ∙ w
-both_end false rest whole e w = w
+    pub all_items : (n m i : ℕ) → n ≡ m → g 0 ≡ i → list_all (λ k. f (at l (g k))) (range_with_len 0 n) ≡ every f (items_from at size m l i)
+    all_items n m i e p = all_from n 0 ∙ ap₂ (λ (c q : ℕ). every f (items_from at size c l q)) e p
 
-pub either_turn : (found fits rest next whole : Bool) → next ≡ (found || fits) → (found || (fits || rest)) ≡ whole → (next || rest) ≡ whole
-either_turn true fits rest next whole e w = ap (λ (b : Bool). b || rest) e ∙ w
-either_turn false fits rest next whole e w = ap (λ (b : Bool). b || rest) e ∙ w
+  has_from : (t n j : ℕ) → list_any (λ k. eqb (at l (g k)) t) (range_with_len j n) ≡ has t (items_from at size n l (g j))
+  unfolding items_from has
+  has_from t zero j = refl
+  has_from t (suc n) j =
+      ap (λ (b : Bool). eqb (at l (g j)) t || b) (has_from t n (j + 1) ∙ ap (λ (p : ℕ). has t (items_from at size n l p)) (step j))
 
-pub either_end : (found rest whole : Bool) → rest ≡ false → (found || rest) ≡ whole → found ≡ whole
-either_end true rest whole e w = w
-either_end false rest whole e w = sym e ∙ w
+  pub has_items : (t n i : ℕ) → g 0 ≡ i → list_any (λ k. eqb (at l (g k)) t) (range_with_len 0 n) ≡ has t (items_from at size n l i)
+  has_items t n i p = has_from t n 0 ∙ ap (λ (q : ℕ). has t (items_from at size n l q)) p
+
+-- whether a tally of n stands again behind its place
+module _ (l : List ℕ) (i n : ℕ) where
+  again_from : (m j : ℕ) → j + m ≡ n
+      → list_any (λ k. has (tally_at l (i + k)) (items_from tally_at 1 (n - k - 1) l (i + k + 1))) (range_with_len j m)
+      ≡ repeated (items_from tally_at 1 m l (i + j))
+  unfolding items_from repeated
+  again_from zero j e = refl
+  again_from (suc m) j e =
+      ap₂ (λ (c : ℕ) (b : Bool). has (tally_at l (i + j)) (items_from tally_at 1 c l (i + j + 1)) || b) (omega arith)
+      (again_from m (j + 1) (omega arith) ∙ ap (λ (q : ℕ). repeated (items_from tally_at 1 m l q)) (let z : i + (j + 1) ≡ i + j + 1 = omega arith in z))
+
+  pub again_items : (m p : ℕ) → n ≡ m → i ≡ p
+      → list_any (λ k. has (tally_at l (i + k)) (items_from tally_at 1 (n - k - 1) l (i + k + 1))) (range_with_len 0 n)
+      ≡ repeated (items_from tally_at 1 m l p)
+  again_items m p e q = again_from n 0 (omega arith) ∙ ap₂ (λ (c r : ℕ). repeated (items_from tally_at 1 c l r)) e (let z : i + 0 ≡ p = omega arith in z)
+
+-- one turn of the loop over the bounds
+module _ (low b : ℕ) (xs rest : List ℕ) (whole : Bool) (e : xs ≡ b ∷ rest) where
+  rise_by : (fits : Bool) → (ltb low b && ltb b too_heavy) ≡ fits → rising low xs ≡ whole → (fits && rising b rest) ≡ whole
+  unfolding rising
+  rise_by fits is w = ap (λ (x : Bool). x && rising b rest) (sym is) ∙ ap (rising low) (sym e) ∙ w
+
+  pub rise_again : low < b → b < too_heavy → rising low xs ≡ whole → rising b rest ≡ whole
+  rise_again h k w = rise_by true (ap₂ ◌&&◌ (lt-ltb low b h) (lt-ltb b too_heavy k)) w
+
+  pub rise_stop : (b < too_heavy → b ≤ low) → rising low xs ≡ whole → false ≡ whole
+  rise_stop h w = by (ltb b too_heavy) refl
+    where
+      by : (t : Bool) → ltb b too_heavy ≡ t → false ≡ whole
+      by true k = rise_by false (ap₂ ◌&&◌ (le-ltb low b (h (ltb-true b too_heavy k))) k) w
+      by false k = rise_by false (ap (λ (x : Bool). ltb low b && x) k ∙ none (ltb low b)) w
+        where
+          none : (x : Bool) → (x && false) ≡ false
+          none true = refl
+          none false = refl
 
 -- ---- the items one by one
 module _ (at : List ℕ → ℕ → ℕ) (size : ℕ) (l : List ℕ) where
@@ -142,9 +184,8 @@ module _ (bs s : List ℕ) (c w : ℕ) where
       let r : cond (eqb c i) w 0 ≡ cond (eqb (class_of bs w) i) w 0 = ap (λ (m : ℕ). cond (eqb m i) w 0) is in
       omega (arith, p, q, r, all)
 
-  pub sum_room : (i n most : ℕ) → i < length s → w ≤ 65535 → 0 < n → get_or s i 0 + 65535 * n ≤ most
-      → get_or (set s c (get_or s c 0 + w)) i 0 + 65535 * (n - 1) ≤ most
-  sum_room i n most h small some room = let p = poured i h in let q = at_most (eqb c i) in omega (arith, p, q, small, some, room)
+  pub sum_room : (i n : ℕ) → i < length s → w ≤ 65535 → get_or s i 0 ≤ 65535 * n → get_or (set s c (get_or s c 0 + w)) i 0 ≤ 65535 * (n + 1)
+  sum_room i n h small room = let p = poured i h in let q = at_most (eqb c i) in omega (arith, p, q, small, room)
     where
       at_most : (b : Bool) → cond b w 0 ≤ w
       at_most true = omega arith

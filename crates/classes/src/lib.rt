@@ -8,7 +8,7 @@ ghost use Rattle.classes.specs.Classes.{most_bounds, most_classes, too_heavy, bo
 ghost use Rattle.classes.specs.Classes.{strange, rising, unbounded, has, twice, length_number, table_number, no_table, sound, class_of};
 ghost use Rattle.classes.specs.Weights.{weight_count, weights, batch_length, overweight, weighed, count_up, tallies_of, grams_of, left_of};
 
-use numbers::{both, either, pick, refuse};
+use numbers::{pick, refuse};
 
 // The bytes in which a node keeps its table.
 pub const KEPT: usize = 24;
@@ -26,18 +26,11 @@ const MOST_WEIGHTS: usize = 4096;
 // Stands where a bound could stand and there is none: no number of two bytes reaches it.
 const NO_BOUND: u32 = 65536;
 
-// A byte as a count.
-fn wide(x: u8) -> usize
-    ensures { (result ≡ x) × (result < 256) }
-{
-    x as usize
-}
-
 // How many bounds there are, and where the count of the tallies stands.
 fn bound_count(list: &[u8]) -> usize
     ensures { (result ≡ bound_count list.now) × (result < 256) }
 {
-    wide(octets::get_u8(list, 0))
+    usize::from(octets::get_u8(list, 0))
 }
 
 fn objects_place(list: &[u8]) -> usize
@@ -50,7 +43,7 @@ fn objects_place(list: &[u8]) -> usize
 pub fn count(kept: &[u8]) -> usize
     ensures { (result ≡ tally_count kept.now) × (result < 256) }
 {
-    wide(octets::get_u8(kept, objects_place(kept)))
+    usize::from(octets::get_u8(kept, objects_place(kept)))
 }
 
 // The number of a table's length as it is lent: 1 another than the counts say. Ruled out: 0 for a byte behind the lists; 1 for a table without bounds.
@@ -65,33 +58,23 @@ pub fn length_number(list: &[u8]) -> u8
 fn is_strange(list: &[u8]) -> bool
     ensures { result ≡ strange list.now }
 {
-    let mut known = true;
-    let mut left = count(list);
-    let mut at = objects_place(list) + 1;
-    while 0 < left {
-        known = both(known, octets::get_u8(list, at) < numbers::OBJECTS_END);
-        at += 1;
-        left -= 1;
-    }
-    !known
+    let first = objects_place(list) + 1;
+    !(0..count(list)).all(|i| octets::get_u8(list, first + i) < numbers::OBJECTS_END)
 }
 
 // Whether the bounds rise strictly and stay in their range.
 fn rises(list: &[u8]) -> bool
     ensures { result ≡ rising 0 (bounds list.now) }
 {
-    let mut fine = true;
-    let mut low: u16 = 0;
-    let mut left = bound_count(list);
-    let mut at: usize = 1;
-    while 0 < left {
-        let bound = octets::get_u16(list, at);
-        fine = both(fine, both(low < bound, bound < TOO_HEAVY));
+    let mut low = 0;
+    for i in 0..bound_count(list) {
+        let bound = octets::get_u16(list, 1 + 2 * i);
+        if bound <= low || TOO_HEAVY <= bound {
+            return false;
+        }
         low = bound;
-        at += 2;
-        left -= 1;
     }
-    fine
+    true
 }
 
 // Whether the bounds are too many, not one fewer than the tallies, or do not rise.
@@ -102,7 +85,7 @@ fn is_unbounded(list: &[u8]) -> bool
     if MOST_BOUNDS < n {
         return true;
     }
-    either(count(list) != n + 1, !rises(list))
+    count(list) != n + 1 || !rises(list)
 }
 
 // Whether a tally is among the n from a place on.
@@ -110,31 +93,19 @@ fn has(list: &[u8], tally: u8, from: usize, n: usize) -> bool
     requires { from + n < 1024 }
     ensures { result ≡ has tally (items_from tally_at 1 n list.now from) }
 {
-    let mut found = false;
-    let mut left = n;
-    let mut at = from;
-    while 0 < left {
-        found = either(found, octets::get_u8(list, at) == tally);
-        at += 1;
-        left -= 1;
-    }
-    found
+    (0..n).any(|i| octets::get_u8(list, from + i) == tally)
 }
 
 // Whether a tally stands twice.
 fn is_twice(list: &[u8]) -> bool
     ensures { result ≡ twice list.now }
 {
-    let mut found = false;
-    let mut left = count(list);
-    let mut at = objects_place(list) + 1;
-    while 0 < left {
-        let tally = octets::get_u8(list, at);
-        at += 1;
-        left -= 1;
-        found = either(found, has(list, tally, at, left));
-    }
-    found
+    let first = objects_place(list) + 1;
+    let n = count(list);
+    (0..n).any(|i| {
+        let behind = first + i + 1;
+        has(list, octets::get_u8(list, first + i), behind, n - i - 1)
+    })
 }
 
 // The number of a table, at a node that is at work or idle: 6 a tally that is none, 10 not idle, 14 its bounds, 15 a tally twice.
@@ -158,14 +129,14 @@ pub fn table_number(working: bool, list: &[u8]) -> u8
 pub fn is_none(kept: &[u8]) -> bool
     ensures { result ≡ no_table kept.now }
 {
-    both(bound_count(kept) == 0, count(kept) == 0)
+    bound_count(kept) == 0 && count(kept) == 0
 }
 
 // Whether what is kept is no table or one that loading accepts. Ruled out: a refusal for what stands behind the lists; a table with a tally twice passed.
 pub fn is_sound(kept: &[u8]) -> bool
     ensures { result ≡ sound kept.now }
 {
-    either(is_none(kept), table_number(false, kept) == 0)
+    is_none(kept) || table_number(false, kept) == 0
 }
 
 // The tally of a class; 0 where there is no such class.
@@ -184,10 +155,8 @@ pub fn tallies(kept: &[u8]) -> [u8; MOST_CLASSES]
     ensures { result ≡ tallies_of kept.now }
 {
     let mut a = [0u8; MOST_CLASSES];
-    let mut i = 0;
-    while i < MOST_CLASSES {
+    for i in 0..MOST_CLASSES {
         a[i] = object_of(kept, i);
-        i += 1;
     }
     a
 }
@@ -196,7 +165,7 @@ pub fn tallies(kept: &[u8]) -> [u8; MOST_CLASSES]
 fn weight_count(list: &[u8]) -> usize
     ensures { (result ≡ weight_count list.now) × (result < 65536) }
 {
-    octets::get_u16(list, 0) as usize
+    usize::from(octets::get_u16(list, 0))
 }
 
 // The number of a batch's length: 1 another than its count says. Ruled out: 0 for a weight cut in half; 1 for a batch of no weights.
@@ -210,15 +179,7 @@ pub fn batch_length(list: &[u8]) -> u8
 fn all_light(list: &[u8]) -> bool
     ensures { result ≡ every (λ (w : ℕ). ltb w too_heavy) (weights list.now) }
 {
-    let mut light = true;
-    let mut left = weight_count(list);
-    let mut at: usize = 2;
-    while 0 < left {
-        light = both(light, octets::get_u16(list, at) < TOO_HEAVY);
-        at += 2;
-        left -= 1;
-    }
-    light
+    (0..weight_count(list)).all(|i| octets::get_u16(list, 2 + 2 * i) < TOO_HEAVY)
 }
 
 // Whether a batch is too long or has a weight that is none. Ruled out: a weight of 2,000 passed; a batch of 4,096 weights refused.
@@ -238,10 +199,8 @@ fn row_of(kept: &[u8]) -> [u32; MOST_BOUNDS]
 {
     let n = bound_count(kept);
     let mut row = [NO_BOUND; MOST_BOUNDS];
-    let mut i: usize = 0;
-    while i < n {
-        row[i] = octets::get_u16(kept, 1 + 2 * i) as u32;
-        i += 1;
+    for i in 0..n {
+        row[i] = u32::from(octets::get_u16(kept, 1 + 2 * i));
     }
     row
 }
@@ -269,14 +228,9 @@ fn weigh(kept: &[u8], list: &[u8]) -> [u32; MOST_CLASSES]
 {
     let row = row_of(kept);
     let mut sums = [0u32; MOST_CLASSES];
-    let mut left = weight_count(list);
-    let mut at: usize = 2;
-    while 0 < left {
-        let w = octets::get_u16(list, at) as u32;
-        let c = class_of(row, w);
-        sums[c] = sums[c] + w;
-        at += 2;
-        left -= 1;
+    for i in 0..weight_count(list) {
+        let w = u32::from(octets::get_u16(list, 2 + 2 * i));
+        sums[class_of(row, w)] += w;
     }
     sums
 }
@@ -288,13 +242,6 @@ pub struct Sorted {
     pub left: [u8; MOST_CLASSES],
 }
 
-// The tenths that waited with those of a batch.
-fn with_waiting(tenths: u8, sum: u32) -> u64
-    ensures { result ≡ tenths + sum }
-{
-    tenths as u64 + sum as u64
-}
-
 // Whole grams and tenths of the sums, with the tenths that waited.
 fn split(waiting: [u8; MOST_CLASSES], sums: [u32; MOST_CLASSES]) -> Sorted
     ensures grams_value { result.grams ≡ count_up (λ (i : ℕ). (get_or waiting i 0 + get_or sums i 0) / 10) most_classes 0 }
@@ -302,12 +249,10 @@ fn split(waiting: [u8; MOST_CLASSES], sums: [u32; MOST_CLASSES]) -> Sorted
 {
     let mut grams = [0u64; MOST_CLASSES];
     let mut left = [0u8; MOST_CLASSES];
-    let mut i: usize = 0;
-    while i < MOST_CLASSES {
-        let all = with_waiting(waiting[i], sums[i]);
+    for i in 0..MOST_CLASSES {
+        let all = u64::from(waiting[i]) + u64::from(sums[i]);
         grams[i] = all / 10;
         left[i] = (all % 10) as u8;
-        i += 1;
     }
     Sorted { grams, left }
 }

@@ -6,7 +6,7 @@ ghost use Rattle.wire.specs.Formed.{every};
 ghost use Rattle.hours.specs.Hours.{window_count, dates_place, date_count, windows, dates, window_ok, faulty, table_number, any_of, in_window, closed_by};
 ghost use Rattle.hours.specs.Kept.{kept_size, stored, kept_number, load_number, load_after, closed};
 
-use numbers::{both, either, refuse};
+use numbers::{either, refuse};
 
 // The bytes in which a node keeps its hours.
 pub const KEPT: usize = 187;
@@ -22,18 +22,11 @@ const WINDOW: usize = 4;
 
 const DATE: usize = 4;
 
-// A byte as a count.
-fn wide(x: u8) -> usize
-    ensures { (result ≡ x) × (result < 256) }
-{
-    x as usize
-}
-
 // How many windows there are, where the count of the dates stands, and how many dates there are.
 fn window_count(list: &[u8]) -> usize
     ensures { (result ≡ window_count list.now) × (result < 256) }
 {
-    wide(octets::get_u8(list, 0))
+    usize::from(octets::get_u8(list, 0))
 }
 
 fn dates_place(list: &[u8]) -> usize
@@ -45,78 +38,56 @@ fn dates_place(list: &[u8]) -> usize
 fn date_count(list: &[u8]) -> usize
     ensures { (result ≡ date_count list.now) × (result < 256) }
 {
-    wide(octets::get_u8(list, dates_place(list)))
+    usize::from(octets::get_u8(list, dates_place(list)))
 }
 
 // Whether the window at a place is one.
 fn window_ok(start: u16, end: u16) -> bool
     ensures { result ≡ window_ok (record { start = start; end = end }) }
 {
-    let known = both(end <= LAST_MINUTE + 1, start < end);
-    both(start <= LAST_MINUTE, known)
+    start <= LAST_MINUTE && end <= LAST_MINUTE + 1 && start < end
 }
 
 // Whether every window is one.
 fn windows_ok(list: &[u8]) -> bool
     ensures { result ≡ every window_ok (windows list.now) }
 {
-    let mut left = window_count(list);
-    let mut at: usize = 1;
-    while 0 < left {
-        if !window_ok(octets::get_u16(list, at), octets::get_u16(list, at + 2)) {
-            return false;
-        }
-        at += WINDOW;
-        left -= 1;
-    }
-    true
+    (0..window_count(list)).all(|i| {
+        let at = 1 + WINDOW * i;
+        window_ok(octets::get_u16(list, at), octets::get_u16(list, at + 2))
+    })
 }
 
 // Whether some window has the minute.
 fn has_minute(list: &[u8], minute: u16) -> bool
     ensures { result ≡ any_of (in_window minute) (windows list.now) }
 {
-    let mut left = window_count(list);
-    let mut at: usize = 1;
-    while 0 < left {
-        let begun = octets::get_u16(list, at) <= minute;
-        if both(begun, minute < octets::get_u16(list, at + 2)) {
-            return true;
-        }
-        at += WINDOW;
-        left -= 1;
-    }
-    false
+    (0..window_count(list)).any(|i| {
+        let at = 1 + WINDOW * i;
+        octets::get_u16(list, at) <= minute && minute < octets::get_u16(list, at + 2)
+    })
 }
 
 // Whether the day is a closed date.
 fn has_date(list: &[u8], day: u32) -> bool
     ensures { result ≡ any_of (eqb day) (dates list.now) }
 {
-    let mut left = date_count(list);
-    let mut at: usize = dates_place(list) + 1;
-    while 0 < left {
-        if day == octets::get_u32(list, at) {
-            return true;
-        }
-        at += DATE;
-        left -= 1;
-    }
-    false
+    let first = dates_place(list) + 1;
+    (0..date_count(list)).any(|i| day == octets::get_u32(list, first + DATE * i))
 }
 
 // Whether a table is faulty, and whether it closes a minute of a day.
 fn is_faulty(list: &[u8]) -> bool
     ensures { result ≡ faulty list.now }
 {
-    let rest = either(MOST_DATES < date_count(list), !windows_ok(list));
-    either(MOST_WINDOWS < window_count(list), rest)
+    MOST_WINDOWS < window_count(list) || MOST_DATES < date_count(list) || !windows_ok(list)
 }
 
+#[tactic(auto, unfolding(crate::specs::Hours::closed_by))]
 fn closes(list: &[u8], day: u32, minute: u16) -> bool
     ensures { result ≡ closed_by list.now day minute }
 {
-    either(has_date(list, day), !has_minute(list, minute))
+    has_date(list, day) || !has_minute(list, minute)
 }
 
 // The number of a table as it is lent: 1 another length than its counts say, 2 a faulty one. Ruled out: 2 for a table that is too short; 0 for a window

@@ -51,13 +51,11 @@ fn weigh(image: &[u8], message: &[u8]) -> Weighed
     let o = wire::owner(message);
     let n = wire::entries(message);
     let mut barred = false;
-    let mut found: u16 = 0;
-    let mut i: usize = 0;
-    while i < n {
+    let mut found = 0;
+    for i in 0..n {
         let e = wire::nth_entry(message, i);
         barred = either(barred, bars(image, o, e));
         found = mask::join(found, rivals_at(image, e));
-        i = i + 1;
     }
     let rivals = mask::without(found, mask::single(o));
     Weighed { barred, rivals }
@@ -80,10 +78,8 @@ fn older_among(image: &[u8], rivals: u16, o: u8) -> bool
         return false;
     }
     let mut found = false;
-    let mut r: u8 = 0;
-    while r < numbers::NODES_END {
+    for r in 0..numbers::NODES_END {
         found = either(found, older_in(image, rivals, o, r));
-        r = r + 1;
     }
     found
 }
@@ -120,11 +116,8 @@ pub fn serials_of(image: &[u8], rivals: u16) -> [u32; NODES]
         return [0u32; NODES];
     }
     let mut serials = [0u32; NODES];
-    let mut o: u8 = 0;
-    while o < numbers::NODES_END {
-        let k = o as usize;
-        serials[k] = named(image, rivals, o);
-        o = o + 1;
+    for o in 0..numbers::NODES_END {
+        serials[usize::from(o)] = named(image, rivals, o);
     }
     serials
 }

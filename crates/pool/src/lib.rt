@@ -13,13 +13,6 @@ const SLOT: usize = 1 + LONGEST_MESSAGE;
 
 pub const SIZE: usize = 1 + SLOT * MOST_WAITING;
 
-// A byte as a count.
-fn wide(x: u8) -> usize
-    ensures { (result ≡ x) × (result < 256) }
-{
-    x as usize
-}
-
 // Where a slot starts.
 fn slot_place(k: usize) -> usize
     requires { k < 256 }
@@ -32,21 +25,21 @@ fn slot_place(k: usize) -> usize
 pub fn count(pool: &[u8]) -> usize
     ensures { (result ≡ count pool.now) × (result < 256) }
 {
-    wide(octets::get_u8(pool, 0))
+    usize::from(octets::get_u8(pool, 0))
 }
 
 // Where the k-th message starts. Ruled out: the place of its length; the place of the message after it.
 pub fn place(k: u8) -> usize
     ensures { result ≡ message_place k }
 {
-    slot_place(wide(k)) + 1
+    slot_place(usize::from(k)) + 1
 }
 
 // How long the k-th message is; 0 where its length is impossible. Ruled out: the length of the message after it; a length above 128.
 pub fn length(pool: &[u8], k: u8) -> usize
     ensures { result ≡ length_at pool.now k }
 {
-    let n = wide(octets::get_u8(pool, slot_place(wide(k))));
+    let n = usize::from(octets::get_u8(pool, slot_place(usize::from(k))));
     if n <= LONGEST_MESSAGE { n } else { 0 }
 }
 
@@ -65,12 +58,7 @@ fn store(pool: &mut [u8], at: usize, message: &[u8])
 {
     let n = message.len();
     pool[at] = n as u8;
-    let start = at + 1;
-    let mut i = 0;
-    while i < n {
-        pool[start + i] = message[i];
-        i += 1;
-    }
+    pool[at + 1..at + 1 + n].copy_from_slice(message);
 }
 
 // The number of an addition.
@@ -105,11 +93,7 @@ fn move_down(pool: &mut [u8], at: usize, n: usize)
     ensures { pool.new ≡ moved pool.old at n }
 {
     let from = at + SLOT;
-    let mut i = 0;
-    while i < n {
-        pool[at + i] = pool[from + i];
-        i += 1;
-    }
+    pool.copy_within(from..from + n, at);
 }
 
 // The number of a removal.
@@ -117,7 +101,7 @@ fn remove_number(pool: &[u8], k: u8) -> u8
     ensures { result ≡ remove_number pool.now k }
 {
     let c = check(pool);
-    let none = refuse(numbers::OUT_OF_TURN, count(pool) <= wide(k), 0);
+    let none = refuse(numbers::OUT_OF_TURN, count(pool) <= usize::from(k), 0);
     refuse(c, c != 0, none)
 }
 
@@ -131,7 +115,7 @@ pub fn remove(pool: &mut [u8], k: u8) -> u8
         return number;
     }
     let last = count(pool) - 1;
-    let i = wide(k);
+    let i = usize::from(k);
     move_down(pool, slot_place(i), SLOT * (last - i));
     octets::put_u8(pool, 0, last as u8);
     0

@@ -34,12 +34,8 @@ pub(crate) fn hold(image: &mut [u8], message: &[u8])
     ensures { image.new ≡ holding image.old (decode message.now).owner (decode message.now).entries }
 {
     let o = wire::owner(message);
-    let n = wire::entries(message);
-    let mut i: usize = 0;
-    while i < n {
-        let e = wire::nth_entry(message, i);
-        hold_one(image, o, e);
-        i = i + 1;
+    for i in 0..wire::entries(message) {
+        hold_one(image, o, wire::nth_entry(message, i));
     }
 }
 
@@ -76,12 +72,8 @@ fn apply(image: &mut [u8], message: &[u8])
 {
     let o = wire::owner(message);
     let s = wire::serial(message);
-    let n = wire::entries(message);
-    let mut i: usize = 0;
-    while i < n {
-        let e = wire::nth_entry(message, i);
-        apply_one(image, o, s, e);
-        i = i + 1;
+    for i in 0..wire::entries(message) {
+        apply_one(image, o, s, wire::nth_entry(message, i));
     }
 }
 

@@ -1,11 +1,13 @@
 -- `classes::is_none`: both counts are 0.
-use mathlib.Core.Path.{◌∙◌, ap₂}
-use mathlib.Core.Bool.{◌&&◌}
-use Prim.Native.Nat.{ℕ}
-use lib.Dec.{eqb}
+use Rattle.std.proofs.Common.{arith}
+use Rattle.std.proofs.lemmas.Grind.{common_steps}
 use Rattle.classes.specs.Classes.{no_table}
 use Rattle.classes.proofs.is_none.Goals as goal
 
-pub returns : goal.returns
+pub returns-then-bound_count-eq0 : goal.returns-then-bound_count-eq0
 unfolding no_table
-returns c = c.both.ensures ∙ ap₂ (λ (m n : ℕ). eqb m 0 && eqb n 0) c.bound_count.ensures.0 c.count.ensures.0
+returns-then-bound_count-eq0 c = grind (arith, common_steps)
+
+pub returns-else-bound_count-eq0 : goal.returns-else-bound_count-eq0
+unfolding no_table
+returns-else-bound_count-eq0 c = grind (arith, common_steps)

@@ -1,11 +1,13 @@
 -- `classes::is_sound`: no table, or one without a number.
-use mathlib.Core.Path.{◌∙◌, ap₂}
-use mathlib.Core.Bool.{Bool, ◌||◌}
-use Prim.Native.Nat.{ℕ}
-use lib.Dec.{eqb}
+use Rattle.std.proofs.Common.{arith}
+use Rattle.std.proofs.lemmas.Grind.{common_steps}
 use Rattle.classes.specs.Classes.{sound}
 use Rattle.classes.proofs.is_sound.Goals as goal
 
-pub returns : goal.returns
+pub returns-then-is_none : goal.returns-then-is_none
 unfolding sound
-returns c = c.either.ensures ∙ ap₂ (λ (b : Bool) (n : ℕ). b || eqb n 0) c.is_none.ensures c.table_number.ensures
+returns-then-is_none c = grind (arith, common_steps)
+
+pub returns-else-is_none : goal.returns-else-is_none
+unfolding sound
+returns-else-is_none c = grind (arith, common_steps)

@@ -1,14 +1,13 @@
 -- `hours::is_faulty`: the three tests, each the definition's own.
-use mathlib.Core.Path.{◌∙◌, ap₂}
-use mathlib.Core.Bool.{Bool, not, ◌||◌}
-use Prim.Native.Nat.{ℕ}
-use lib.Dec.{ltb}
-use Rattle.hours.specs.Hours.{most_windows, most_dates, faulty}
+use Rattle.std.proofs.Common.{arith}
+use Rattle.std.proofs.lemmas.Grind.{common_steps}
+use Rattle.hours.specs.Hours.{faulty}
 use Rattle.hours.proofs.is_faulty.Goals as goal
 
-pub returns : goal.returns
+pub returns-then-date_count-gt-MOST_DATES : goal.returns-then-date_count-gt-MOST_DATES
 unfolding faulty
-returns c = let e = c.either-rest in
-    c.either.ensures ∙ ap₂ (λ (n : ℕ) (b : Bool). ltb most_windows n || b) c.window_count.ensures.0
-    (e.ensures ∙ ap₂ (λ (d : ℕ) (b : Bool). ltb most_dates d || not b) c.date_count.ensures.0
-    c.windows_ok.ensures)
+returns-then-date_count-gt-MOST_DATES c = grind (arith, common_steps)
+
+pub returns-else-date_count-gt-MOST_DATES : goal.returns-else-date_count-gt-MOST_DATES
+unfolding faulty
+returns-else-date_count-gt-MOST_DATES c = grind (arith, common_steps)

@@ -29,7 +29,7 @@ pub overflow_sub-last-2 : goal.overflow_sub-last-2
 overflow_sub-last-2 c = let x = c.args in
     let t = there x.pool.now x.k (sym c.remove_number-number.ensures ∙ c.if-number-ne0.false) in
     let n = c.count-last.ensures.0 in
-    let i = c.wide-i.ensures.0 in
+    let i = c.from-i.ensures in
     let message = t.message in
     omega arith
 
@@ -37,7 +37,7 @@ pub move_down-requires : goal.move_down-requires
 move_down-requires c = let x = c.args in
     let t = there x.pool.now x.k (sym c.remove_number-number.ensures ∙ c.if-number-ne0.false) in
     let n = c.count-last.ensures.0 in
-    let i = c.wide-i.ensures.0 in
+    let i = c.from-i.ensures in
     let s = c.slot_place.ensures in
     let message = t.message in
     let long = t.pool.long in
@@ -50,7 +50,7 @@ returns-clause-number c = let x = c.args in
     let l = x.pool.now in
     let e : remove_number l x.k ≡ 0 = sym c.remove_number-number.ensures ∙ c.if-number-ne0.false in
     let n = c.count-last.ensures.0 in
-    let i = c.wide-i.ensures.0 in
+    let i = c.from-i.ensures in
     let s = c.slot_place.ensures ∙ ap slot_place i in
     sym e
 
@@ -60,7 +60,7 @@ returns-clause-pool c = let x = c.args in
     let l = x.pool.now in
     let e : remove_number l x.k ≡ 0 = sym c.remove_number-number.ensures ∙ c.if-number-ne0.false in
     let n = c.count-last.ensures.0 in
-    let i = c.wide-i.ensures.0 in
+    let i = c.from-i.ensures in
     let s = c.slot_place.ensures ∙ ap slot_place i in
     simp (eq-eqb (remove_number l x.k) 0 e)
     (c.put_u8.ensures

@@ -12,15 +12,15 @@ returns-then-rivals-eq0 c = rw c.if-rivals-eq0.true
 
 pub loop-r-init : goal.loop-r-init
 unfolding some_below
-loop-r-init c = (omega arith, refl)
+loop-r-init c = refl
 
 pub loop-r-preserved : goal.loop-r-preserved
 loop-r-preserved c = let l = c.loop-r in
     let x = c.args in
-    (omega arith, rw (c.either-found.ensures, c.older_in.ensures, l.invariant.1) (sym (some_more (older_in x.image.now x.rivals x.o) l.r)))
+    rw (c.either-found.ensures, c.older_in.ensures, l.invariant) (sym (some_more (older_in x.image.now x.rivals x.o) l.r))
 
 pub returns : goal.returns
 unfolding older_among
 returns c = let l = c.loop-r in
     let e : l.r ≡ nodes = omega arith in
-    rw e at l.invariant.1
+    rw e at l.invariant

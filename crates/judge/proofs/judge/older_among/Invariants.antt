@@ -6,7 +6,4 @@ use Rattle.judge.specs.Judge.{some_below, older_in}
 use Rattle.judge.proofs.judge.older_among.Given as goal
 
 abbrev pub invariant-loop-r : goal.invariant-loop-r
-invariant-loop-r l = (l.r ≤ nodes) × (l.found ≡ some_below l.r (older_in l.image l.rivals l.o))
-
-abbrev pub decreases-loop-r : goal.decreases-loop-r
-decreases-loop-r l = nodes - l.r
+invariant-loop-r l = l.found ≡ some_below l.r (older_in l.image l.rivals l.o)

@@ -13,15 +13,15 @@ returns-then-rivals-eq0 c = rw c.if-rivals-eq0.true
 
 pub loop-o-init : goal.loop-o-init
 unfolding named_below
-loop-o-init c = (omega arith, refl, refl)
+loop-o-init c = (refl, refl)
 
 pub loop-o-preserved : goal.loop-o-preserved
 loop-o-preserved c = let l = c.loop-o in
     let x = c.args in
-    (omega arith, simp length-set l.invariant.1, rw (c.named.ensures, l.invariant.2) (sym (named_more x.image.now x.rivals l.o)))
+    (simp length-set l.invariant.0, rw (c.from.ensures, c.named.ensures, l.invariant.1) (sym (named_more x.image.now x.rivals l.o)))
 
 pub returns : goal.returns
 unfolding serials_of
 returns c = let l = c.loop-o in
     let e : l.o ≡ nodes = omega arith in
-    rw e at l.invariant.2
+    rw e at l.invariant.1

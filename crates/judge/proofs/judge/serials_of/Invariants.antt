@@ -7,7 +7,4 @@ use Rattle.judge.specs.Judge.{named_below}
 use Rattle.judge.proofs.judge.serials_of.Given as goal
 
 abbrev pub invariant-loop-o : goal.invariant-loop-o
-invariant-loop-o l = (l.o ≤ nodes) × (length l.serials ≡ nodes) × (l.serials ≡ named_below l.image l.rivals l.o)
-
-abbrev pub decreases-loop-o : goal.decreases-loop-o
-decreases-loop-o l = nodes - l.o
+invariant-loop-o l = (length l.serials ≡ nodes) × (l.serials ≡ named_below l.image l.rivals l.o)

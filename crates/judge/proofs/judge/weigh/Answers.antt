@@ -11,7 +11,6 @@ use Rattle.judge.proofs.judge.weigh.Goals as goal
 
 pub loop-i-init : goal.loop-i-init
 loop-i-init c = let x = c.args in (
-  omega arith,
   ap (some (bar x.image.now (owner_of x.message.now))) (rest_first x.message.now),
   ap (gathered x.image.now 0) (rest_first x.message.now),
 )
@@ -22,12 +21,11 @@ loop-i-preserved c = let l = c.loop-i in
     let e = c.nth_entry-e in
     let f = c.either-barred.ensures ∙ ap (◌||◌ l.barred) (c.bars.ensures
     ∙ ap (λ (k : ℕ). bar x.image.now k e.result) c.owner-o.ensures) in (
-      omega arith,
       some_again (bar x.image.now (owner_of x.message.now)) x.message.now l.i l.barred c.either-barred.result e.result _
           e.ensures f
-          (omega (arith, c.entries-n.ensures.0)) l.invariant.1,
+          (omega (arith, c.entries-n.ensures.0)) l.invariant.0,
       rw (c.join-found.ensures, c.rivals_at.ensures, e.ensures)
-          (sym (gathered_again x.image.now x.message.now l.i l.found (omega (arith, c.entries-n.ensures.0))) ∙ l.invariant.2),
+          (sym (gathered_again x.image.now x.message.now l.i l.found (omega (arith, c.entries-n.ensures.0))) ∙ l.invariant.1),
     )
 
 pub returns : goal.returns
@@ -37,9 +35,9 @@ returns c = let l = c.loop-i in
     let i = x.image.now in
     let b = x.message.now in
     let p = bar i (owner_of b) in
-    let e = sym (gathered_end i b l.i l.found (omega (arith, c.entries-n.ensures.0))) ∙ l.invariant.2 in
+    let e = sym (gathered_end i b l.i l.found (omega (arith, c.entries-n.ensures.0))) ∙ l.invariant.1 in
     record {
-      bars = sym (some_end p b l.i l.barred (omega (arith, c.entries-n.ensures.0))) ∙ l.invariant.1
+      bars = sym (some_end p b l.i l.barred (omega (arith, c.entries-n.ensures.0))) ∙ l.invariant.0
           ∙ some_either (other_holds i (owner_of b)) (newer i) (decode b).entries;
       rivals = rw (c.without-rivals.ensures, c.single.ensures, c.owner-o.ensures, e);
     }

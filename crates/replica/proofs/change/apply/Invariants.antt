@@ -11,10 +11,7 @@ use Rattle.judge.proofs.Passes.{rest}
 use Rattle.replica.proofs.change.apply.Given as goal
 
 abbrev pub invariant-loop-i : goal.invariant-loop-i
-invariant-loop-i l = (l.i ≤ l.n) × (length l.image ≡ length l.initial.image)
+invariant-loop-i l = (length l.image ≡ length l.initial.image)
     × (applied l.image (owner_of l.message) (serial_of l.message) (rest l.message l.i)
     ≡ applied l.initial.image (owner_of l.message) (serial_of l.message) (decode l.message).entries)
     × (every raisable (rest l.message l.i) ≡ true)
-
-abbrev pub decreases-loop-i : goal.decreases-loop-i
-decreases-loop-i l = l.n - l.i

@@ -10,23 +10,22 @@ use Rattle.replica.proofs.change.hold.Goals as goal
 
 pub loop-i-init : goal.loop-i-init
 loop-i-init c = let x = c.args in
-    (omega arith, refl, ap (holding x.image.now (owner_of x.message.now)) (rest_first x.message.now))
+    (refl, ap (holding x.image.now (owner_of x.message.now)) (rest_first x.message.now))
 
 pub loop-i-preserved : goal.loop-i-preserved
 loop-i-preserved c = let l = c.loop-i in
     let x = c.args in
     let k = c.hold_one in
-    let h = sym (holding_again l.image x.message.now (owner_of x.message.now) l.i (omega (arith, c.entries-n.ensures.0))) ∙ l.invariant.2 in (
-      omega arith,
-      k.auto.image ∙ l.invariant.1,
-      rw (k.ensures, c.nth_entry-e.ensures, c.owner-o.ensures) h,
+    let h = sym (holding_again l.image x.message.now (owner_of x.message.now) l.i (omega (arith, c.entries-i-end.ensures.0))) ∙ l.invariant.1 in (
+      k.auto.image ∙ l.invariant.0,
+      rw (k.ensures, c.nth_entry.ensures, c.owner-o.ensures) h,
     )
 
 pub shape_of-image : goal.shape_of-image
-shape_of-image c = c.loop-i.invariant.1
+shape_of-image c = c.loop-i.invariant.0
 
 pub returns : goal.returns
 unfolding decode
 returns c = let l = c.loop-i in
     let x = c.args in
-    sym (holding_end l.image x.message.now (owner_of x.message.now) l.i (omega (arith, c.entries-n.ensures.0))) ∙ l.invariant.2
+    sym (holding_end l.image x.message.now (owner_of x.message.now) l.i (omega (arith, c.entries-i-end.ensures.0))) ∙ l.invariant.1

@@ -9,8 +9,5 @@ use Rattle.judge.proofs.Passes.{rest}
 use Rattle.replica.proofs.change.hold.Given as goal
 
 abbrev pub invariant-loop-i : goal.invariant-loop-i
-invariant-loop-i l = (l.i ≤ l.n) × (length l.image ≡ length l.initial.image)
+invariant-loop-i l = (length l.image ≡ length l.initial.image)
     × (holding l.image (owner_of l.message) (rest l.message l.i) ≡ holding l.initial.image (owner_of l.message) (decode l.message).entries)
-
-abbrev pub decreases-loop-i : goal.decreases-loop-i
-decreases-loop-i l = l.n - l.i
