@@ -1,12 +1,15 @@
--- A loop that fills an array with the items of a list of bytes: one item more, and all of them.
-use mathlib.Core.Path.{◌≡◌, sym, ap, ◌∙◌}
+-- An array filled with the items of a list of bytes: by a loop, one item more and all of them; and by a closure that gives each item at its index.
+use mathlib.Core.Path.{◌≡◌, subst, sym, ap, ◌∙◌}
 use mathlib.Core.List.{List}
 use Prim.Native.Nat.{ℕ, zero, suc, ◌+◌, ◌*◌, ◌<◌}
 use native.Mathlib.Nat.{mul-suc}
 use native.Mathlib.Omega.{arith}
 use borrow.Author.Count.{below_more}
+use denote.Param.Members.{Mut}
 use lib.ListN.{length, get_or, set}
 use lib.Seq.{ext_get_or, get_or-set_same, get_or-set_other}
+use Rattle.std.specs.Array.{IsFromFnResult, IsFromFnResultFrom}
+use Rattle.std.specs.Fn.{Called}
 use Rattle.wire.specs.Decode.{items_from}
 use Rattle.wire.proofs.Accepted.{length_items}
 
@@ -29,3 +32,17 @@ module _ {A : Type 0} (at : List ℕ → ℕ → A) (size : ℕ) (l : List ℕ) 
       → v ≡ at l (base + size * i) → (j : ℕ) → j < i + 1 → get_or (set a i v) j d ≡ at l (base + size * j)
   one_more a i base v h f e =
       below_more _ i (λ j k. get_or-set_other a i j v d (λ q. omega arith) ∙ f j k) (get_or-set_same a i v d h ∙ e)
+
+  -- what a closure gave that leaves itself as it was
+  module _ {F : Type 0} (g : Mut F (ℕ × Unit {0}) A) (f : F) (base : ℕ)
+      (gives : (i : ℕ) (y : A) (q : F) → Called g f (i, tt) y q → (q ≡ f) × (y ≡ at l (base + size * i))) (a : List A) where
+    each_made : (n i j : ℕ) → IsFromFnResultFrom g f a i n → j < n → get_or a (i + j) d ≡ at l (base + size * (i + j))
+    each_made zero i j r h = absurd (let z : ⊥ = omega arith in z)
+    each_made (suc n) i zero (q, y, e, c, r) h = let k : i + 0 ≡ i = omega arith in rw k (e.1 d ∙ (gives i y q c).1)
+    each_made (suc n) i (suc j) (q, y, e, c, r) h =
+        let k : i + 1 + j ≡ i + suc j = omega arith in
+        let s : IsFromFnResultFrom g f a (i + 1) n = subst (λ (p : F). IsFromFnResultFrom g p a (i + 1) n) (gives i y q c).0 r in
+        rw k at (each_made n (i + 1) j s (omega arith))
+
+    pub items_made : (n : ℕ) → IsFromFnResult g f a n → a ≡ items_from at size n l base
+    items_made n r = items_all n base a r.long (λ j h. let k : 0 + j ≡ j = omega arith in rw k at (each_made n 0 j r.each h))

@@ -9,7 +9,6 @@ use lib.ListN.{length, take, drop, drop_of_length-le}
 use lib.Seq.{take_all}
 use borrow.Author.Tests.{eq-eqb, ne_eqb, eqb-true}
 use Rattle.record.specs.Layout.{record_size}
-use Rattle.letters.specs.Write.{answer}
 use Rattle.coordinator.specs.declared.Coordinator.{Coordinator}
 use Rattle.coordinator.specs.Step.{Step}
 use Rattle.coordinator.specs.State.{step_of}

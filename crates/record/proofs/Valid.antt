@@ -10,6 +10,7 @@ use borrow.Author.Tests.{ne_eqb, ltb-false, eqb-false}
 use lib.Dec.{T, eqb, ltb, leb, eqb→eq, ltb→lt, lt→ltb, leb→le, le→leb, nltb→le, T_not, not_T}
 use lib.ListN.{length, get_or, take, drop}
 use lib.Seq.{get_or-take, get_or-drop}
+use Rattle.std.specs.List.{list_all, range_with_len}
 use Rattle.numbers.specs.Sizes.{nodes, every_node, most_open, highest}
 use Rattle.mask.specs.Mask.{within}
 use Rattle.mask.proofs.Tests.{same_test, and_both, and_left, and_right, or_left, or_right, or_cases, compared}
@@ -29,7 +30,7 @@ use Rattle.record.specs.Record.{object_of, distances_of, objects_of, rivals_of, 
 use Rattle.record.specs.Valid.{opened_in, votable, stands_before, place_ok, below, past_bytes, objects_ok, party_is, party_ok, valid_of}
 use Rattle.record.proofs.Made.{made_object}
 use Rattle.record.proofs.Items.{get_d_items}
-use Rattle.record.proofs.Zero.{Zero, range_out, range_in, blank_bytes, bytes_blank}
+use Rattle.record.proofs.Zero.{last_true, Zero, range_out, range_in, blank_bytes, bytes_blank}
 
 -- ---- three tests made at once
 pub three : (a b c d : Bool) → (a && (b && (c && d))) ≡ ((a && (b && c)) && d)
@@ -68,6 +69,10 @@ module _ (l : List ℕ) (a n : ℕ) (e : n ≡ 25) where
   pub opened_at : {k m : ℕ} {r : Bool} → k ≡ m → r ≡ opened_in k (take n (drop a l)) 0 → r ≡ opened_in m l a
   opened_at {k} p f = f ∙ opened_part k ∙ ap (λ (i : ℕ). opened_in i l a) p
 
+regroup : (a b c : Bool) → ((a && b) && c) ≡ (a && (b && c))
+regroup true b c = refl
+regroup false b c = refl
+
 -- ---- a test of every number below n
 module _ (f : ℕ → Bool) where
   pub below_each : (n : ℕ) → T (below f n) → (i : ℕ) → i < n → T (f i)
@@ -81,9 +86,19 @@ module _ (f : ℕ → Bool) where
   below_all zero h = tt
   below_all (suc n) h = and_both (below f n) (f n) (below_all n (λ i k. h i (omega arith))) (h n (omega arith))
 
-  pub below_next : (n : ℕ) → below f n ≡ true → f n ≡ true → below f (n + 1) ≡ true
+  last_of_range : (n i : ℕ) → list_all f (range_with_len i (suc n)) ≡ (list_all f (range_with_len i n) && f (i + n))
+  last_of_range zero i = let e : i + 0 ≡ i = omega arith in rw e (last_true (f i))
+  last_of_range (suc n) i =
+      let e : i + 1 + n ≡ i + suc n = omega arith in
+      ap (λ (b : Bool). f i && b) (last_of_range n (i + 1) ∙ ap (λ (k : ℕ). list_all f (range_with_len (i + 1) n) && f k) e)
+      ∙ sym (regroup (f i) _ _)
+
+  pub below_listed : (n : ℕ) → below f n ≡ list_all f (range_with_len 0 n)
   unfolding below
-  below_next n a b = rw add-one (simp (a, b))
+  below_listed zero = refl
+  below_listed (suc n) =
+      let e : 0 + n ≡ n = omega arith in
+      ap (λ (b : Bool). b && f n) (below_listed n) ∙ sym (last_of_range n 0 ∙ ap (λ (k : ℕ). list_all f (range_with_len 0 n) && f k) e)
 
 -- whether a value was given is 0 or 1: such a test
 abbrev given_at : List ℕ → ℕ → Bool

@@ -44,56 +44,28 @@ pub(crate) fn object_of(bytes: &[u8], at: usize) -> Object
 pub fn distances_of(bytes: &[u8]) -> [u16; NODES]
     ensures { result ≡ distances_of bytes.now }
 {
-    let mut a = [0u16; NODES];
-    let mut i = 0;
-    while i < NODES {
-        a[i] = octets::get_u16(bytes, DISTANCES + DISTANCE_SIZE * i);
-        i += 1;
-    }
-    a
+    std::array::from_fn(|i| octets::get_u16(bytes, DISTANCES + DISTANCE_SIZE * i))
 }
 
 // The objects.
 fn objects_of(bytes: &[u8]) -> [Object; MOST_OPEN]
     ensures { result ≡ objects_of bytes.now }
 {
-    let none = Object {
-        object: 0,
-        mode: 0,
-        came: 0,
-        version: 0,
-        value: 0,
-        given: false,
-        new: 0,
-    };
-    let mut a = [none; MOST_OPEN];
-    let mut i = 0;
-    while i < MOST_OPEN {
-        let x = object_of(bytes, OBJECTS_PLACE + OBJECT_SIZE * i);
-        a[i] = x;
-        i += 1;
-    }
-    a
+    std::array::from_fn(|i| object_of(bytes, OBJECTS_PLACE + OBJECT_SIZE * i))
 }
 
 // The rivals' serials. Ruled out: another owner's at a place; the last one left out.
 pub fn rivals_of(bytes: &[u8]) -> [u32; NODES]
     ensures { result ≡ rivals_of bytes.now }
 {
-    let mut a = [0u32; NODES];
-    let mut i = 0;
-    while i < NODES {
-        a[i] = octets::get_u32(bytes, RIVALS + RIVAL_SIZE * i);
-        i += 1;
-    }
-    a
+    std::array::from_fn(|i| octets::get_u32(bytes, RIVALS + RIVAL_SIZE * i))
 }
 
 // A byte as a count. Ruled out: a count of another byte; a byte above 127 taken for one below 0.
 pub fn wide(x: u8) -> usize
     ensures { result ≡ x }
 {
-    x as usize
+    usize::from(x)
 }
 
 // The record. Ruled out: yes and done the other way round; an object's value found taken for its new one.

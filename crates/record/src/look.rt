@@ -9,7 +9,7 @@ ghost use Rattle.record.specs.Record.{objects_of, record_of};
 use crate::load::{object_of, wide};
 use crate::verify::{is_settled, is_used_up};
 use crate::{CONTACTED, COUNT, OBJECT_SIZE, OBJECTS_PLACE, PARTICIPANTS, PHASE};
-use coordinator::Object;
+use coordinator::{NO_OBJECT, Object};
 use numbers::MOST_OPEN;
 
 // The phase. Ruled out: the outcome beside it; the live nodes behind it.
@@ -33,14 +33,10 @@ pub fn place(bytes: &[u8], object: u8) -> usize
     ensures { (result ≡ place_of (record_of bytes.now) object) × (result ≤ most_open) }
 {
     let n = count(bytes);
-    let mut i = 0;
-    let mut at = OBJECTS_PLACE;
-    while i < n {
-        if bytes[at] == object {
+    for i in 0..n {
+        if bytes[OBJECTS_PLACE + OBJECT_SIZE * i] == object {
             return i;
         }
-        i += 1;
-        at += OBJECT_SIZE;
     }
     MOST_OPEN
 }
@@ -52,15 +48,7 @@ pub fn object_at(bytes: &[u8], p: usize) -> Object
     if p < MOST_OPEN {
         object_of(bytes, OBJECTS_PLACE + OBJECT_SIZE * p)
     } else {
-        Object {
-            object: 0,
-            mode: 0,
-            came: 0,
-            version: 0,
-            value: 0,
-            given: false,
-            new: 0,
-        }
+        NO_OBJECT
     }
 }
 
@@ -80,14 +68,12 @@ pub fn all_settled(bytes: &[u8], n: usize) -> bool
     requires n_le_most_open { n ≤ most_open }
     ensures { result ≡ all_settled tree (objects_of bytes.now) n }
 {
-    let mut i = 0;
-    while i < n {
+    for i in 0..n {
         let at = OBJECTS_PLACE + OBJECT_SIZE * i;
         let end = at + OBJECT_SIZE;
         if !is_settled(&bytes[at..end]) {
             return false;
         }
-        i += 1;
     }
     true
 }
@@ -99,14 +85,12 @@ pub fn any_used_up(bytes: &[u8], n: usize) -> bool
     requires n_le_most_open { n ≤ most_open }
     ensures { result ≡ any_used_up (objects_of bytes.now) n }
 {
-    let mut i = 0;
-    while i < n {
+    for i in 0..n {
         let at = OBJECTS_PLACE + OBJECT_SIZE * i;
         let end = at + OBJECT_SIZE;
         if is_used_up(&bytes[at..end]) {
             return true;
         }
-        i += 1;
     }
     false
 }

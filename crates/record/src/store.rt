@@ -54,10 +54,8 @@ pub fn put_distances(bytes: &mut [u8], list: [u16; NODES])
     ensures bytes_after { bytes.new ≡ sets bytes.old distances_place (together (le 2) list) }
     ensures list_len { length list ≡ nodes }
 {
-    let mut i = 0;
-    while i < NODES {
+    for i in 0..NODES {
         octets::put_u16(bytes, DISTANCES + DISTANCE_SIZE * i, list[i]);
-        i += 1;
     }
 }
 
@@ -66,11 +64,9 @@ fn put_objects(bytes: &mut [u8], list: [Object; MOST_OPEN])
     ensures bytes_after { bytes.new ≡ sets bytes.old objects_place (together object_bytes list) }
     ensures list_len { length list ≡ most_open }
 {
-    let mut i = 0;
-    while i < MOST_OPEN {
+    for i in 0..MOST_OPEN {
         let x = list[i];
         put_object(bytes, OBJECTS_PLACE + OBJECT_SIZE * i, x);
-        i += 1;
     }
 }
 
@@ -79,10 +75,8 @@ pub fn put_rivals(bytes: &mut [u8], list: [u32; NODES])
     ensures bytes_after { bytes.new ≡ sets bytes.old rivals_place (together (le 4) list) }
     ensures list_len { length list ≡ nodes }
 {
-    let mut i = 0;
-    while i < NODES {
+    for i in 0..NODES {
         octets::put_u32(bytes, RIVALS + RIVAL_SIZE * i, list[i]);
-        i += 1;
     }
 }
 

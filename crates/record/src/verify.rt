@@ -40,13 +40,7 @@ fn implied(a: bool, b: bool) -> bool
 fn are_zero(bytes: &[u8]) -> bool
     ensures { result ≡ zeros bytes.now }
 {
-    let mut ok = true;
-    let mut i = 0;
-    while i < bytes.len() {
-        ok = both(ok, bytes[i] == 0);
-        i += 1;
-    }
-    ok
+    bytes.iter().fold(true, |ok, x| ok & (*x == 0))
 }
 
 // The phase, the outcome, the serial and the timestamp.
@@ -186,11 +180,8 @@ fn stands_before(bytes: &[u8], n: usize, object: u8) -> bool
     ensures { result ≡ stands_before n bytes.now object }
 {
     let mut found = false;
-    let mut i = 0;
-    while i < n {
-        let at = OBJECTS_PLACE + OBJECT_SIZE * i;
-        found = either(found, bytes[at] == object);
-        i += 1;
+    for i in 0..n {
+        found |= bytes[OBJECTS_PLACE + OBJECT_SIZE * i] == object;
     }
     found
 }
@@ -222,14 +213,7 @@ fn places_meet(bytes: &[u8], count: usize) -> bool
     requires count_le_most_open { count ≤ most_open }
     ensures { result ≡ places_ok count bytes.now }
 {
-    let mut i = 0;
-    while i < count {
-        if !place_meets(bytes, i) {
-            return false;
-        }
-        i += 1;
-    }
-    true
+    (0..count).all(|i| place_meets(bytes, i))
 }
 
 // The objects of a record, and no byte past them that is not 0.

@@ -1,11 +1,7 @@
 -- `record::look::any_used_up`: what is found from place i on is what is found from the first; one that is used up decides it.
 use mathlib.Core.Path.{◌≡◌}
-use Prim.Native.Nat.{◌-◌, ◌≤◌}
 use Rattle.record.proofs.Places.{used_up_from}
 use Rattle.record.proofs.look.any_used_up.Given as goal
 
 abbrev pub invariant-loop-i : goal.invariant-loop-i
-invariant-loop-i l = (l.i ≤ l.n) × (used_up_from l.bytes l.n l.i ≡ used_up_from l.bytes l.n 0)
-
-abbrev pub decreases-loop-i : goal.decreases-loop-i
-decreases-loop-i l = l.n - l.i
+invariant-loop-i l = used_up_from l.bytes l.n l.i ≡ used_up_from l.bytes l.n 0

@@ -1,10 +1,10 @@
 -- `record::store::put_distances`: storing what is left from here on gives what storing all of it gives.
 use Prim.Native.Nat.{ℕ, ◌+◌, ◌*◌}
 use native.Mathlib.Omega.{arith}
-use mathlib.Core.Path.{◌≡◌, refl, ap, ◌∙◌}
+use mathlib.Core.Path.{◌≡◌, ap, ◌∙◌}
 use mathlib.Core.List.{List}
 use lib.ListN.{length, get_or, drop}
-use lib.Seq.{sets, length-sets}
+use lib.Seq.{sets}
 use Rattle.numbers.specs.Sizes.{nodes}
 use Rattle.wire.specs.Encode.{together}
 use Rattle.wire.proofs.Stores.{together_again, together_end}
@@ -14,30 +14,16 @@ use borrow.Author.Rules.{rules}
 use borrow.Author.Rules.{rules}
 use Rattle.record.proofs.store.put_distances.Goals as goal
 
-pub loop-i-init : goal.loop-i-init
-loop-i-init c = (omega arith, refl, refl)
-
 pub loop-i-preserved : goal.loop-i-preserved
 loop-i-preserved c = let l = c.loop-i in
     let a = c.args in
     let full : length a.list ≡ nodes = search rules in
     let p : c.put_u16.new.s ≡ sets l.bytes (12 + 2 * l.i) (le 2 (get_or a.list l.i 0)) =
-    c.put_u16.ensures ∙ put_le 2 l.bytes (12 + 2 * l.i) (get_or a.list l.i 0) in (
-      omega arith,
-      ap length p ∙ simp length-sets l.invariant.1,
-      ap (λ (m : List ℕ). sets m (12 + 2 * (l.i + 1)) (together (le 2) (drop (l.i + 1) a.list))) p
-          ∙ together_again (le 2) 2 (length_le 2) a.list 0 l.bytes _ 12 l.i (omega arith) l.invariant.2,
-    )
-
-pub shape_of-bytes : goal.shape_of-bytes
-shape_of-bytes c = c.loop-i.invariant.1
+    c.put_u16.ensures ∙ put_le 2 l.bytes (12 + 2 * l.i) (get_or a.list l.i 0) in
+    ap (λ (m : List ℕ). sets m (12 + 2 * (l.i + 1)) (together (le 2) (drop (l.i + 1) a.list))) p
+    ∙ together_again (le 2) 2 (length_le 2) a.list 0 l.bytes _ 12 l.i (omega arith) l.invariant
 
 pub returns-clause-bytes_after : goal.returns-clause-bytes_after
 returns-clause-bytes_after c = let l = c.loop-i in
     let a = c.args in
-    let full : length a.list ≡ nodes = search rules in together_end (le 2) 2 (length_le 2) a.list l.bytes _ 12 l.i (omega arith) l.invariant.2
-
-pub returns-clause-list_len : goal.returns-clause-list_len
-returns-clause-list_len c = let l = c.loop-i in
-    let a = c.args in
-    let full : length a.list ≡ nodes = search rules in full
+    let full : length a.list ≡ nodes = search rules in together_end (le 2) 2 (length_le 2) a.list l.bytes _ 12 l.i (omega arith) l.invariant

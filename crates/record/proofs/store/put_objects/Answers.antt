@@ -1,10 +1,10 @@
 -- `record::store::put_objects`: storing what is left from here on gives what storing all of it gives.
 use Prim.Native.Nat.{ℕ, ◌+◌, ◌*◌}
 use native.Mathlib.Omega.{arith}
-use mathlib.Core.Path.{◌≡◌, refl, ap, ◌∙◌}
+use mathlib.Core.Path.{◌≡◌, ap, ◌∙◌}
 use mathlib.Core.List.{List}
 use lib.ListN.{length, get_or, drop}
-use lib.Seq.{sets, length-sets}
+use lib.Seq.{sets}
 use Rattle.numbers.specs.Sizes.{most_open}
 use Rattle.wire.specs.Encode.{together}
 use Rattle.wire.proofs.Stores.{together_again, together_end}
@@ -15,33 +15,16 @@ use borrow.Author.Rules.{rules}
 use borrow.Author.Rules.{rules}
 use Rattle.record.proofs.store.put_objects.Goals as goal
 
-pub loop-i-init : goal.loop-i-init
-loop-i-init c = (omega arith, refl, refl)
-
-pub put_object-requires : goal.put_object-requires
-put_object-requires c = omega arith
-
 pub loop-i-preserved : goal.loop-i-preserved
 loop-i-preserved c = let l = c.loop-i in
     let a = c.args in
     let full : length a.list ≡ most_open = search rules in
     let p : c.put_object.new.bytes ≡ sets l.bytes (43 + 25 * l.i) (object_bytes (get_or a.list l.i no_object)) =
-    c.put_object.ensures in (
-      omega arith,
-      ap length p ∙ simp length-sets l.invariant.1,
-      ap (λ (m : List ℕ). sets m (43 + 25 * (l.i + 1)) (together (object_bytes) (drop (l.i + 1) a.list))) p
-          ∙ together_again (object_bytes) 25 length_object a.list no_object l.bytes _ 43 l.i (omega arith) l.invariant.2,
-    )
-
-pub shape_of-bytes : goal.shape_of-bytes
-shape_of-bytes c = c.loop-i.invariant.1
+    c.put_object.ensures in
+    ap (λ (m : List ℕ). sets m (43 + 25 * (l.i + 1)) (together (object_bytes) (drop (l.i + 1) a.list))) p
+    ∙ together_again (object_bytes) 25 length_object a.list no_object l.bytes _ 43 l.i (omega arith) l.invariant
 
 pub returns-clause-bytes_after : goal.returns-clause-bytes_after
 returns-clause-bytes_after c = let l = c.loop-i in
     let a = c.args in
-    let full : length a.list ≡ most_open = search rules in together_end (object_bytes) 25 length_object a.list l.bytes _ 43 l.i (omega arith) l.invariant.2
-
-pub returns-clause-list_len : goal.returns-clause-list_len
-returns-clause-list_len c = let l = c.loop-i in
-    let a = c.args in
-    let full : length a.list ≡ most_open = search rules in full
+    let full : length a.list ≡ most_open = search rules in together_end (object_bytes) 25 length_object a.list l.bytes _ 43 l.i (omega arith) l.invariant

@@ -1,17 +1,12 @@
--- `record::verify::are_zero`: what was passed is 0, and what is left is to be.
-use mathlib.Core.Path.{refl}
-use native.Mathlib.Omega.{arith}
-use Rattle.record.proofs.Zero.{zeros_next, zeros_end}
+-- `record::verify::are_zero`: the fold over the bytes.
+use Rattle.std.proofs.Common.{true, ◌&&◌, eqb, ◌∙◌, rules, tests}
+use Rattle.std.proofs.lemmas.Iterator.{YieldsList-from_slice}
+use Rattle.std.proofs.lemmas.Iterator.Consumers.{fold_from_yields_List}
+use Rattle.record.proofs.Zero.{zeros_folded}
 use Rattle.record.proofs.verify.are_zero.Goals as goal
 
-pub loop-i-init : goal.loop-i-init
-loop-i-init c = (omega arith, refl)
-
-pub loop-i-preserved : goal.loop-i-preserved
-loop-i-preserved c = let p = c.loop-i in
-    let l = c.args.bytes.now in
-    (omega arith, rw (c.both-ok.ensures, zeros_next p.ok l p.i (omega arith)) p.invariant.1)
-
 pub returns : goal.returns
-returns c = let p = c.loop-i in
-    zeros_end p.ok c.args.bytes.now p.i (omega arith) p.invariant.1
+returns c =
+    let l = c.args.bytes.now in
+    fold_from_yields_List _ (λ ok x. ok && eqb x 0) true _ c.fold.ensures.ran (YieldsList-from_slice l (cc)) (λ a x b q k. search (rules, tests))
+    ∙ zeros_folded true l

@@ -1,7 +1,6 @@
 -- `record::verify::is_valid`: each test in turn.
 use mathlib.Core.Path.{◌≡◌, sym, ◌∙◌}
 use mathlib.Core.Bool.{true, false, ◌&&◌}
-use borrow.Author.Tests.{not-true, not-false}
 use Rattle.clauses.specs.Clauses.{votes_meet, dones_meet}
 use Rattle.record.specs.Record.{record_of}
 use Rattle.record.specs.Valid.{valid_of}
