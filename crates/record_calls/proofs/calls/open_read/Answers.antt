@@ -1,41 +1,10 @@
--- `record_calls::calls::open_read`: refused bytes, or the call on all of them.
-use mathlib.Core.Path.{sym, ◌∙◌}
+-- `record_calls::calls::open_read`: a record's bytes are all handed on, so what is left of them is all.
+use mathlib.Core.Path.{sym}
 use Rattle.coordinator.specs.declared.Coordinator.{Coordinator}
 use Rattle.coordinator.specs.Calls.{open_of}
-use Rattle.record.proofs.OnBytes.{refused_called, refused_record, part_long, part_count, part_checked, part_called, part_record}
+use Rattle.record.proofs.OnBytes.{part_record}
 use Rattle.record_calls.proofs.calls.open_read.Goals as goal
-
-pub returns-then-number-ne0-clause-value : goal.returns-then-number-ne0-clause-value
-returns-then-number-ne0-clause-value c = let x = c.args in
-    let e = c.check-number.ensures in
-    let h = c.if-number-ne0.true in
-    c.refused.ensures ∙ refused_called (λ (c : Coordinator). open_of c x.me x.object 0) x.bytes.now _ e h
-
-pub returns-then-number-ne0-clause-bytes_after : goal.returns-then-number-ne0-clause-bytes_after
-returns-then-number-ne0-clause-bytes_after c = let x = c.args in
-    let e = c.check-number.ensures in
-    let h = c.if-number-ne0.true in
-    refused_record (λ (c : Coordinator). open_of c x.me x.object 0) x.bytes.now _ e h
-
-pub slice_bounds-open-end : goal.slice_bounds-open-end
-slice_bounds-open-end c = part_long _ (sym c.check-number.ensures ∙ c.if-number-ne0.false)
-
-pub slice_bounds-open-end-2 : goal.slice_bounds-open-end-2
-slice_bounds-open-end-2 c = part_count _ (sym c.check-number.ensures ∙ c.if-number-ne0.false)
-
-pub open-requires : goal.open-requires
-open-requires c = part_checked _ (sym c.check-number.ensures ∙ c.if-number-ne0.false)
-
-pub returns-clause-value : goal.returns-clause-value
-returns-clause-value c = let x = c.args in
-    let l = x.bytes.now in
-    let e = sym c.check-number.ensures ∙ c.if-number-ne0.false in
-    let w = c.«open».ensures in
-    part_called l e (λ (c : Coordinator). open_of c x.me x.object 0) _ w.value
 
 pub returns-clause-bytes_after : goal.returns-clause-bytes_after
 returns-clause-bytes_after c = let x = c.args in
-    let l = x.bytes.now in
-    let e = sym c.check-number.ensures ∙ c.if-number-ne0.false in
-    let w = c.«open».ensures in
-    part_record l e (λ (c : Coordinator). open_of c x.me x.object 0) _ w.bytes_after
+    part_record x.bytes.now (sym c.in_ok-check.ensures) (λ (c : Coordinator). open_of c x.me x.object 0) _ c.open.ensures.bytes_after
