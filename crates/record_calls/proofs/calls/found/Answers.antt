@@ -2,7 +2,7 @@
 use mathlib.Core.Path.{sym}
 use native.Mathlib.Omega.{arith}
 use Rattle.octets.proofs.Laws.{Bytes}
-use Rattle.record.proofs.Kept.{found_bytes}
+use Rattle.deeds.proofs.Kept.{found_bytes}
 use Rattle.record_calls.proofs.calls.found.Goals as goal
 
 pub returns-clause-bytes_after : goal.returns-clause-bytes_after
