@@ -62,7 +62,7 @@ pub(crate) fn head(s: &[u8]) -> Head
 pub(crate) fn count_at(s: &[u8], at: usize) -> usize
     ensures { (result ≡ get_or s.now at 0) × (result < 256) }
 {
-    octets::get_u8(s, at) as usize
+    usize::from(octets::get_u8(s, at))
 }
 
 // How many entries, rivals and words there are. Each rules out, among others: the number of bytes instead of items; another section's count.

@@ -104,14 +104,14 @@ pub fn entry_ok(kind: u8, e: Entry) -> bool
 pub fn entry_fits(kind: u8, lo: usize, e: Entry) -> bool
     ensures { result ≡ (leb lo e.object && entry_ok kind e) }
 {
-    both(lo <= e.object as usize, entry_ok(kind, e))
+    both(lo <= usize::from(e.object), entry_ok(kind, e))
 }
 
 // A yield goes to its rival's owner.
 fn placed(kind: u8, rival: u8, to: u8) -> bool
     ensures { result ≡ (not (eqb kind 7) || eqb rival to) }
 {
-    if kind == 7 { rival == to } else { true }
+    kind != 7 || rival == to
 }
 
 // A rival is well formed.
@@ -132,7 +132,7 @@ pub fn rival_ok(kind: u8, owner: u8, to: u8, r: Rival) -> bool
 fn rival_fits(kind: u8, owner: u8, to: u8, lo: usize, r: Rival) -> bool
     ensures { result ≡ (leb lo r.owner && rival_ok kind owner to r) }
 {
-    both(lo <= r.owner as usize, rival_ok(kind, owner, to, r))
+    both(lo <= usize::from(r.owner), rival_ok(kind, owner, to, r))
 }
 
 // One above an item's key.
@@ -140,7 +140,7 @@ fn rival_fits(kind: u8, owner: u8, to: u8, lo: usize, r: Rival) -> bool
 pub fn above(key: u8) -> usize
     ensures { result ≡ key + 1 }
 {
-    key as usize + 1
+    usize::from(key) + 1
 }
 
 // The entries ascend strictly, and each is well formed.
@@ -148,18 +148,14 @@ fn entries_ok(s: &[u8], kind: u8, n: usize) -> bool
     requires { (n < 256) × (entries_place + 14 * n ≤ length s.now) }
     ensures { result ≡ run object_of (entry_ok kind) 0 (items_from entry_at entry_size n s.now entries_place) }
 {
-    let mut lo: usize = 0;
-    let mut at = HEADER + 1;
-    let mut left = n;
-    while 0 < left {
-        let end = at + ENTRY;
-        let e = entry_at(&s[at..end], 0);
+    let mut lo = 0;
+    for i in 0..n {
+        let at = HEADER + 1 + ENTRY * i;
+        let e = entry_at(&s[at..at + ENTRY], 0);
         if !entry_fits(kind, lo, e) {
             return false;
         }
         lo = above(e.object);
-        at = end;
-        left = left - 1;
     }
     true
 }
@@ -169,18 +165,14 @@ fn rivals_ok(s: &[u8], kind: u8, owner: u8, to: u8, place: usize, n: usize) -> b
     requires { (n < 256) × (place < 4096) × (place + 5 * n ≤ length s.now) }
     ensures { result ≡ run owner_in (rival_ok kind owner to) 0 (items_from rival_at rival_size n s.now place) }
 {
-    let mut lo: usize = 0;
-    let mut at = place;
-    let mut left = n;
-    while 0 < left {
-        let end = at + RIVAL;
-        let r = rival_at(&s[at..end], 0);
+    let mut lo = 0;
+    for i in 0..n {
+        let at = place + RIVAL * i;
+        let r = rival_at(&s[at..at + RIVAL], 0);
         if !rival_fits(kind, owner, to, lo, r) {
             return false;
         }
         lo = above(r.owner);
-        at = end;
-        left = left - 1;
     }
     true
 }
