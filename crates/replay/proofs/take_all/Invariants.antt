@@ -1,6 +1,6 @@
 -- `replay::take_all`: what is left to be taken from the sheet as it is now is what was to be taken at first.
 use mathlib.Core.Path.{◌≡◌}
-use Prim.Native.Nat.{◌-◌, ◌≤◌}
+use Prim.Native.Nat.{◌-◌}
 use lib.ListN.{length}
 use Rattle.numbers.specs.Sizes.{objects}
 use Rattle.replay.specs.Sheet.{all_taken}

@@ -1,15 +1,11 @@
 -- `replay::zero`: what is left to be zeroed of the sheet as it is now is what was to be zeroed at first.
-use mathlib.Core.Path.{◌≡◌, refl, sym, ap, ap₂, ◌∙◌}
+use mathlib.Core.Path.{◌≡◌, sym, ap, ap₂, ◌∙◌}
 use mathlib.Core.List.{List}
 use Prim.Native.Nat.{ℕ, ◌+◌, ◌-◌}
 use native.Mathlib.Omega.{arith}
 use Rattle.replay.specs.Sheet.{zeroed}
 use Rattle.replay.proofs.Steps.{zeroed_step}
 use Rattle.replay.proofs.zero.Goals as goal
-
-pub loop-i-init : goal.loop-i-init
-loop-i-init c = let x = c.args in
-    (refl, ap (λ (n : ℕ). zeroed n x.sheet.now x.at) (let e : x.at + x.n - x.at ≡ x.n = omega arith in e))
 
 pub loop-i-preserved : goal.loop-i-preserved
 loop-i-preserved c = let l = c.loop-i in
