@@ -24,7 +24,7 @@ fn bring(what: u8, c: Coordinator) -> Step
 {
     Step {
         number: 0,
-        answer: what as u64,
+        answer: u64::from(what),
         coordinator: c,
     }
 }
@@ -130,18 +130,14 @@ fn take_yield(c: Coordinator, m: &[u8]) -> Step
     }
 }
 
-// The serials with one rival more: of several for one owner, the highest.
-fn raised(rivals: [u32; NODES], r: Rival) -> [u32; NODES]
-    ensures { result ≡ raise rivals r }
+// One rival more: of several serials for one owner, the highest stays.
+fn raise(rivals: &mut [u32; NODES], r: Rival)
+    ensures { rivals.new ≡ raise rivals.old r }
 {
-    let i = r.owner as usize;
-    let mut a = rivals;
+    let i = usize::from(r.owner);
     if i < NODES {
-        if rivals[i] < r.serial {
-            a[i] = r.serial;
-        }
+        rivals[i] = rivals[i].max(r.serial);
     }
-    a
 }
 
 // The serials with every rival that a message names. Ruled out: the last serial named for an owner where an earlier one was higher; the first rival alone.
@@ -149,14 +145,8 @@ pub fn raised_by(rivals: [u32; NODES], m: &[u8]) -> [u32; NODES]
     ensures { result ≡ raise_from m.now (rival_count m.now) 0 rivals }
 {
     let mut a = rivals;
-    let mut i: usize = 0;
-    let mut left = wire::rivals(m);
-    while 0 < left {
-        let r = wire::nth_rival(m, i);
-        let next = raised(a, r);
-        a = next;
-        i = i + 1;
-        left = left - 1;
+    for i in 0..wire::rivals(m) {
+        raise(&mut a, wire::nth_rival(m, i));
     }
     a
 }

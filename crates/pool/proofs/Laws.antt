@@ -1,15 +1,15 @@
 -- What waits after each change, by the bytes of each slot: a message added stands at the end, a message removed is gone and the others keep their order.
 use mathlib.Core.Path.{◌≡◌, refl, sym, ap, ap₂, ◌∙◌}
 use mathlib.Core.Bool.{Bool, true, false, cond}
-use mathlib.Core.Logic.{◌⊎◌, inl, inr, ⊎_elim}
+use mathlib.Core.Logic.{inl, ⊎_elim}
 use mathlib.Core.List.{List, [], ◌∷◌, ◌++◌}
 use Prim.Native.Nat.{ℕ, zero, suc, ◌+◌, ◌-◌, ◌*◌, ◌<◌, ◌≤◌}
 use native.Mathlib.Omega.{arith}
 use native.Mathlib.Numerals.{add-one}
 use lib.Dec.{leb}
-use lib.ListN.{length, get_or, set, take, drop, replicate}
-use lib.ListN.{length-append, length-take, length-drop, length-set, length-replicate, get_or-replicate, get_or-append}
-use lib.Seq.{get_or-set_same, get_or-set_other, get_or-take, get_or-drop, get_or-append-add, get_or_at, length-take-le, length-paste, ext_get_or, paste}
+use lib.ListN.{length, get_or, set, take, drop}
+use lib.ListN.{length-append, length-drop, length-set, length-replicate, get_or-replicate, get_or-append}
+use lib.Seq.{get_or-set_same, get_or-set_other, get_or-take, get_or-drop, get_or-append-add, get_or_at, length-take-le, length-paste, ext_get_or}
 use borrow.Author.Tests.{leb-true, le-leb}
 use Rattle.numbers.specs.Sizes.{longest_message, most_waiting}
 use Rattle.octets.proofs.Laws.{lt_or_le}
@@ -17,7 +17,7 @@ use Rattle.parts.specs.Parts.{part}
 use Rattle.parts.proofs.Laws.{length_part, get_d_part, part_ext, get_d_paste_in, get_d_paste_out}
 use Rattle.pool.specs.Pool.{slot_size, pool_size, slot_place, message_place, count, length_at, message_at, listed, waiting, check}
 use Rattle.pool.specs.Change.{stored, added, moved, removed, blank}
-use Rattle.pool.proofs.Numbers.{Fine, fine_check, Room, There}
+use Rattle.pool.proofs.Numbers.{fine_check, Room, There}
 
 -- ---- f of the numbers below n
 module _ {A : Type 0} where

@@ -9,7 +9,7 @@ ghost use Rattle.replay.specs.Digest.{next, first_yes, takes};
 ghost use Rattle.replay.specs.Sheet.{sheet_number, owner_number, object_number, zeroed, blank_after, with_begun, begun_after, opened_after};
 ghost use Rattle.replay.specs.Sheet.{valued_after, with_place, with_put, put_after, with_taken, all_taken, committed_after, value_of};
 
-use numbers::{NODES, OBJECTS, both, refuse};
+use numbers::{NODES, OBJECTS, refuse};
 
 // Where each table starts: by owner its serial and its place, by object the place and the value of its last writer, and the owners' rows.
 const COUNT: usize = 0;
@@ -30,27 +30,19 @@ const ROW: usize = OBJECTS + OBJECTS;
 // How many numbers a sheet has.
 pub const SIZE: usize = ROWS + ROW * NODES;
 
-const LARGEST: u64 = 18446744073709551615;
-
-// A byte as an index.
-fn wide(x: u8) -> usize
-    ensures { (result ≡ x) × (result < 256) }
-{
-    x as usize
-}
-
 // One more; the largest number stays.
+#[tactic(auto, unfolding(crate::specs::Digest::next))]
 fn next(n: u64) -> u64
     ensures { result ≡ next n }
 {
-    if n < LARGEST { n + 1 } else { n }
+    n.saturating_add(1)
 }
 
 // The number in a cell; 0 where there is none.
 fn cell(sheet: &[u64], at: usize) -> u64
     ensures { result ≡ get_or sheet.now at 0 }
 {
-    if at < sheet.len() { sheet[at] } else { 0 }
+    sheet.get(at).copied().unwrap_or(0)
 }
 
 // Stores a number in a cell; nothing where there is none.
@@ -67,12 +59,8 @@ fn zero(sheet: &mut [u64], at: usize, n: usize)
     requires { (at ≤ 131071) × (n ≤ 65535) }
     ensures { sheet.new ≡ zeroed n sheet.old at }
 {
-    let mut i = at;
-    let mut left = n;
-    while 0 < left {
+    for i in at..at + n {
         store(sheet, i, 0);
-        i = i + 1;
-        left = left - 1;
     }
 }
 
@@ -86,15 +74,15 @@ fn sheet_number(long: usize) -> u8
 fn owner_number(long: usize, owner: u8) -> u8
     ensures { result ≡ owner_number long owner }
 {
-    let strange = refuse(numbers::STRANGER, NODES <= wide(owner), 0);
+    let strange = refuse(numbers::STRANGER, NODES <= usize::from(owner), 0);
     refuse(numbers::LENGTH, long != SIZE, strange)
 }
 
 fn object_number(long: usize, owner: u8, object: u8) -> u8
     ensures { result ≡ object_number long owner object }
 {
-    let none = refuse(numbers::NO_SUCH_OBJECT, OBJECTS <= wide(object), 0);
-    let strange = refuse(numbers::STRANGER, NODES <= wide(owner), none);
+    let none = refuse(numbers::NO_SUCH_OBJECT, OBJECTS <= usize::from(object), 0);
+    let strange = refuse(numbers::STRANGER, NODES <= usize::from(owner), none);
     refuse(numbers::LENGTH, long != SIZE, strange)
 }
 
@@ -115,7 +103,7 @@ pub fn blank(sheet: &mut [u64]) -> u8
 fn begin(sheet: &mut [u64], owner: u8)
     ensures { sheet.new ≡ with_begun sheet.old owner }
 {
-    let o = wide(owner);
+    let o = usize::from(owner);
     let serial = next(cell(sheet, SERIALS + o));
     store(sheet, SERIALS + o, serial);
     store(sheet, PLACES + o, 0);
@@ -144,7 +132,11 @@ pub fn opened(sheet: &mut [u64], owner: u8, object: u8, mode: u8) -> u8
     if number != 0 {
         return number;
     }
-    store(sheet, ROWS + ROW * wide(owner) + wide(object), mode as u64);
+    store(
+        sheet,
+        ROWS + ROW * usize::from(owner) + usize::from(object),
+        u64::from(mode),
+    );
     0
 }
 
@@ -159,25 +151,20 @@ pub fn valued(sheet: &mut [u64], owner: u8, object: u8, value: u64) -> u8
     }
     store(
         sheet,
-        ROWS + ROW * wide(owner) + OBJECTS + wide(object),
+        ROWS + ROW * usize::from(owner) + OBJECTS + usize::from(object),
         value,
     );
     0
 }
 
 // Whether a message is the root's first yes to the transaction with this serial, whose place is this.
+#[tactic(auto, unfolding(crate::specs::Digest::first_yes))]
 fn first_yes(serial: u64, place: u64, message: &[u8]) -> bool
     ensures { result ≡ first_yes serial place message.now }
 {
-    let fresh = both(wire::serial(message) as u64 == serial, place == 0);
-    let root = both(
-        wire::word(message) == 1,
-        both(wire::from(message) == 0, fresh),
-    );
-    both(
-        wire::check(message) == 0,
-        both(wire::kind(message) == wire::VOTE, root),
-    )
+    let root = wire::word(message) == 1 && wire::from(message) == 0;
+    let fresh = u64::from(wire::serial(message)) == serial && place == 0;
+    wire::check(message) == 0 && wire::kind(message) == wire::VOTE && root && fresh
 }
 
 // The owner gets the next place.
@@ -186,7 +173,7 @@ fn give_place(sheet: &mut [u64], owner: u8)
 {
     let place = next(cell(sheet, COUNT));
     store(sheet, COUNT, place);
-    store(sheet, PLACES + wide(owner), place);
+    store(sheet, PLACES + usize::from(owner), place);
 }
 
 // A message that was put into the pool; one that is not well formed tells nothing.
@@ -200,7 +187,7 @@ pub fn put(sheet: &mut [u64], message: &[u8]) -> u8
         return number;
     }
     let owner = wire::owner(message);
-    let o = wide(owner);
+    let o = usize::from(owner);
     if first_yes(cell(sheet, SERIALS + o), cell(sheet, PLACES + o), message) {
         give_place(sheet, owner);
     }
@@ -208,10 +195,11 @@ pub fn put(sheet: &mut [u64], message: &[u8]) -> u8
 }
 
 // Whether what is written takes a new value: no later place of the log wrote it.
+#[tactic(auto, unfolding(crate::specs::Digest::takes))]
 fn is_taken(mark: u64, place: u64, last: u64) -> bool
     ensures { result ≡ takes mark place last }
 {
-    both(mark == 1, last < place)
+    mark == 1 && last < place
 }
 
 // An object takes the owner's place and new value, if the owner writes it and no later place of the log did.
@@ -233,10 +221,8 @@ fn take_all(sheet: &mut [u64], o: usize)
     requires { o < 256 }
     ensures { sheet.new ≡ all_taken objects sheet.old o 0 }
 {
-    let mut t: usize = 0;
-    while t < OBJECTS {
+    for t in 0..OBJECTS {
         take(sheet, o, t);
-        t = t + 1;
     }
 }
 
@@ -250,17 +236,18 @@ pub fn committed(sheet: &mut [u64], owner: u8) -> u8
     if number != 0 {
         return number;
     }
-    take_all(sheet, wide(owner));
+    take_all(sheet, usize::from(owner));
     0
 }
 
 // The last value of an object, 64 bits of a signed number; 0 for a slice of another length and for an object above 127.
 // Ruled out: the place of its last writer; the value of the object beside it.
+#[tactic(auto, unfolding(crate::specs::Sheet::value_of))]
 pub fn value(sheet: &[u64], object: u8) -> u64
     ensures { result ≡ value_of sheet.now object }
 {
-    let t = wide(object);
-    if both(sheet.len() == SIZE, t < OBJECTS) {
+    let t = usize::from(object);
+    if sheet.len() == SIZE && t < OBJECTS {
         cell(sheet, LAST_VALUES + t)
     } else {
         0

@@ -17,7 +17,7 @@ use Rattle.image.specs.declared.Owner.{Owner}
 use Rattle.image.specs.Field.{field_of, with_field, changed}
 use Rattle.image.specs.Layout.{shape, image_size, value_field, version_field, holder_field, readers_field, writers_field}
 use Rattle.image.specs.Layout.{author_field, author_serial_field, serial_field, state_field, stamp_field}
-use Rattle.image.specs.Layout.{value, version, holder, readers, writers, author, author_serial, serial, state, stamp, copy_of, owner_of}
+use Rattle.image.specs.Layout.{value, version, holder, readers, writers, author, author_serial, state, copy_of, owner_of}
 use Rattle.image.specs.Change.{with_value, with_version, with_holder, with_author, with_serial, with_state, with_owner}
 use Rattle.image.specs.Change.{listing, add_reader, add_writer, freeing, leaving, free, unlist}
 use Rattle.image.proofs.Made.{made_copy, made_owner}

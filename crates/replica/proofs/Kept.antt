@@ -1,7 +1,7 @@
 -- A valid image stays valid under every delivery. Each change of a step keeps an image sound: what holds or lists an owner goes with its state.
 use mathlib.Core.Path.{◌≡◌, refl, sym, ap, subst, ◌∙◌}
 use mathlib.Core.Bool.{Bool, true, false, cond, ◌||◌}
-use mathlib.Core.Logic.{◌⊎◌, inl, inr, ⊎_elim}
+use mathlib.Core.Logic.{inl, inr, ⊎_elim}
 use mathlib.Core.List.{List, [], ◌∷◌}
 use Prim.Native.Nat.{ℕ, ◌+◌, ◌^◌, ◌≤◌, ◌<◌}
 use native.Mathlib.Omega.{arith}
@@ -17,7 +17,7 @@ use Rattle.wire.specs.Decode.{decode}
 use Rattle.wire.proofs.Theorems.{decoded_fits}
 use Rattle.image.specs.Layout.{shape, holder_field, state_field, serial, state, stamp}
 use Rattle.image.specs.Valid.{check}
-use Rattle.image.specs.Change.{with_owner, with_state, with_value, free, unlist}
+use Rattle.image.specs.Change.{with_owner, with_state, free, unlist}
 use Rattle.image.proofs.Each.{same_or_not}
 use Rattle.image.proofs.Lens.{of_with, of_with_apart}
 use Rattle.image.proofs.Sound.{Sound, OwnerSound, check_sound, sound_check}

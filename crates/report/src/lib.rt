@@ -43,7 +43,7 @@ pub fn value(out: &mut [u8], at: usize, label: &[u8], v: u64) -> usize
         return number(out, at, label, v);
     }
     let a = text(out, at, label);
-    number(out, a, b"-", 18446744073709551615 - v + 1)
+    number(out, a, b"-", u64::MAX - v + 1)
 }
 
 // The words of the numbers and of the kinds, a row each: `closed`, those of the numbers 1 to 12, those of the kinds.
@@ -104,7 +104,7 @@ fn capped(n: u8, limit: u8) -> usize
     requires { 0 < limit }
     ensures { (result ≡ cap limit n) × (result < limit) }
 {
-    if n < limit { n as usize } else { 0 }
+    if n < limit { usize::from(n) } else { 0 }
 }
 
 // The row of a kind, with the message's word.
@@ -131,9 +131,9 @@ fn mode(out: &mut [u8], at: usize, mode: u8, object: u8) -> usize
     ensures { page out.new result ≡ inks (page out.old at) (number_texts (mode_text mode) object) }
 {
     if mode == 0 {
-        return number(out, at, b" read ", object as u64);
+        return number(out, at, b" read ", u64::from(object));
     }
-    number(out, at, b" write ", object as u64)
+    number(out, at, b" write ", u64::from(object))
 }
 
 // An entry and a rival of a message.
@@ -141,15 +141,15 @@ fn entry(out: &mut [u8], at: usize, e: Entry) -> usize
     ensures { page out.new result ≡ inks (page out.old at) (entry_texts e) }
 {
     let a = mode(out, at, e.mode, e.object);
-    let b = number(out, a, b" version ", e.version as u64);
+    let b = number(out, a, b" version ", u64::from(e.version));
     value(out, b, b" value ", e.value)
 }
 
 fn rival(out: &mut [u8], at: usize, r: Rival) -> usize
     ensures { page out.new result ≡ inks (page out.old at) (rival_texts r) }
 {
-    let a = number(out, at, b" rival ", r.owner as u64);
-    number(out, a, b".", r.serial as u64)
+    let a = number(out, at, b" rival ", u64::from(r.owner));
+    number(out, a, b".", u64::from(r.serial))
 }
 
 // All entries, and all rivals, of a message in their order.
@@ -157,12 +157,8 @@ fn entries(out: &mut [u8], at: usize, m: &[u8], n: u8) -> usize
     ensures { page out.new result ≡ inks (page out.old at) (each_from (nth_entry_texts m.now) n 0) }
 {
     let mut a = at;
-    let mut i: u8 = 0;
-    while i < n {
-        let s = view::show(m, i);
-        let e = s.entry;
-        a = entry(out, a, e);
-        i = i + 1;
+    for i in 0..n {
+        a = entry(out, a, view::show(m, i).entry);
     }
     a
 }
@@ -171,12 +167,8 @@ fn rivals(out: &mut [u8], at: usize, m: &[u8], n: u8) -> usize
     ensures { page out.new result ≡ inks (page out.old at) (each_from (nth_rival_texts m.now) n 0) }
 {
     let mut a = at;
-    let mut i: u8 = 0;
-    while i < n {
-        let s = view::show(m, i);
-        let r = s.rival;
-        a = rival(out, a, r);
-        i = i + 1;
+    for i in 0..n {
+        a = rival(out, a, view::show(m, i).rival);
     }
     a
 }
@@ -186,16 +178,16 @@ fn route(out: &mut [u8], at: usize, h: Header, word: u8) -> usize
     ensures { page out.new result ≡ inks (page out.old at) (route_texts h word) }
 {
     let a = kind_word(out, at, h.kind, word);
-    let b = number(out, a, b" ", h.from as u64);
-    number(out, b, b" to ", h.to as u64)
+    let b = number(out, a, b" ", u64::from(h.from));
+    number(out, b, b" to ", u64::from(h.to))
 }
 
 fn name(out: &mut [u8], at: usize, h: Header) -> usize
     ensures { page out.new result ≡ inks (page out.old at) (name_texts h) }
 {
-    let a = number(out, at, b" for ", h.owner as u64);
-    let b = number(out, a, b".", h.serial as u64);
-    number(out, b, b" stamp ", h.stamp as u64)
+    let a = number(out, at, b" for ", u64::from(h.owner));
+    let b = number(out, a, b".", u64::from(h.serial));
+    number(out, b, b" stamp ", u64::from(h.stamp))
 }
 
 // A message as its view shows it. Ruled out: sender and receiver exchanged; a rival left out.

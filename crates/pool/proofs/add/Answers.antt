@@ -36,14 +36,7 @@ overflow_cast-n c = let x = c.args in
     omega arith
 
 pub returns-clause-number : goal.returns-clause-number
-unfolding add_after added
-returns-clause-number c = let x = c.args in
-    let l = x.pool.now in
-    let m = x.message.now in
-    let e : add_number l (length m) ≡ 0 = sym c.add_number-number.ensures ∙ c.if-number-ne0.false in
-    let n = c.count-n.ensures.0 in
-    let s = c.slot_place.ensures ∙ ap slot_place n in
-    sym e
+returns-clause-number c = let e = c.add_number-number.ensures in cc
 
 pub returns-clause-pool : goal.returns-clause-pool
 unfolding add_after added

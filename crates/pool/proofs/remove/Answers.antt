@@ -45,14 +45,7 @@ move_down-requires c = let x = c.args in
     omega arith
 
 pub returns-clause-number : goal.returns-clause-number
-unfolding remove_after removed
-returns-clause-number c = let x = c.args in
-    let l = x.pool.now in
-    let e : remove_number l x.k ≡ 0 = sym c.remove_number-number.ensures ∙ c.if-number-ne0.false in
-    let n = c.count-last.ensures.0 in
-    let i = c.from-i.ensures in
-    let s = c.slot_place.ensures ∙ ap slot_place i in
-    sym e
+returns-clause-number c = let e = c.remove_number-number.ensures in cc
 
 pub returns-clause-pool : goal.returns-clause-pool
 unfolding remove_after removed

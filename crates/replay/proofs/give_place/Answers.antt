@@ -11,8 +11,8 @@ use Rattle.replay.proofs.give_place.Goals as goal
 pub returns : goal.returns
 unfolding with_place
 returns c = let l = c.args.sheet.now in
-    let w = c.wide in
+    let w = c.from in
     let n = c.next-place in
     let v = n.ensures ∙ ap next c.cell.ensures in
     c.store-2.ensures ∙ ap (λ (d : List ℕ). set d (place_cell w.result) n.result) c.store.ensures
-    ∙ ap₂ (λ (o v : ℕ). set (set l count_cell v) (place_cell o) v) w.ensures.0 v
+    ∙ ap₂ (λ (o v : ℕ). set (set l count_cell v) (place_cell o) v) w.ensures v

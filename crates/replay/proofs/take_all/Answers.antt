@@ -9,30 +9,20 @@ use Rattle.replay.proofs.Steps.{taken_step}
 use Rattle.replay.proofs.take_all.Goals as goal
 
 pub loop-t-init : goal.loop-t-init
-loop-t-init c = (omega arith, refl, refl)
-
-pub overflow_add-t : goal.overflow_add-t
-overflow_add-t c = omega arith
-
-pub loop-t-smaller : goal.loop-t-smaller
-loop-t-smaller c = omega arith
+loop-t-init c = (refl, refl)
 
 pub loop-t-preserved : goal.loop-t-preserved
 loop-t-preserved c = let l = c.loop-t in
     let k = c.take in
     let o = c.args.o in
     let e : objects - (l.t + 1) ≡ objects - l.t - 1 = omega arith in (
-      omega arith,
-      k.auto.sheet ∙ l.invariant.1,
+      k.auto.sheet ∙ l.invariant.0,
       ap₂ (λ (n : ℕ) (d : List ℕ). all_taken n d o (l.t + 1)) e k.ensures
-          ∙ taken_step (objects - l.t) l.sheet o l.t (omega arith) ∙ l.invariant.2,
+          ∙ taken_step (objects - l.t) l.sheet o l.t (omega arith) ∙ l.invariant.1,
     )
-
-pub shape_of-sheet : goal.shape_of-sheet
-shape_of-sheet c = c.loop-t.invariant.1
 
 pub returns : goal.returns
 unfolding all_taken
 returns c = let l = c.loop-t in
     let e : objects - l.t ≡ 0 = omega arith in
-    ap (λ (n : ℕ). all_taken n l.sheet c.args.o l.t) (sym e) ∙ l.invariant.2
+    ap (λ (n : ℕ). all_taken n l.sheet c.args.o l.t) (sym e) ∙ l.invariant.1

@@ -10,4 +10,5 @@ returns c = simp (
   c.value.ensures,
   c.number-b.ensures,
   c.mode-a.ensures,
+  c.from.ensures,
 )

@@ -15,5 +15,5 @@ returns c = let x = c.args in
     let a = number_texts for_text x.h.owner in
     let b = number_texts dot_text x.h.serial in
     let q = page e.new.out e.result in
-    let two : q ≡ inks p (a ++ b) = behind p (page d.new.out d.result) q a b d.ensures e.ensures in
-    behind p q (page f.new.out f.result) (a ++ b) (number_texts stamp_text x.h.stamp) two f.ensures
+    let two : q ≡ inks p (a ++ b) = behind p (page d.new.out d.result) q a b (rw c.from.ensures at d.ensures) (rw c.from-2.ensures at e.ensures) in
+    behind p q (page f.new.out f.result) (a ++ b) (number_texts stamp_text x.h.stamp) two (rw c.from-3.ensures at f.ensures)

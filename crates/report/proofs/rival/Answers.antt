@@ -5,4 +5,4 @@ use Rattle.report.proofs.rival.Goals as goal
 
 pub returns : goal.returns
 unfolding inks rival_texts
-returns c = simp (inks_append, c.number.ensures, c.number-a.ensures)
+returns c = simp (inks_append, c.number.ensures, c.number-a.ensures, c.from.ensures, c.from-2.ensures)

@@ -10,23 +10,14 @@ use Rattle.report.proofs.rivals.Goals as goal
 pub loop-i-init : goal.loop-i-init
 loop-i-init c = let x = c.args in none_yet (nth_rival_texts x.m.now) x.n x.out.now x.at
 
-pub overflow_add-i : goal.overflow_add-i
-overflow_add-i c = omega arith
-
-pub loop-i-smaller : goal.loop-i-smaller
-loop-i-smaller c = omega arith
-
 pub loop-i-preserved : goal.loop-i-preserved
 loop-i-preserved c = let l = c.loop-i in
     let x = c.args in
     let e = c.rival-a in
-    one_more (nth_rival_texts x.m.now) x.n x.out.now x.at l.out l.a l.i e.new.out e.result c.loop-i-test.true l.invariant
-    (e.ensures ∙ ap (λ (s : Shown). inks (page l.out l.a) (rival_texts s.rival)) c.show-s.ensures)
-
-pub shape_of-out : goal.shape_of-out
-shape_of-out c = c.loop-i.invariant.long
+    one_more (nth_rival_texts x.m.now) x.n x.out.now x.at l.out l.a l.i e.new.out e.result (omega arith) l.invariant
+    (e.ensures ∙ ap (λ (s : Shown). inks (page l.out l.a) (rival_texts s.rival)) c.show.ensures)
 
 pub returns : goal.returns
 returns c = let l = c.loop-i in
     let x = c.args in
-    all_put (nth_rival_texts x.m.now) x.n x.out.now x.at l.out l.a l.i (omega (arith, c.loop-i-test.false)) l.invariant
+    all_put (nth_rival_texts x.m.now) x.n x.out.now x.at l.out l.a l.i (omega arith) l.invariant

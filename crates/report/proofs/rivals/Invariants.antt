@@ -6,6 +6,3 @@ use Rattle.report.proofs.rivals.Given as goal
 
 abbrev pub invariant-loop-i : goal.invariant-loop-i
 invariant-loop-i l = Going (nth_rival_texts l.m) l.n l.initial.out l.at l.out l.a l.i
-
-abbrev pub decreases-loop-i : goal.decreases-loop-i
-decreases-loop-i l = l.n - l.i

@@ -5,4 +5,4 @@ use Rattle.report.proofs.route.Goals as goal
 
 pub returns : goal.returns
 unfolding route_texts inks
-returns c = simp (inks_append, c.number.ensures, c.number-b.ensures, c.kind_word-a.ensures)
+returns c = simp (inks_append, c.number.ensures, c.number-b.ensures, c.kind_word-a.ensures, c.from.ensures, c.from-2.ensures)

@@ -1,7 +1,5 @@
 -- `judge::judge::older_among`: found so far is that of the owners passed.
 use mathlib.Core.Path.{◌≡◌}
-use Prim.Native.Nat.{◌-◌, ◌≤◌}
-use Rattle.numbers.specs.Sizes.{nodes}
 use Rattle.judge.specs.Judge.{some_below, older_in}
 use Rattle.judge.proofs.judge.older_among.Given as goal
 

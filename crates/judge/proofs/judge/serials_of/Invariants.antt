@@ -1,6 +1,5 @@
 -- `judge::judge::serials_of`: the serials of the owners passed.
 use mathlib.Core.Path.{◌≡◌}
-use Prim.Native.Nat.{◌-◌, ◌≤◌}
 use lib.ListN.{length}
 use Rattle.numbers.specs.Sizes.{nodes}
 use Rattle.judge.specs.Judge.{named_below}

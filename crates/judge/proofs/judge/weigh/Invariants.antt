@@ -1,5 +1,4 @@
 -- `judge::judge::weigh`: found so far, and at the entries from here on.
-use Prim.Native.Nat.{◌-◌, ◌≤◌}
 use mathlib.Core.Path.{◌≡◌}
 use mathlib.Core.Bool.{◌||◌}
 use Rattle.wire.specs.Decode.{owner_of, decode}

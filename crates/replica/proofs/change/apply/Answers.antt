@@ -36,9 +36,6 @@ loop-i-preserved c = let l = c.loop-i in
       (every_next raisable b l.i (omega (arith, c.entries-i-end.ensures.0)) l.invariant.2).1,
     )
 
-pub shape_of-image : goal.shape_of-image
-shape_of-image c = c.loop-i.invariant.0
-
 pub returns : goal.returns
 unfolding decode
 returns c = let l = c.loop-i in

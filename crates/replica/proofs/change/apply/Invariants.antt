@@ -1,6 +1,5 @@
 -- `replica::change::apply`: the entries passed are applied, and the rest is to be.
 use mathlib.Core.Path.{◌≡◌}
-use Prim.Native.Nat.{◌-◌, ◌≤◌}
 use lib.ListN.{length}
 use Rattle.wire.specs.Decode.{decode, owner_of, serial_of}
 use mathlib.Core.Bool.{true}

@@ -21,9 +21,6 @@ loop-i-preserved c = let l = c.loop-i in
       rw (k.ensures, c.nth_entry.ensures, c.owner-o.ensures) h,
     )
 
-pub shape_of-image : goal.shape_of-image
-shape_of-image c = c.loop-i.invariant.0
-
 pub returns : goal.returns
 unfolding decode
 returns c = let l = c.loop-i in

@@ -1,6 +1,5 @@
 -- `replica::change::hold`: the copies of the entries passed are held, and the rest is to be.
 use mathlib.Core.Path.{◌≡◌}
-use Prim.Native.Nat.{◌-◌, ◌≤◌}
 use lib.ListN.{length}
 use Rattle.wire.specs.Decode.{decode}
 use Rattle.wire.specs.Decode.{owner_of}
