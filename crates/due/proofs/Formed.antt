@@ -25,7 +25,7 @@ use Rattle.coordinator.specs.State.{open_phase, voting_phase, finishing_phase, c
 use Rattle.due.specs.Kind.{no_kind, open_due, voting_due, finishing_due, due_kind, due_refusals}
 use Rattle.coordinator.proofs.Refusals.{clear}
 use Rattle.clauses.proofs.Parts.{by_test, true-T, neither_right}
-use Rattle.clauses.proofs.Places.{at, across_none}
+use Rattle.clauses.proofs.Places.{across_none}
 use Rattle.clauses.proofs.Facts.{Full, Meets}
 use Rattle.clauses.proofs.Fits.{Widths}
 use Rattle.due.specs.Due.{entry_for, entries_of, fetch_to, ask_to, outcome_to, yield_to, message_due, write_refusals, is_due, due_written}

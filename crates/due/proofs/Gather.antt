@@ -10,7 +10,6 @@ use borrow.Author.Tests.{eqb-true, eqb-false, ne_eqb, ltb-true, ltb-false}
 use lib.ListN.{length, get_or, drop, set, replicate, length-append, get_or-replicate}
 use lib.Seq.{take-suc-set, get_or-set_same, get_or-set_other}
 use Rattle.numbers.specs.Sizes.{objects as objectsEnd, most_open}
-use Rattle.mask.proofs.Tests.{and_left, T_true}
 use Rattle.wire.specs.declared.Entry.{Entry}
 use Rattle.letters.specs.Write.{first_entries}
 use Rattle.letters.proofs.Sending.{entries_take}
@@ -18,7 +17,7 @@ use Rattle.coordinator.specs.declared.Object.{Object}
 use Rattle.coordinator.specs.declared.Coordinator.{Coordinator}
 use Rattle.coordinator.specs.State.{no_object, across, here_else, place_in, place_of, object_at, is_open}
 use Rattle.coordinator.proofs.Across.{across_turn, across_start}
-use Rattle.clauses.proofs.Parts.{on_cond, true-T}
+use Rattle.clauses.proofs.Parts.{on_cond}
 use Rattle.due.specs.declared.Gathered.{Gathered}
 use Rattle.due.specs.Gather.{Lists}
 use Rattle.due.specs.Due.{entry_for, with_next, entries_below}
@@ -51,9 +50,6 @@ listed_all g es l = entries_take g.count g.entries (ap length l.same ∙ sym l.c
 pub second_fits : (a : Bool) (k n : ℕ) → (a && ltb k n) ≡ true → k < n
 second_fits true k n t = ltb-true k n t
 second_fits false k n t = absurd (let z : ◌≡◌ {A = ℕ} 0 1 = cc in let w : ⊥ = omega arith in w)
-
-pub first_fits : (k n : ℕ) (b : Bool) → (ltb k n && b) ≡ true → k < n
-first_fits k n b t = ltb-true k n (T_true (ltb k n) (and_left (ltb k n) b (true-T (ltb k n && b) t)))
 
 pub below_none : (c : Coordinator) → entries_below c 0 ≡ []
 unfolding entries_below

@@ -59,25 +59,15 @@ pub fn no_entries() -> [Entry; MOST_OPEN]
     [e; MOST_OPEN]
 }
 
-// A byte as an index.
-fn wide(x: u8) -> usize
-    ensures { result ≡ x }
-{
-    x as usize
-}
-
 // Where each object stands among the open ones, 8 where it is not open. The loop goes down over the places, so that the first of two counts.
 fn places_of(objects: [Object; MOST_OPEN], count: usize) -> [u8; OBJECTS]
     ensures result_len { length result ≡ objectsEnd }
     ensures by_index { (n : ℕ) → n < objectsEnd → get_or result n 0 ≡ place_in objects count n }
 {
     let mut places = [8u8; OBJECTS];
-    let mut i = MOST_OPEN;
-    while 0 < i {
-        i = i - 1;
-        let x = objects[i];
-        let at = wide(x.object);
-        if both(i < count, at < OBJECTS) {
+    for i in (0..MOST_OPEN).rev() {
+        let at = usize::from(objects[i].object);
+        if i < count && at < OBJECTS {
             places[at] = i as u8;
         }
     }
@@ -92,13 +82,11 @@ fn entries_of(c: Coordinator) -> Gathered
     let places = places_of(objects, c.count);
     let mut entries = no_entries();
     let mut count: usize = 0;
-    let mut n: usize = 0;
-    while n < OBJECTS {
-        let p = wide(places[n]);
-        n = n + 1;
-        if both(p < MOST_OPEN, count < MOST_OPEN) {
+    for place in &places {
+        let p = usize::from(*place);
+        if p < MOST_OPEN && count < MOST_OPEN {
             entries[count] = entry_for(objects[p]);
-            count = count + 1;
+            count += 1;
         }
     }
     Gathered { entries, count }

@@ -1,13 +1,12 @@
 -- What is due, on bytes: the next open object is the least number from `lo` on, and the entries are gathered by going from one to the next.
 use mathlib.Core.Path.{◌≡◌, refl, sym, ap, ◌∙◌, subst}
-use mathlib.Core.Bool.{Bool, true, false, cond, ◌&&◌}
+use mathlib.Core.Bool.{true, false, ◌&&◌}
 use mathlib.Core.List.{List, [], ◌∷◌, ◌++◌}
 use Prim.Native.Nat.{ℕ, zero, suc, ◌+◌, ◌*◌, ◌-◌, ◌≤◌, ◌<◌}
 use native.Mathlib.Omega.{arith}
-use lib.Dec.{ltb, leb}
+use lib.Dec.{ltb}
 use lib.ListN.{length, get_or, set, length-append}
-use borrow.Author.Count.{below_more}
-use borrow.Author.Tests.{leb-true, leb-false, ltb-true, ltb-false, lt-ltb, le-ltb}
+use borrow.Author.Tests.{ltb-true, lt-ltb, le-ltb}
 use Rattle.numbers.specs.Sizes.{objects as objectsEnd, most_open}
 use Rattle.wire.specs.declared.Entry.{Entry}
 use Rattle.coordinator.specs.declared.Object.{Object}
@@ -29,26 +28,6 @@ use Rattle.record.proofs.Kept.{checked_meets}
 -- no object of the first i places stands from lo up to m
 abbrev pub Past : List ℕ → ℕ → ℕ → ℕ → Type 0
 Past l lo m i = (j : ℕ) → j < i → lo ≤ get_or l (43 + 25 * j) 0 → m ≤ get_or l (43 + 25 * j) 0
-
-pub past_none : (l : List ℕ) (lo m : ℕ) → Past l lo m 0
-past_none l lo m j h = absurd (let z : ⊥ = omega arith in z)
-
--- the nearer of two numbers
-near : (lo x m : ℕ) (a b : Bool) → leb lo x ≡ a → ltb x m ≡ b → lo ≤ m
-    → (lo ≤ cond (a && b) x m) × ((cond (a && b) x m ≤ m) × (lo ≤ x → cond (a && b) x m ≤ x))
-near lo x m true true e f h = let q = ltb-true x m f in (leb-true lo x e, (omega arith, λ k. omega arith))
-near lo x m true false e f h = (h, (omega arith, λ k. ltb-false x m f))
-near lo x m false b e f h = let q = leb-false lo x e in (h, (omega arith, λ k. absurd (let z : ⊥ = omega arith in z)))
-
-pub past_next : (l : List ℕ) (lo m i r : ℕ) → r ≡ cond (leb lo (get_or l (43 + 25 * i) 0) && ltb (get_or l (43 + 25 * i) 0) m) (get_or l (43 + 25 * i) 0) m
-    → lo ≤ m → Past l lo m i → (lo ≤ r) × ((r ≤ m) × Past l lo r (i + 1))
-past_next l lo m i r e h p =
-    let x : ℕ = get_or l (43 + 25 * i) 0 in
-    let n : ℕ = cond (leb lo x && ltb x m) x m in
-    let q = near lo x m (leb lo x) (ltb x m) refl refl h in
-    let w : n ≤ m = q.1.0 in
-    subst (λ (k : ℕ). (lo ≤ k) × ((k ≤ m) × Past l lo k (i + 1))) (sym e)
-    (q.0, (w, below_more (λ (j : ℕ). lo ≤ get_or l (43 + 25 * j) 0 → n ≤ get_or l (43 + 25 * j) 0) i (λ j b k. let y = p j b k in omega arith) q.1.1))
 
 stands_at : (l : List ℕ) (j : ℕ) → j < most_open → (at (record_of l).objects j).object ≡ get_or l (43 + 25 * j) 0
 unfolding record_of objects_of object_of

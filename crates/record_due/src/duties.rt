@@ -135,13 +135,11 @@ fn next_open(bytes: &[u8], lo: u8) -> u8
 {
     let n = count(bytes);
     let mut m = OBJECTS_END;
-    let mut i = 0;
-    let mut at = OBJECTS_PLACE;
-    while i < n {
-        let x = bytes[at];
-        m = pick(both(lo <= x, x < m), x, m);
-        i += 1;
-        at += OBJECT_SIZE;
+    for i in 0..n {
+        let x = bytes[OBJECTS_PLACE + OBJECT_SIZE * i];
+        if lo <= x && x < m {
+            m = x;
+        }
     }
     m
 }
@@ -155,6 +153,7 @@ fn entries_in(bytes: &[u8]) -> Gathered
     let mut entries = due::no_entries();
     let mut k: usize = 0;
     let mut lo: u8 = 0;
+    // Stays a while: a turn that meets no open object goes on from the next number and leaves k.
     while k < n {
         let m = next_open(bytes, lo);
         if OBJECTS_END <= m {

@@ -9,5 +9,7 @@ use Rattle.record.proofs.verify.places_meet.Goals as goal
 pub returns : goal.returns
 returns c =
     let x = c.args in
-    all_from_yields_List (place_ok x.bytes.now) _ _ _ c.all.ensures.ran (YieldsList-from_range 0 x.count x.count (cc) (omega arith)) (λ i b q k. search (rules, tests))
+    all_from_yields_List (place_ok x.bytes.now) _ _ _ c.all.ensures.ran
+    (YieldsList-from_range 0 x.count x.count (cc) (omega arith))
+    (λ i b q k. search (rules, tests))
     ∙ sym (below_listed (place_ok x.bytes.now) x.count)
