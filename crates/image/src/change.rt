@@ -4,13 +4,14 @@ ghost use Rattle.image.specs.Layout.{shape, image_size, holder_field};
 ghost use Rattle.image.specs.Field.{Near, changed, changed_all};
 ghost use Rattle.image.specs.Blank.{counted, blank, blank_number};
 ghost use Rattle.image.specs.Change.{listing, add_reader, add_writer, freeing, free, unlist};
+ghost use Rattle.numbers.specs.Outcome.{number_of};
 ghost use Rattle.image.specs.Pass.{struck};
 
 use crate::fields::{get_u16, here_u8, here_u16, put_here_u8, put_here_u16, put_u8, put_u16};
 use crate::read::{holder, readers, writers};
 use crate::write::{set_holder, set_readers, set_writers};
 use crate::{AUTHOR, Field, HOLDER, OBJECT_COUNT, OWNER_COUNT, READERS, SIZE, WRITERS};
-use numbers::{NOBODY, NODES_END, OBJECTS_END};
+use numbers::{NOBODY, NODES_END, OBJECTS_END, Refusal};
 
 // The two counts are set.
 fn count(image: &mut [u8])
@@ -30,20 +31,21 @@ fn set_all(image: &mut [u8], f: Field, v: u8)
     }
 }
 
-// Makes 2,935 bytes the blank image; 1 and nothing altered for another length.
+// Makes 2,935 bytes the blank image; refused, and nothing altered, for another length.
 // Ruled out: holders left 0, which is node 0; a byte of the old image kept.
-pub fn blank(image: &mut [u8]) -> u8
-    ensures number { result ≡ blank_number image.old }
+#[tactic(auto, unfolding(crate::specs::Blank::blank, crate::specs::Blank::blank_number))]
+pub fn blank(image: &mut [u8]) -> Result<(), Refusal>
+    ensures number { number_of result ≡ blank_number image.old }
     ensures image { image.new ≡ blank image.old }
 {
     if image.len() != SIZE {
-        return numbers::LENGTH;
+        return Err(Refusal::Length);
     }
     image.fill(0);
     count(image);
     set_all(image, HOLDER, NOBODY);
     set_all(image, AUTHOR, NOBODY);
-    0
+    Ok(())
 }
 
 // Owner o joins the list f of item t.

@@ -2,6 +2,7 @@
 ghost use Rattle.std.specs.Prelude.{◌≡◌, ◌&&◌, length};
 ghost use Rattle.image.specs.Layout.{shape, image_size};
 ghost use Rattle.image.specs.Valid.{each, counts_ok, state_ok, serial_ok, authors_ok, valid, check};
+ghost use Rattle.numbers.specs.Outcome.{number_of};
 ghost use Rattle.image.specs.Pass.{holder_fits, copy_fits, author_fits, marked, Walked};
 
 use crate::fields::{get_u8, here_u8, here_u16};
@@ -10,7 +11,7 @@ use crate::{
     AUTHOR, AUTHOR_HIGH, AUTHOR_LOW, HELD, HOLDER, LISTED, OBJECT_COUNT, OVER, OWNER_COUNT, Owner,
     READERS, REFUSED, SIZE, WRITERS, Walk,
 };
-use numbers::{NOBODY, NODES_END, OBJECTS_END, UNKNOWN, both, either};
+use numbers::{NOBODY, NODES_END, OBJECTS_END, Refusal, UNKNOWN, both, either};
 
 // The two counts are 128 and 13.
 fn counts_ok(image: &[u8]) -> bool
@@ -121,13 +122,17 @@ fn is_valid(image: &[u8]) -> bool
     both(formed, authors_ok(image))
 }
 
-// The number of an image: 1 another length, 2 a clause is broken, 0 neither.
-// Ruled out: a listed bit accepted whose owner is held; 2 for bytes of another length.
-pub fn check(image: &[u8]) -> u8
-    ensures { result ≡ check image.now }
+// Whether bytes are an image: refused for another length, and where a clause is broken.
+// Ruled out: a listed bit accepted whose owner is held; 'damaged' for bytes of another length.
+#[tactic(auto, unfolding(crate::specs::Valid::check_as))]
+pub fn check(image: &[u8]) -> Result<(), Refusal>
+    ensures { number_of result ≡ check image.now }
 {
     if image.len() != SIZE {
-        return numbers::LENGTH;
+        return Err(Refusal::Length);
     }
-    if is_valid(image) { 0 } else { numbers::DAMAGED }
+    if !is_valid(image) {
+        return Err(Refusal::Damaged);
+    }
+    Ok(())
 }

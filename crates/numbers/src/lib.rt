@@ -7,7 +7,7 @@ ghost use Rattle.numbers.specs.Refusal.{lower};
 mod refusals;
 mod sizes;
 
-pub use refusals::{Refusal, number};
+pub use refusals::{Refusal, first_refusal, number};
 pub use sizes::{
     EVERY_NODE, HIGHEST, LONGEST_MESSAGE, MOST_OPEN, MOST_WAITING, NOBODY, NODES, NODES_END,
     OBJECTS, OBJECTS_END, SHORTEST_MESSAGE, UNKNOWN,

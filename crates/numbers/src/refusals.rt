@@ -1,6 +1,7 @@
 // Why a call is refused, and the number that a call answers.
 ghost use Rattle.std.specs.Prelude.{◌≡◌};
 ghost use Rattle.numbers.specs.Outcome.{code_of, number_of};
+ghost use Rattle.numbers.specs.Refusal.{lower};
 
 // The words of the table of numbers. As a byte each is its number.
 #[derive(Clone, Copy, PartialEq, Eq)]
@@ -37,5 +38,17 @@ pub fn number<T: Drop>(outcome: Result<T, Refusal>) -> u8
     match outcome {
         Ok(_) => 0,
         Err(refusal) => u8::from(refusal),
+    }
+}
+
+// Of what two tests came to, the refusal with the lower number. Ruled out: the one with the higher number; none where one of them refuses.
+#[tactic(auto, unfolding(crate::specs::Refusal::lower))]
+pub fn first_refusal(a: Result<(), Refusal>, b: Result<(), Refusal>) -> Result<(), Refusal>
+    ensures { number_of result ≡ lower (number_of a) (number_of b) }
+{
+    match (a, b) {
+        (Err(x), Err(y)) => Err(if u8::from(x) < u8::from(y) { x } else { y }),
+        (Ok(()), _) => b,
+        (_, Ok(())) => a,
     }
 }

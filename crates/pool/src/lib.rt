@@ -1,12 +1,13 @@
 // The pool (document 01): the messages that wait, in lent bytes: a count, then 128 slots of a length and 128 bytes.
 #![tactic(auto)]
 
-ghost use Rattle.std.specs.Prelude.{◌≡◌, ◌+◌, ◌≤◌, ◌<◌, length};
-ghost use Rattle.numbers.specs.Sizes.{longest_message};
-ghost use Rattle.pool.specs.Pool.{message_place, count, length_at, check, slot_place, slot_size};
+ghost use Rattle.std.specs.Prelude.{◌≡◌, ◌+◌, ◌≤◌, ◌<◌, length, IfOk};
+ghost use Rattle.numbers.specs.Sizes.{longest_message, most_waiting};
+ghost use Rattle.numbers.specs.Outcome.{number_of};
+ghost use Rattle.pool.specs.Pool.{message_place, count, length_at, check, slot_place, slot_size, pool_size};
 ghost use Rattle.pool.specs.Change.{stored, add_number, add_after, moved, remove_number, remove_after, blank_number, blank_after};
 
-use numbers::{LONGEST_MESSAGE, MOST_WAITING, refuse};
+use numbers::{LONGEST_MESSAGE, MOST_WAITING, Refusal};
 
 // Sizes in bytes: a slot, the whole pool.
 const SLOT: usize = 1 + LONGEST_MESSAGE;
@@ -43,12 +44,19 @@ pub fn length(pool: &[u8], k: u8) -> usize
     if n <= LONGEST_MESSAGE { n } else { 0 }
 }
 
-// The number of a pool: 1 another length, 2 an impossible count, 0 neither. Ruled out: 2 for bytes of another length; 2 for a full pool.
-pub fn check(pool: &[u8]) -> u8
-    ensures { result ≡ check pool.now }
+// Whether bytes are a pool: refused for another length, and for an impossible count. Ruled out: 'damaged' for bytes of another length; a full pool
+// refused.
+#[tactic(auto, unfolding(crate::specs::Pool::check))]
+pub fn check(pool: &[u8]) -> Result<(), Refusal>
+    ensures { number_of result ≡ check pool.now }
 {
-    let bad = refuse(numbers::DAMAGED, MOST_WAITING < count(pool), 0);
-    refuse(numbers::LENGTH, pool.len() != SIZE, bad)
+    if pool.len() != SIZE {
+        return Err(Refusal::Length);
+    }
+    if MOST_WAITING < count(pool) {
+        return Err(Refusal::Damaged);
+    }
+    Ok(())
 }
 
 // Stores a message's length and bytes in the slot that starts at a place.
@@ -61,30 +69,33 @@ fn store(pool: &mut [u8], at: usize, message: &[u8])
     pool[at + 1..at + 1 + n].copy_from_slice(message);
 }
 
-// The number of an addition.
-fn add_number(pool: &[u8], size: usize) -> u8
-    ensures { result ≡ add_number pool.now size }
+// Whether a message of a size may be added.
+#[tactic(auto, unfolding(crate::specs::Change::add_number, crate::specs::Change::add_refusals, crate::specs::Pool::check))]
+fn may_add(pool: &[u8], size: usize) -> Result<(), Refusal>
+    ensures number { number_of result ≡ add_number pool.now size }
+    ensures room { IfOk result (λ _. (length pool.now ≡ pool_size) × (size ≤ longest_message) × (count pool.now < most_waiting)) }
 {
-    let c = check(pool);
-    let room = refuse(numbers::POOL_FULL, MOST_WAITING <= count(pool), 0);
-    let bad = refuse(numbers::DAMAGED, c == numbers::DAMAGED, room);
-    let long = refuse(numbers::LENGTH, LONGEST_MESSAGE < size, bad);
-    refuse(numbers::LENGTH, c == numbers::LENGTH, long)
+    if pool.len() != SIZE || LONGEST_MESSAGE < size {
+        return Err(Refusal::Length);
+    }
+    check(pool)?;
+    if MOST_WAITING <= count(pool) {
+        return Err(Refusal::PoolFull);
+    }
+    Ok(())
 }
 
 // Puts a message at the pool's end. Ruled out: it goes to the front; the slot's old bytes stay and only the count rises.
-pub fn add(pool: &mut [u8], message: &[u8]) -> u8
-    ensures number { result ≡ add_number pool.old (length message.now) }
+#[tactic(auto, unfolding(crate::specs::Change::add_after))]
+pub fn add(pool: &mut [u8], message: &[u8]) -> Result<(), Refusal>
+    ensures number { number_of result ≡ add_number pool.old (length message.now) }
     ensures pool { pool.new ≡ add_after pool.old message.now }
 {
-    let number = add_number(pool, message.len());
-    if number != 0 {
-        return number;
-    }
+    may_add(pool, message.len())?;
     let n = count(pool);
     store(pool, slot_place(n), message);
     octets::put_u8(pool, 0, (n + 1) as u8);
-    0
+    Ok(())
 }
 
 // Moves n bytes one slot down, to a place.
@@ -96,39 +107,42 @@ fn move_down(pool: &mut [u8], at: usize, n: usize)
     pool.copy_within(from..from + n, at);
 }
 
-// The number of a removal.
-fn remove_number(pool: &[u8], k: u8) -> u8
-    ensures { result ≡ remove_number pool.now k }
+// Whether a k-th message may be removed.
+#[tactic(auto, unfolding(crate::specs::Change::remove_number, crate::specs::Change::remove_refusals, crate::specs::Pool::check))]
+fn may_remove(pool: &[u8], k: u8) -> Result<(), Refusal>
+    ensures number { number_of result ≡ remove_number pool.now k }
+    ensures there { IfOk result (λ _. (length pool.now ≡ pool_size) × (k < count pool.now) × (count pool.now ≤ most_waiting)) }
 {
-    let c = check(pool);
-    let none = refuse(numbers::OUT_OF_TURN, count(pool) <= usize::from(k), 0);
-    refuse(c, c != 0, none)
+    check(pool)?;
+    if count(pool) <= usize::from(k) {
+        return Err(Refusal::OutOfTurn);
+    }
+    Ok(())
 }
 
 // Removes the k-th message. Ruled out: its neighbour goes; the order of those behind it changes; the count stays.
-pub fn remove(pool: &mut [u8], k: u8) -> u8
-    ensures number { result ≡ remove_number pool.old k }
+#[tactic(auto, unfolding(crate::specs::Change::remove_after))]
+pub fn remove(pool: &mut [u8], k: u8) -> Result<(), Refusal>
+    ensures number { number_of result ≡ remove_number pool.old k }
     ensures pool { pool.new ≡ remove_after pool.old k }
 {
-    let number = remove_number(pool, k);
-    if number != 0 {
-        return number;
-    }
+    may_remove(pool, k)?;
     let last = count(pool) - 1;
     let i = usize::from(k);
     move_down(pool, slot_place(i), SLOT * (last - i));
     octets::put_u8(pool, 0, last as u8);
-    0
+    Ok(())
 }
 
 // Makes a pool in which nothing waits: all zeros. Ruled out: a byte left as it was; a byte written where the length is another.
-pub fn blank(pool: &mut [u8]) -> u8
-    ensures number { result ≡ blank_number pool.old }
+#[tactic(auto, unfolding(crate::specs::Change::blank, crate::specs::Change::blank_number, crate::specs::Change::blank_after))]
+pub fn blank(pool: &mut [u8]) -> Result<(), Refusal>
+    ensures number { number_of result ≡ blank_number pool.old }
     ensures pool { pool.new ≡ blank_after pool.old }
 {
     if pool.len() != SIZE {
-        return numbers::LENGTH;
+        return Err(Refusal::Length);
     }
     parts::zero(pool);
-    0
+    Ok(())
 }

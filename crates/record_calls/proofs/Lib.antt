@@ -1,2 +1,1 @@
 -- A call's number found ahead.
-pub mod Number

@@ -4,11 +4,12 @@ ghost use Rattle.wire.specs.Formed.{counts_ok, direction_ok, content_ok, entry_o
 ghost use Rattle.wire.specs.Encode.{entry_size, rival_size, size_with};
 ghost use Rattle.wire.specs.Decode.{kind_of, entry_at, rival_at, items_from, entries_place, accepted, check_of};
 ghost use Rattle.wire.specs.Headed.{headed, head_ok};
+ghost use Rattle.numbers.specs.Outcome.{number_of};
 ghost use Rattle.wire.specs.Run.{run, object_of, owner_in, word_with};
 
 use crate::read::{count_at, entries, entry_at, head, kind, rival_at, word_at};
 use crate::{ENTRY, Entry, HEADER, Head, RIVAL, Rival};
-use numbers::{HIGHEST, LONGEST_MESSAGE, NODES_END, OBJECTS_END, SHORTEST_MESSAGE, both};
+use numbers::{HIGHEST, LONGEST_MESSAGE, NODES_END, OBJECTS_END, Refusal, SHORTEST_MESSAGE, both};
 
 // The counts of a vote: a no (word 0) names no rivals.
 // Ruled out: a no with a rival; a yes with 13 rivals.
@@ -236,16 +237,17 @@ fn is_accepted(s: &[u8]) -> bool
     }
 }
 
-// The number of a received message: 1 length, 3 garbled, 0 neither.
-// Ruled out: bytes left over accepted; a rival that is the owner accepted; 3 for a message of 14 bytes.
-pub fn check(s: &[u8]) -> u8
-    ensures { result ≡ check_of s.now }
+// Whether bytes are a message: refused for their length, and where they are garbled.
+// Ruled out: bytes left over accepted; a rival that is the owner accepted; 'garbled' for a message of 14 bytes.
+#[tactic(auto, unfolding(crate::specs::Decode::check_of))]
+pub fn check(s: &[u8]) -> Result<(), Refusal>
+    ensures { number_of result ≡ check_of s.now }
 {
-    if s.len() < SHORTEST_MESSAGE {
-        return numbers::LENGTH;
+    if s.len() < SHORTEST_MESSAGE || LONGEST_MESSAGE < s.len() {
+        return Err(Refusal::Length);
     }
-    if LONGEST_MESSAGE < s.len() {
-        return numbers::LENGTH;
+    if !is_accepted(s) {
+        return Err(Refusal::Garbled);
     }
-    if is_accepted(s) { 0 } else { numbers::GARBLED }
+    Ok(())
 }
