@@ -1,6 +1,6 @@
 -- Rivals given by owner: one owner at a time.
 use mathlib.Core.Path.{◌≡◌, refl, sym, ap, ap₂, ◌∙◌}
-use mathlib.Core.Bool.{Bool, true, false, cond}
+use mathlib.Core.Bool.{Bool, true, false, cond, not}
 use mathlib.Core.List.{List, [], ◌∷◌, ◌++◌, append_assoc}
 use Prim.Native.Nat.{ℕ, zero, suc, ◌+◌, ◌*◌, ◌≤◌, ◌<◌}
 use native.Mathlib.Omega.{arith}
@@ -9,6 +9,8 @@ use lib.Dec.{eqb}
 use borrow.Author.Tests.{eq-eqb, ne_eqb}
 use lib.ListN.{length, get_or, set, take, drop, replicate, length-append, drop_of_length-le}
 use lib.Seq.{sets, drop-cons}
+use Rattle.std.specs.List.{count_by}
+use Rattle.std.proofs.lemmas.List.Sums.{sum_by-cons}
 use Rattle.wire.specs.declared.Rival.{Rival}
 use Rattle.wire.specs.Encode.{encode_entry, encode_rival, encode_word, together, section, encode_header, encode}
 use Rattle.wire.specs.Message.{Message}
@@ -33,6 +35,19 @@ rivals_step i ss h =
 pub rivals_end : (i : ℕ) (ss : List ℕ) → length ss ≤ i → rivals_by i (drop i ss) ≡ []
 unfolding rivals_by
 rivals_end i ss h = ap (rivals_by i) (drop_of_length-le ss h)
+
+-- how many there are, counted by the serials that are not 0
+pub rivals_count : (o : ℕ) (ss : List ℕ) → count_by (λ s. not (eqb s 0)) ss ≡ length (rivals_by o ss)
+unfolding rivals_by
+rivals_count o [] = refl
+rivals_count o (s ∷ ss) =
+    sum_by-cons (λ n. cond (not (eqb n 0)) 1 0) s ss
+    ∙ ap₂ ◌+◌ (one (eqb s 0) (record { owner = o; serial = s })) (rivals_count (o + 1) ss)
+    ∙ sym (length-append (one_rival o s) (rivals_by (o + 1) ss))
+  where
+    one : (b : Bool) (x : Rival) → cond (not b) 1 0 ≡ length (cond b [] (x ∷ []))
+    one true x = refl
+    one false x = refl
 
 pub rivals_length : (o : ℕ) (ss : List ℕ) → length (rivals_by o ss) ≤ length ss
 unfolding rivals_by

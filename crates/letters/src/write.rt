@@ -1,5 +1,5 @@
 // Messages written, one writer for each kind. The fields decide whether a message is well formed; only then are its bytes put into the buffer.
-ghost use Rattle.std.specs.Prelude.{◌≡◌, cond, ◌&&◌, [], ◌∷◌, ◌+◌, ◌*◌, ◌≤◌, ◌<◌, min, eqb, ltb, length, get_or, take};
+ghost use Rattle.std.specs.Prelude.{◌≡◌, cond, ◌&&◌, [], ◌∷◌, ◌+◌, ◌*◌, ◌≤◌, ◌<◌, eqb, ltb, length, get_or, take};
 ghost use Rattle.std.proofs.lemmas.List.Edits.{sets};
 ghost use Rattle.wire.specs.Decode.{entries_place};
 ghost use Rattle.numbers.specs.Sizes.{nodes, most_open, longest_message};
@@ -52,13 +52,9 @@ fn put_entries(out: &mut [u8], entries: [Entry; MOST_OPEN], n: usize)
     ensures out_after { out.new ≡ sets out.old entries_place (together encode_entry (take n entries)) }
     ensures entries_len { length (take n entries) ≡ n }
 {
-    let mut i = 0;
-    while i < n {
-        let e = entries[i];
+    for (i, entry) in entries[..n].iter().enumerate() {
         let at = HEADER + 1 + ENTRY * i;
-        let end = at + ENTRY;
-        put_entry(&mut out[at..end], e);
-        i += 1;
+        put_entry(&mut out[at..at + ENTRY], *entry);
     }
 }
 
@@ -82,21 +78,11 @@ fn put_rivals(out: &mut [u8], serials: [u32; NODES]) -> usize
     ensures value { result ≡ 14 + 5 * length (rivals_by 0 serials) }
     ensures out_after { out.new ≡ sets out.old 14 (together encode_rival (rivals_by 0 serials)) }
 {
-    let mut i: u8 = 0;
     let mut next = HEADER + 2;
-    while i < NODES_END {
-        let k = i as usize;
-        next = put_by_owner(out, next, i, serials[k]);
-        i += 1;
+    for i in 0..NODES_END {
+        next = put_by_owner(out, next, i, serials[usize::from(i)]);
     }
     next
-}
-
-// 1 for a rival, 0 for none.
-fn counts(serial: u32) -> usize
-    ensures { result ≡ length (one_rival 0 serial) }
-{
-    if serial == 0 { 0 } else { 1 }
 }
 
 // How many rivals there are.
@@ -104,13 +90,7 @@ fn count_rivals(serials: [u32; NODES]) -> usize
     ensures value { result ≡ length (rivals_by 0 serials) }
     ensures upper_bound { result ≤ nodes }
 {
-    let mut n: usize = 0;
-    let mut i = 0;
-    while i < NODES {
-        n += counts(serials[i]);
-        i += 1;
-    }
-    n
+    serials.iter().filter(|serial| **serial != 0).count()
 }
 
 // The words with their count; the message's length.
@@ -233,12 +213,7 @@ fn no_rival(serials: [u32; NODES], owner: u8) -> bool
     ensures value { result ≡ eqb (get_or serials owner 0) 0 }
     ensures serials_len { length serials ≡ nodes }
 {
-    if owner < NODES_END {
-        let i = owner as usize;
-        serials[i] == 0
-    } else {
-        true
-    }
+    NODES_END <= owner || serials[usize::from(owner)] == 0
 }
 
 // The first n entries of an ask ascend strictly, and each is well formed; those of a commit are the same.
@@ -247,24 +222,14 @@ fn array_ok(entries: [Entry; MOST_OPEN], n: usize) -> bool
     ensures value { result ≡ run object_of (entry_ok 3) 0 (take n entries) }
     ensures entries_len { length (take n entries) ≡ n }
 {
-    let mut lo: usize = 0;
-    let mut i = 0;
-    while i < n {
-        let e = entries[i];
-        if !entry_fits(ASK, lo, e) {
+    let mut lo = 0;
+    for entry in &entries[..n] {
+        if !entry_fits(ASK, lo, *entry) {
             return false;
         }
-        lo = above(e.object);
-        i += 1;
+        lo = above(entry.object);
     }
     true
-}
-
-// At most eight: no more entries are there to be looked at.
-fn at_most_eight(n: usize) -> usize
-    ensures { result ≡ min n most_open }
-{
-    if n < MOST_OPEN { n } else { MOST_OPEN }
 }
 
 // The writers of the sections: what the fields refuse is not written, and the buffer is untouched.
@@ -295,7 +260,8 @@ fn send_entries(
     ensures value { result ≡ written_of (length out.old) (headed h (first_entries n entries) [] (take words (word ∷ []))) }
     ensures out_after { out.new ≡ buffer_after (headed h (first_entries n entries) [] (take words (word ∷ []))) out.old }
 {
-    let count = at_most_eight(n);
+    // No more entries than there are can be looked at.
+    let count = n.min(MOST_OPEN);
     let listed = array_ok(entries, count);
     let number = refusal(out.len(), formed(h, n, 0, words, word, listed));
     if number != 0 {

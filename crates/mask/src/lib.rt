@@ -9,11 +9,7 @@ ghost use Rattle.mask.specs.Mask.{contains, only, joined, minus, within};
 pub fn has(m: u16, node: u8) -> bool
     ensures { result ≡ contains m node }
 {
-    if node < 16 {
-        (m >> node) % 2 == 1
-    } else {
-        false
-    }
+    node < 16 && (m >> node) % 2 == 1
 }
 
 // The set of one node; empty for a node above 15, which no mask can hold.

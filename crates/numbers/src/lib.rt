@@ -47,14 +47,14 @@ pub const TALLY_TWICE: u8 = 15;
 pub fn both(a: bool, b: bool) -> bool
     ensures { result ≡ (a && b) }
 {
-    if a { b } else { false }
+    a && b
 }
 
 // Either test holds. Ruled out: both are needed; the first alone counts.
 pub fn either(a: bool, b: bool) -> bool
     ensures { result ≡ (a || b) }
 {
-    if a { true } else { b }
+    a || b
 }
 
 // One refusal before the rest of its list. Ruled out: the rest before it; its number where it does not fit.
@@ -81,5 +81,5 @@ pub fn lower(m: u8, n: u8) -> u8
     if n == 0 {
         return m;
     }
-    if m < n { m } else { n }
+    m.min(n)
 }

@@ -1,10 +1,10 @@
 -- `letters::write::put_entries`: storing the entries that are left from here on gives what storing all of them gives.
-use mathlib.Core.Path.{◌≡◌, refl, sym, ap, ◌∙◌}
+use mathlib.Core.Path.{◌≡◌, ap, ◌∙◌}
 use Prim.Native.Nat.{ℕ, ◌+◌, ◌-◌, ◌*◌}
 use native.Mathlib.Omega.{arith}
 use mathlib.Core.List.{List}
 use lib.ListN.{length, get_or, take, drop}
-use lib.Seq.{sets, length-sets, get_or-take, length-take-le}
+use lib.Seq.{sets, length-take-le}
 use Rattle.wire.specs.Decode.{entries_place}
 use Rattle.numbers.specs.Sizes.{most_open}
 use Rattle.wire.specs.declared.Entry.{Entry}
@@ -16,39 +16,22 @@ use Rattle.wire.proofs.RoundTrip.{length_entry}
 use borrow.Author.Rules.{rules}
 use Rattle.letters.proofs.write.put_entries.Goals as goal
 
-pub loop-i-init : goal.loop-i-init
-loop-i-init c = (omega arith, refl, refl)
-
 pub loop-i-preserved : goal.loop-i-preserved
-loop-i-preserved c = let l = c.loop-i in
+loop-i-preserved c =
+    let l = c.loop-i in
     let a = c.args in
     let es : List Entry = take a.n a.entries in
     let full : length a.entries ≡ most_open = search rules in
     let len : length es ≡ a.n = length-take-le a.n a.entries (omega arith) in
-    let same : get_or es l.i no_entry ≡ get_or a.entries l.i no_entry = get_or-take a.n a.entries l.i no_entry (omega arith) in
     let k : ℕ = entries_place + 14 * l.i + 14 - (entries_place + 14 * l.i) in
     let z : 14 ≡ k = omega arith in
-    let e : Entry = get_or a.entries l.i no_entry in
-    let p = part_stores k (entries_place + 14 * l.i) l.out _ (encode_entry e) (omega arith) (length_entry e ∙ z) c.put_entry.ensures
-    ∙ ap (λ (x : Entry). sets l.out (entries_place + 14 * l.i) (encode_entry x)) (sym same) in (
-      omega arith,
-      ap length p ∙ simp length-sets l.invariant.1,
-      ap (λ (m : List ℕ). sets m (entries_place + 14 * (l.i + 1)) (together encode_entry (drop (l.i + 1) es))) p
-          ∙ together_again encode_entry 14 length_entry es no_entry l.out _ entries_place l.i (omega arith) l.invariant.2,
-    )
-
-pub shape_of-out : goal.shape_of-out
-shape_of-out c = c.loop-i.invariant.1
+    let e : Entry = get_or es l.i no_entry in
+    let p = part_stores k (entries_place + 14 * l.i) l.out _ (encode_entry e) (omega arith) (length_entry e ∙ z) c.put_entry.ensures in
+    ap (λ (m : List ℕ). sets m (entries_place + 14 * (l.i + 1)) (together encode_entry (drop (l.i + 1) es))) p
+    ∙ together_again encode_entry 14 length_entry es no_entry l.out _ entries_place l.i (omega arith) l.invariant
 
 pub returns-clause-out_after : goal.returns-clause-out_after
-returns-clause-out_after c = let l = c.loop-i in
+returns-clause-out_after c =
+    let l = c.loop-i in
     let a = c.args in
-    let full : length a.entries ≡ most_open = search rules in
-    let len : length (take a.n a.entries) ≡ a.n = length-take-le a.n a.entries (omega arith)
-    in together_end encode_entry 14 length_entry (take a.n a.entries) l.out _ entries_place l.i (omega arith) l.invariant.2
-
-pub returns-clause-entries_len : goal.returns-clause-entries_len
-returns-clause-entries_len c = let l = c.loop-i in
-    let a = c.args in
-    let full : length a.entries ≡ most_open = search rules in
-    let len : length (take a.n a.entries) ≡ a.n = length-take-le a.n a.entries (omega arith) in len
+    together_end encode_entry 14 length_entry (take a.n a.entries) l.out _ entries_place l.i (omega arith) l.invariant

@@ -4,7 +4,7 @@ use Prim.Native.Nat.{ℕ, ◌+◌}
 use native.Mathlib.Omega.{arith}
 use mathlib.Core.List.{List, ◌++◌}
 use lib.ListN.{length, get_or, drop, length-append}
-use lib.Seq.{sets, length-sets}
+use lib.Seq.{sets}
 use Rattle.numbers.specs.Sizes.{nodes}
 use Rattle.wire.specs.declared.Rival.{Rival}
 use Rattle.wire.specs.Encode.{encode_rival, together}
@@ -14,13 +14,14 @@ use borrow.Author.Rules.{rules}
 use Rattle.letters.proofs.write.put_rivals.Goals as goal
 
 pub loop-i-init : goal.loop-i-init
-loop-i-init c = ((omega arith, omega arith, refl), refl, refl)
+loop-i-init c = (omega arith, refl, refl)
 
 pub put_by_owner-next-requires : goal.put_by_owner-next-requires
 put_by_owner-next-requires c = (omega arith, omega arith)
 
 pub loop-i-preserved : goal.loop-i-preserved
-loop-i-preserved c = let p = c.put_by_owner-next.ensures in
+loop-i-preserved c =
+    let p = rw c.from.ensures at c.put_by_owner-next.ensures in
     let l = c.loop-i in
     let ss = c.args.serials in
     let full : length ss ≡ nodes = search rules in
@@ -29,28 +30,25 @@ loop-i-preserved c = let p = c.put_by_owner-next.ensures in
     let small = (one_count l.i 0 (get_or ss l.i 0)).1 in
     let step : rivals_by l.i (drop l.i ss) ≡ one ++ rest = rivals_step l.i ss (omega arith) in
     let count : length (rivals_by l.i (drop l.i ss)) ≡ length one + length rest = ap length step ∙ length-append one rest in (
-      (omega arith, omega (arith, p.value), omega (arith, p.value)),
-      ap length p.out_after ∙ simp length-sets l.invariant.1,
+      omega (arith, p.value),
+      omega (arith, p.value),
       ap₂ (λ (m : List ℕ) (j : ℕ). sets m j (together encode_rival rest)) p.out_after p.value ∙ sym (rivals_then one rest l.out l.next)
           ∙ ap (λ (rs : List Rival). sets l.out l.next (together encode_rival rs)) (sym step) ∙ l.invariant.2,
     )
 
-pub shape_of-out : goal.shape_of-out
-shape_of-out c = c.loop-i.invariant.1
-
 pub returns-clause-value : goal.returns-clause-value
 unfolding together
-returns-clause-value c = let l = c.loop-i in
+returns-clause-value c =
+    let l = c.loop-i in
     let ss = c.args.serials in
     let full : length ss ≡ nodes = search rules in
-    let none = rivals_end l.i ss (omega arith) in
-    let count : length (rivals_by l.i (drop l.i ss)) ≡ 0 = ap length none in omega arith
+    let count : length (rivals_by l.i (drop l.i ss)) ≡ 0 = ap length (rivals_end l.i ss (omega arith)) in omega arith
 
 pub returns-clause-out_after : goal.returns-clause-out_after
 unfolding together
-returns-clause-out_after c = let l = c.loop-i in
+returns-clause-out_after c =
+    let l = c.loop-i in
     let ss = c.args.serials in
     let full : length ss ≡ nodes = search rules in
     let none = rivals_end l.i ss (omega arith) in
-    let count : length (rivals_by l.i (drop l.i ss)) ≡ 0 = ap length none in sym (ap (λ (rs : List Rival). sets l.out l.next (together encode_rival rs)) none)
-    ∙ l.invariant.2
+    sym (ap (λ (rs : List Rival). sets l.out l.next (together encode_rival rs)) none) ∙ l.invariant.2

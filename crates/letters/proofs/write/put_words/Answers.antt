@@ -7,16 +7,8 @@ use lib.ListN.{set}
 use Rattle.letters.proofs.ByOwner.{word_none, word_one, at_most_one}
 use Rattle.letters.proofs.write.put_words.Goals as goal
 
-pub returns-then-words-eq0-clause-value : goal.returns-then-words-eq0-clause-value
-returns-then-words-eq0-clause-value c = let a = c.args in omega arith
-
 pub returns-then-words-eq0-clause-out_after : goal.returns-then-words-eq0-clause-out_after
 returns-then-words-eq0-clause-out_after c = let a = c.args in c.put_u8.ensures ∙ word_none a.out.now a.at a.words a.word c.if-words-eq0.true
-
-pub returns-clause-value : goal.returns-clause-value
-returns-clause-value c = let a = c.args in
-    let one : a.words ≡ 1 = let ne = c.if-words-eq0.false in at_most_one a.words ne (omega arith) in
-    omega arith
 
 pub returns-clause-out_after : goal.returns-clause-out_after
 returns-clause-out_after c = let a = c.args in

@@ -19,13 +19,13 @@ use borrow.Author.Rules.{rules}
 use Rattle.letters.proofs.write.send_entries.Goals as goal
 
 pub array_ok-listed-requires : goal.array_ok-listed-requires
-array_ok-listed-requires c = omega (arith, c.at_most_eight-count.ensures)
+array_ok-listed-requires c = omega (arith, c.min-count.ensures)
 
 pub returns-then-number-ne0-clause-value : goal.returns-then-number-ne0-clause-value
 returns-then-number-ne0-clause-value c = let a = c.args in
     let l = a.out.now in
     let x = c.refusal-number in
-    let k = c.at_most_eight-count in
+    let k = c.min-count in
     let z = c.array_ok-listed in
     let p = c.requires in
     let m : Message = headed a.h (first_entries a.n a.entries) [] (take a.words (a.word ∷ [])) in
@@ -38,7 +38,7 @@ pub returns-then-number-ne0-clause-out_after : goal.returns-then-number-ne0-clau
 returns-then-number-ne0-clause-out_after c = let a = c.args in
     let l = a.out.now in
     let x = c.refusal-number in
-    let k = c.at_most_eight-count in
+    let k = c.min-count in
     let z = c.array_ok-listed in
     let p = c.requires in
     let m : Message = headed a.h (first_entries a.n a.entries) [] (take a.words (a.word ∷ [])) in
@@ -68,7 +68,7 @@ pub written-requires : goal.written-requires
 written-requires c = let a = c.args in
     let r = c.formed in
     let few = few_entries a.out.now r.result _ _ _ _ _ _ c.refusal-number.ensures c.if-number-ne0.false r.ensures in
-    let k = c.at_most_eight-count in
+    let k = c.min-count in
     let all = all_there a.entries a.n _ k.ensures c.array_ok-listed.ensures.entries_len few in
     omega (arith, few, all.0, c.fill_entries-length.ensures.value, words_length a.words a.word (omega arith))
 
@@ -77,7 +77,7 @@ returns-clause-value c = let a = c.args in
     let l = a.out.now in
     let r = c.formed in
     let x = c.refusal-number in
-    let k = c.at_most_eight-count in
+    let k = c.min-count in
     let z = c.array_ok-listed in
     let p = c.requires in
     let m : Message = headed a.h (first_entries a.n a.entries) [] (take a.words (a.word ∷ [])) in
@@ -96,7 +96,7 @@ returns-clause-out_after c = let a = c.args in
     let l = a.out.now in
     let r = c.formed in
     let x = c.refusal-number in
-    let k = c.at_most_eight-count in
+    let k = c.min-count in
     let z = c.array_ok-listed in
     let p = c.requires in
     let m : Message = headed a.h (first_entries a.n a.entries) [] (take a.words (a.word ∷ [])) in
