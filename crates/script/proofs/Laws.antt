@@ -1,14 +1,15 @@
--- How few numbers stand before the distances; and one turn, and the end, of the loops over a line's numbers: whether they fit, and the distances among them.
+-- How few numbers stand before the distances; whether a line's numbers fit; one turn, and the end, of the loop over the distances among them.
 use Prim.Native.Nat.{ℕ, zero, suc, ◌+◌, ◌-◌, ◌%◌, ◌≤◌, ◌<◌}
 use native.Mathlib.Numerals.{add-one}
 use native.Mathlib.Omega.{arith}
-use mathlib.Core.Path.{◌≡◌, ap}
+use mathlib.Core.Path.{◌≡◌, refl, ap}
 use mathlib.Core.Bool.{Bool, true, false, cond, ◌&&◌}
-use mathlib.Core.List.{List, ◌∷◌, ◌++◌, append_assoc, append-nil}
+use mathlib.Core.List.{List, [], ◌∷◌, ◌++◌, append_assoc, append-nil}
 use borrow.Author.Tests.{le-leb, lt-leb}
 use lib.Dec.{leb}
 use lib.ListN.{length, get_or, take, drop, set}
 use lib.Seq.{drop-cons, drop-length, take_all, take-suc-set}
+use Rattle.std.specs.List.{list_all, enumerate_from}
 use Rattle.script.specs.Parse.{has_three, has_two, has_one, arity, most_at, fit_from, fill_from}
 
 -- ---- how few numbers stand before the distances
@@ -22,21 +23,14 @@ pub arity_small : (w : ℕ) → arity w ≤ 3
 unfolding arity
 arity_small w = small (has_three w) (has_two w) (has_one w)
 
--- ---- whether the numbers from one place on fit
-module _ (w : ℕ) (l : List ℕ) (i : ℕ) (whole : Bool) (so_far : fit_from w i (drop i l) ≡ whole) where
-  fit_step : i < length l → leb (get_or l i 0) (most_at w i) && fit_from w (i + 1) (drop (i + 1) l) ≡ whole
-  unfolding fit_from
-  fit_step h = simp add-one (simp (drop-cons l i 0 h, add-one) at so_far)
+-- ---- whether the numbers from one place on fit: each with its place is asked
+abbrev pub fits_at : ℕ → ℕ × ℕ → Bool
+fits_at w p = leb p.1 (most_at w p.0)
 
-  pub fit_stop : i < length l → most_at w i < get_or l i 0 → false ≡ whole
-  fit_stop h over = simp (lt-leb (get_or l i 0) (most_at w i) over) at (fit_step h)
-
-  pub fit_again : i < length l → get_or l i 0 ≤ most_at w i → fit_from w (i + 1) (drop (i + 1) l) ≡ whole
-  fit_again h fits = simp (le-leb (get_or l i 0) (most_at w i) fits) at (fit_step h)
-
-  pub fit_end : i ≡ length l → true ≡ whole
-  unfolding fit_from
-  fit_end e = simp (e, drop-length) at so_far
+pub all_fit : (w : ℕ) (l : List ℕ) (i : ℕ) → list_all (fits_at w) (enumerate_from i l) ≡ fit_from w i l
+unfolding fit_from
+all_fit w [] i = refl
+all_fit w (v ∷ l) i = ap (λ (b : Bool). leb v (most_at w i) && b) (all_fit w l (i + 1))
 
 -- ---- the distances from one place on
 fill_step : (k i : ℕ) (l : List ℕ) → 0 < k → fill_from k i l ≡ get_or l i 0 % 65536 ∷ fill_from (k - 1) (i + 1) l

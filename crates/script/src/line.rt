@@ -42,15 +42,15 @@ pub fn fresh() -> Said
 }
 
 // The same in another part.
+#[tactic(auto, unfolding(crate::specs::Said::in_part))]
 pub(crate) fn in_part(s: Said, p: u8) -> Said
     ensures { result ≡ in_part s p }
 {
-    let mut t = s;
-    t.part = p;
-    t
+    Said { part: p, ..s }
 }
 
 // A letter.
+#[tactic(auto, unfolding(crate::specs::Said::letter, crate::specs::Said::with_letter))]
 fn letter(s: Said, b: u8) -> Said
     ensures { result ≡ letter s b }
 {
@@ -60,10 +60,11 @@ fn letter(s: Said, b: u8) -> Said
     if SHORT_WORD < s.word {
         return in_part(s, SPOILT);
     }
-    let mut t = s;
-    t.part = IN_WORD;
-    t.word = s.word * 256 + b as u64;
-    t
+    Said {
+        part: IN_WORD,
+        word: s.word * 256 + u64::from(b),
+        ..s
+    }
 }
 
 // The largest number, by its sign.
@@ -88,6 +89,7 @@ fn digits_part(part: u8) -> u8
 }
 
 // A digit.
+#[tactic(auto, unfolding(crate::specs::Said::digit, crate::specs::Said::with_digit))]
 fn digit(s: Said, d: u8) -> Said
     requires { d < 10 }
     ensures { result ≡ digit s d }
@@ -98,25 +100,23 @@ fn digit(s: Said, d: u8) -> Said
     if SHORT_NUMBER < s.value {
         return in_part(s, SPOILT);
     }
-    let v = s.value * 10 + d as u64;
+    let v = s.value * 10 + u64::from(d);
     if most(s.part) < v {
         return in_part(s, SPOILT);
     }
-    let mut t = s;
-    t.part = digits_part(s.part);
-    t.value = v;
-    t
+    Said {
+        part: digits_part(s.part),
+        value: v,
+        ..s
+    }
 }
 
 // The bits of a number.
+#[tactic(auto, unfolding(crate::specs::Said::negated))]
 fn negated(v: u64) -> u64
     ensures { result ≡ negated v }
 {
-    if v == 0 {
-        0
-    } else {
-        18446744073709551615 - v + 1
-    }
+    v.wrapping_neg()
 }
 
 fn bits(part: u8, v: u64) -> u64
@@ -150,22 +150,16 @@ fn complete(s: Said) -> Said
 }
 
 // A space.
+#[tactic(auto, unfolding(crate::specs::Said::space))]
 pub(crate) fn space(s: Said) -> Said
     ensures { result ≡ space s }
 {
-    if s.part == IN_WORD {
-        return in_part(s, BETWEEN);
+    match s.part {
+        IN_WORD => in_part(s, BETWEEN),
+        IN_NUMBER | IN_NEGATIVE => complete(s),
+        BEHIND_MINUS => in_part(s, SPOILT),
+        _ => s,
     }
-    if s.part == IN_NUMBER {
-        return complete(s);
-    }
-    if s.part == IN_NEGATIVE {
-        return complete(s);
-    }
-    if s.part == BEHIND_MINUS {
-        return in_part(s, SPOILT);
-    }
-    s
 }
 
 // A comment begins.
@@ -189,32 +183,27 @@ fn minus(s: Said) -> Said
 }
 
 // A byte below the digits.
+#[tactic(auto, unfolding(crate::specs::Said::sign))]
 fn sign(s: Said, b: u8) -> Said
     ensures { result ≡ sign s b }
 {
-    if b == 32 {
-        return space(s);
+    match b {
+        b' ' => space(s),
+        b'#' => silenced(space(s)),
+        b'-' => minus(s),
+        _ => in_part(s, SPOILT),
     }
-    if b == 35 {
-        return silenced(space(s));
-    }
-    if b == 45 {
-        return minus(s);
-    }
-    in_part(s, SPOILT)
 }
 
 // A byte above them.
+#[tactic(auto, unfolding(crate::specs::Said::letter_or_none))]
 fn letter_or_none(s: Said, b: u8) -> Said
     ensures { result ≡ letter_or_none s b }
 {
-    if b < 97 {
-        return in_part(s, SPOILT);
+    match b {
+        b'a'..=b'z' => letter(s, b),
+        _ => in_part(s, SPOILT),
     }
-    if 122 < b {
-        return in_part(s, SPOILT);
-    }
-    letter(s, b)
 }
 
 // One byte of a line. Ruled out: a letter behind a number taken as part of a word; a comment that is read as part of the line.

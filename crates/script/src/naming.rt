@@ -1,12 +1,12 @@
 // The step that a line names.
-ghost use Rattle.std.specs.Prelude.{◌≡◌, cond, ◌+◌, ◌%◌, ◌≤◌};
+ghost use Rattle.std.specs.Prelude.{◌≡◌, ◌+◌, ◌%◌, ◌≤◌};
 ghost use Rattle.script.specs.Parse.{arity, may_measure, first_most, second_most, third_most, most_at, count_fits, fit_from, is_good, kind_of, distances_of};
-ghost use Rattle.script.specs.Parse.{with_of, order_of, takes_list, line_of, what_of, parsed};
+ghost use Rattle.script.specs.Parse.{with_of, order_of, line_of, what_of, parsed};
 
 use crate::line::space;
 use crate::{MOST_NUMBERS, Parsed, Said};
 use coordinator::BeginWith;
-use numbers::{NODES, both, either};
+use numbers::NODES;
 use orders::{Kind, Order};
 
 const BLANK: u64 = 422725119595;
@@ -51,13 +51,6 @@ const BATCH: u64 = 422541812584;
 
 const SPOILT: u8 = 7;
 
-// One of two numbers.
-fn choose(test: bool, a: u64, b: u64) -> u64
-    ensures { result ≡ cond test a b }
-{
-    if test { a } else { b }
-}
-
 // The low bits of a number.
 fn low8(x: u64) -> u8
     ensures { result ≡ x % 256 }
@@ -78,146 +71,120 @@ fn low32(x: u64) -> u32
 }
 
 // How many numbers follow a word.
+#[tactic(auto, unfolding(crate::specs::Parse::arity, crate::specs::Parse::has_three, crate::specs::Parse::has_two, crate::specs::Parse::has_one))]
 fn arity(w: u64) -> u64
     ensures { (result ≡ arity w) × (result ≤ 3) }
 {
-    let three = either(w == BEGIN, either(w == SET, either(w == SEND, w == BATCH)));
-    let two = either(
-        w == READ,
-        either(
-            w == WRITE,
-            either(w == FOUND, either(w == RESELECT, w == CLOCK)),
-        ),
-    );
-    let place = either(
-        w == DELIVER,
-        either(
-            w == KEEP,
-            either(
-                w == DROP,
-                either(w == BLANK, either(w == HOURS, w == CLASSES)),
-            ),
-        ),
-    );
-    let one = either(
-        w == ASK,
-        either(w == ABORT, either(w == ON, either(w == OFF, place))),
-    );
-    choose(three, 3, choose(two, 2, choose(one, 1, 0)))
+    match w {
+        BEGIN | SET | SEND | BATCH => 3,
+        READ | WRITE | FOUND | RESELECT | CLOCK => 2,
+        ASK | ABORT | ON | OFF | DELIVER | KEEP | DROP | BLANK | HOURS | CLASSES => 1,
+        _ => 0,
+    }
 }
 
+#[tactic(auto, unfolding(crate::specs::Parse::may_measure))]
 fn may_measure(w: u64) -> bool
     ensures { result ≡ may_measure w }
 {
-    either(w == BEGIN, w == RESELECT)
+    w == BEGIN || w == RESELECT
 }
 
 // How large each number may be.
+#[tactic(auto, unfolding(crate::specs::Parse::first_most))]
 fn first_most(w: u64) -> u64
     ensures { result ≡ first_most w }
 {
-    choose(w == BLANK, 65535, choose(w == CLOCK, 4294967295, 255))
+    match w {
+        BLANK => 65535,
+        CLOCK => 4294967295,
+        _ => 255,
+    }
 }
 
+#[tactic(auto, unfolding(crate::specs::Parse::second_most))]
 fn second_most(w: u64) -> u64
     ensures { result ≡ second_most w }
 {
-    let short = either(w == RESELECT, w == CLOCK);
-    let begins = either(w == BEGIN, w == BATCH);
-    choose(begins, 4294967295, choose(short, 65535, 255))
+    match w {
+        BEGIN | BATCH => 4294967295,
+        RESELECT | CLOCK => 65535,
+        _ => 255,
+    }
 }
 
+#[tactic(auto, unfolding(crate::specs::Parse::third_most))]
 fn third_most(w: u64) -> u64
     ensures { result ≡ third_most w }
 {
-    let begins = either(w == BEGIN, w == BATCH);
-    choose(w == SET, 18446744073709551615, choose(begins, 65535, 255))
+    match w {
+        SET => u64::MAX,
+        BEGIN | BATCH => 65535,
+        _ => 255,
+    }
 }
 
+#[tactic(auto, unfolding(crate::specs::Parse::most_at))]
 fn most_at(w: u64, i: u64) -> u64
     ensures { result ≡ most_at w i }
 {
-    let distance = both(may_measure(w), arity(w) <= i);
-    let later = choose(i == 1, second_most(w), third_most(w));
-    let named = choose(i == 0, first_most(w), later);
-    choose(w == LIST, 4294967295, choose(distance, 65535, named))
+    if w == LIST {
+        return 4294967295;
+    }
+    if may_measure(w) && arity(w) <= i {
+        return 65535;
+    }
+    match i {
+        0 => first_most(w),
+        1 => second_most(w),
+        _ => third_most(w),
+    }
 }
 
 // Whether the numbers are as the word wants them.
+#[tactic(auto, unfolding(crate::specs::Parse::count_fits))]
 fn count_fits(w: u64, n: u64) -> bool
     ensures { result ≡ count_fits w n }
 {
     let k = arity(w);
-    let more = both(may_measure(w), n == k + NODES as u64);
-    either(w == LIST, both(k != 0, either(n == k, more)))
+    w == LIST || k != 0 && (n == k || may_measure(w) && n == k + NODES as u64)
 }
 
 fn numbers_fit(s: Said) -> bool
     ensures { result ≡ fit_from s.word 0 s.numbers }
 {
-    let mut i: usize = 0;
-    while i < MOST_NUMBERS {
-        if most_at(s.word, i as u64) < s.numbers[i] {
-            return false;
-        }
-        i += 1;
-    }
-    true
+    s.numbers.iter().enumerate().all(|(i, n)| *n <= most_at(s.word, i as u64))
 }
 
+#[tactic(auto, unfolding(crate::specs::Parse::is_good))]
 fn is_good(s: Said) -> bool
     ensures { result ≡ is_good s }
 {
-    both(count_fits(s.word, s.count as u64), numbers_fit(s))
+    count_fits(s.word, s.count as u64) && numbers_fit(s)
 }
 
 // The kind of a step.
+#[tactic(auto, unfolding(crate::specs::Parse::kind_of))]
 fn kind_of(w: u64) -> Kind
     ensures { result ≡ kind_of w }
 {
-    if w == BEGIN {
-        return Kind::Begin;
+    match w {
+        BEGIN => Kind::Begin,
+        READ => Kind::OpenRead,
+        WRITE => Kind::OpenWrite,
+        SET => Kind::SetValue,
+        FOUND => Kind::Found,
+        RESELECT => Kind::Reselect,
+        ASK => Kind::RequestCommit,
+        ABORT => Kind::Abort,
+        SEND => Kind::Send,
+        DROP => Kind::Drop,
+        HOURS => Kind::LoadHours,
+        CLASSES => Kind::LoadClasses,
+        BATCH => Kind::Batch,
+        DELIVER | KEEP => Kind::Deliver,
+        _ => Kind::Switch,
     }
-    if w == READ {
-        return Kind::OpenRead;
-    }
-    if w == WRITE {
-        return Kind::OpenWrite;
-    }
-    if w == SET {
-        return Kind::SetValue;
-    }
-    if w == FOUND {
-        return Kind::Found;
-    }
-    if w == RESELECT {
-        return Kind::Reselect;
-    }
-    if w == ASK {
-        return Kind::RequestCommit;
-    }
-    if w == ABORT {
-        return Kind::Abort;
-    }
-    if w == SEND {
-        return Kind::Send;
-    }
-    if w == DROP {
-        return Kind::Drop;
-    }
-    if w == HOURS {
-        return Kind::LoadHours;
-    }
-    if w == CLASSES {
-        return Kind::LoadClasses;
-    }
-    if w == BATCH {
-        return Kind::Batch;
-    }
-    if either(w == DELIVER, w == KEEP) {
-        return Kind::Deliver;
-    }
-    Kind::Switch
 }
 
 // The distances: the numbers behind the others.
@@ -229,16 +196,14 @@ fn distances_of(s: Said) -> [u16; NODES]
     if s.count == h {
         return d;
     }
-    let mut i: usize = 0;
-    while i < NODES {
-        let j = h + i;
-        d[i] = low16(s.numbers[j]);
-        i += 1;
+    for i in 0..NODES {
+        d[i] = low16(s.numbers[h + i]);
     }
     d
 }
 
 // What a begin or a reselect needs.
+#[tactic(auto, unfolding(crate::specs::Parse::with_of))]
 fn with_of(s: Said) -> BeginWith
     ensures { result ≡ with_of s }
 {
@@ -247,8 +212,11 @@ fn with_of(s: Said) -> BeginWith
     let b = s.numbers[1];
     let c = s.numbers[2];
     let distances = distances_of(s);
-    let begins = either(w == BEGIN, w == BATCH);
-    let live = choose(begins, c, choose(w == RESELECT, b, a));
+    let live = match w {
+        BEGIN | BATCH => c,
+        RESELECT => b,
+        _ => a,
+    };
     BeginWith {
         live: low16(live),
         distances,
@@ -257,6 +225,7 @@ fn with_of(s: Said) -> BeginWith
 }
 
 // The step.
+#[tactic(auto, unfolding(crate::specs::Parse::order_of))]
 fn order_of(s: Said) -> Order
     ensures { result ≡ order_of s }
 {
@@ -270,40 +239,28 @@ fn order_of(s: Said) -> Order
         kind,
         node: low8(a),
         to: low8(b),
-        object: low8(choose(w == SEND, c, b)),
+        object: low8(if w == SEND { c } else { b }),
         place: low8(a),
-        flag: either(w == KEEP, w == ON),
+        flag: w == KEEP || w == ON,
         value: c,
-        day: low32(choose(w == CLOCK, a, 0)),
-        minute: low16(choose(w == CLOCK, b, 0)),
+        day: low32(if w == CLOCK { a } else { 0 }),
+        minute: low16(if w == CLOCK { b } else { 0 }),
         with,
     }
 }
 
-// Whether a step takes what is listed.
-fn takes_list(w: u64) -> bool
-    ensures { result ≡ takes_list w }
-{
-    either(w == HOURS, either(w == CLASSES, w == BATCH))
-}
-
 // What a line is.
+#[tactic(auto, unfolding(crate::specs::Parse::line_of, crate::specs::Parse::takes_list))]
 fn line_of(w: u64) -> u8
     ensures { result ≡ line_of w }
 {
-    if w == BLANK {
-        return 2;
+    match w {
+        BLANK => 2,
+        CLOCK => 4,
+        LIST => 5,
+        HOURS | CLASSES | BATCH => 6,
+        _ => 3,
     }
-    if w == CLOCK {
-        return 4;
-    }
-    if w == LIST {
-        return 5;
-    }
-    if takes_list(w) {
-        return 6;
-    }
-    3
 }
 
 fn what_of(s: Said) -> u8

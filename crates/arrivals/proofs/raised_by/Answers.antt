@@ -1,15 +1,10 @@
 -- `arrivals::raised_by`: what is raised so far, and by the rivals left, is what all of them raise.
-use Prim.Native.Nat.{ℕ, ◌-◌, ◌+◌}
-use mathlib.Core.Path.{◌≡◌, refl, sym, ap, ◌∙◌}
+use Prim.Native.Nat.{◌-◌, ◌+◌}
+use mathlib.Core.Path.{◌≡◌, sym, ◌∙◌}
 use native.Mathlib.Omega.{arith}
 use Rattle.wire.specs.Decode.{rival_count}
-use Rattle.arrivals.specs.Receive.{raise_from}
 use Rattle.arrivals.proofs.Rivals.{raise_turn, raise_end}
 use Rattle.arrivals.proofs.raised_by.Goals as goal
-
-pub loop-i-init : goal.loop-i-init
-loop-i-init c = let x = c.args in
-    ap (λ (n : ℕ). raise_from x.m.now n 0 x.rivals) (let e : rival_count x.m.now - 0 ≡ rival_count x.m.now = omega arith in e)
 
 pub loop-i-preserved : goal.loop-i-preserved
 loop-i-preserved c = let l = c.loop-i in

@@ -1,5 +1,4 @@
 -- `report::entries`: the loop puts one item after another.
-use Prim.Native.Nat.{◌-◌}
 use Rattle.report.specs.Each.{Going}
 use Rattle.report.specs.Texts.{nth_entry_texts}
 use Rattle.report.proofs.entries.Given as goal

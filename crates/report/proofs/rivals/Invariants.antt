@@ -1,5 +1,4 @@
 -- `report::rivals`: the loop puts one item after another.
-use Prim.Native.Nat.{◌-◌}
 use Rattle.report.specs.Each.{Going}
 use Rattle.report.specs.Texts.{nth_rival_texts}
 use Rattle.report.proofs.rivals.Given as goal

@@ -19,14 +19,14 @@ pub loop-i-init : goal.loop-i-init
 loop-i-init c = let s = c.args.s in
     let e = c.arity-h.ensures.0 in
     let z : c.arity-h.result + 0 ≡ arity s.word = omega arith in
-    (omega arith, refl, ap (λ (n : ℕ). fill_from 13 n s.numbers) z)
+    (refl, ap (λ (n : ℕ). fill_from 13 n s.numbers) z)
 
 pub loop-i-preserved : goal.loop-i-preserved
 loop-i-preserved c = let l = c.loop-i in
     let h = c.arity-h.result in
     let s = c.args.s in
-    let again = fill_again h l.i s.numbers l.d l.invariant.1 c.low16.result (omega arith) c.low16.ensures in
-    (omega arith, simp length-set l.invariant.1, again ∙ l.invariant.2)
+    let again = fill_again h l.i s.numbers l.d l.invariant.0 c.low16.result (omega arith) c.low16.ensures in
+    (simp length-set l.invariant.0, again ∙ l.invariant.1)
 
 pub returns : goal.returns
 unfolding distances_of
@@ -35,4 +35,4 @@ returns c = let l = c.loop-i in
     let s = c.args.s in
     let e : eqb s.count (arity s.word) ≡ false =
     ne_eqb s.count (arity s.word) (λ q. c.if-s-h.false (q ∙ sym c.arity-h.ensures.0)) in
-    rw e (sym (fill_end h l.i s.numbers l.d l.invariant.1 (omega arith)) ∙ l.invariant.2)
+    rw e (sym (fill_end h l.i s.numbers l.d l.invariant.0 (omega arith)) ∙ l.invariant.1)

@@ -7,8 +7,5 @@ use Rattle.script.specs.Parse.{arity, fill_from}
 use Rattle.script.proofs.naming.distances_of.Given as goal
 
 abbrev pub invariant-loop-i : goal.invariant-loop-i
-invariant-loop-i l = (l.i ≤ 13) × (length l.d ≡ 13)
+invariant-loop-i l = (length l.d ≡ 13)
     × (take l.i l.d ++ fill_from (13 - l.i) (l.h + l.i) l.s.numbers ≡ fill_from 13 (arity l.s.word) l.s.numbers)
-
-abbrev pub decreases-loop-i : goal.decreases-loop-i
-decreases-loop-i l = 13 - l.i
