@@ -19,7 +19,7 @@ const SIGN: u64 = 9223372036854775808;
 pub fn sum(a: u64, g: u64) -> u64
     ensures { result ≡ sum64 a g }
 {
-    std::num::wrapping_add_u64(a, g)
+    a.wrapping_add(g)
 }
 
 // Whether a sum is past the range: two values of one sign, and the sum of the other. Ruled out: yes for two negative values whose sum is one; no for
@@ -50,12 +50,10 @@ pub fn add_all(
     ensures bytes_after { bytes.new ≡ bytes_of (ran tree (record_of bytes.old) me (adding (amounts_of n objects grams) [])) }
     ensures bytes_after_2 { check bytes.new ≡ 0 }
 {
-    let mut i = 0;
-    while i < n {
+    for i in 0..n {
         let object = objects[i];
         deeds::open(bytes, me, object, 1);
         deeds::set_value(bytes, me, object, grams[i]);
-        i += 1;
     }
 }
 
@@ -67,13 +65,11 @@ pub fn any_past(bytes: &[u8]) -> bool
     ensures { result ≡ any_past (record_of bytes.now) }
 {
     let n = count(bytes);
-    let mut i = 0;
-    while i < n {
+    for i in 0..n {
         let x = object_at(bytes, i);
         if is_past(x.value, x.new) {
             return true;
         }
-        i += 1;
     }
     false
 }
@@ -87,10 +83,8 @@ pub fn sum_all(bytes: &mut [u8], me: u8)
     ensures bytes_after_2 { check bytes.new ≡ 0 }
 {
     let n = count(bytes);
-    let mut i = 0;
-    while i < n {
+    for i in 0..n {
         let x = object_at(bytes, i);
         deeds::set_value(bytes, me, x.object, sum(x.value, x.new));
-        i += 1;
     }
 }

@@ -39,11 +39,7 @@ fn eight(bytes: &[u8], at: usize) -> [u8; MOST_CLASSES]
     ensures { result ≡ part most_classes at bytes.now }
 {
     let mut list = [0; MOST_CLASSES];
-    let mut i = 0;
-    while i < MOST_CLASSES {
-        list[i] = octets::get_u8(bytes, at + i);
-        i += 1;
-    }
+    list.copy_from_slice(&bytes[at..at + MOST_CLASSES]);
     list
 }
 
@@ -53,11 +49,7 @@ fn put_eight(bytes: &mut [u8], at: usize, list: [u8; MOST_CLASSES])
     ensures bytes_after { bytes.new ≡ sets bytes.old at list }
     ensures list_len { length list ≡ most_classes }
 {
-    let mut i = 0;
-    while i < MOST_CLASSES {
-        octets::put_u8(bytes, at + i, list[i]);
-        i += 1;
-    }
+    bytes[at..at + MOST_CLASSES].copy_from_slice(&list);
 }
 
 // Whether eight tenths from a place on are below 10 each.
@@ -65,13 +57,7 @@ fn below_10(bytes: &[u8], at: usize) -> bool
     requires { at + most_classes ≤ length bytes.now }
     ensures { result ≡ below10 (part most_classes at bytes.now) }
 {
-    let mut fine = true;
-    let mut left = MOST_CLASSES;
-    while 0 < left {
-        left -= 1;
-        fine = both(octets::get_u8(bytes, at + left) <= 9, fine);
-    }
-    fine
+    bytes[at..at + MOST_CLASSES].iter().all(|x| *x <= 9)
 }
 
 // Whether settings of their length are damaged.
@@ -162,13 +148,6 @@ pub fn settle(settings: &mut [u8], kind: u8, waits: [u8; MOST_CLASSES], left: [u
     put_eight(settings, LEFT, left);
 }
 
-// A byte as an answer.
-fn answer(x: u8) -> u64
-    ensures { result ≡ x }
-{
-    x as u64
-}
-
 // The kind of the transaction begun last: 0 the host's own, 1 a batch. Ruled out: 1 after classes were loaded; a kind of damaged settings.
 pub fn kind(settings: &[u8]) -> Called
     ensures { result ≡ kind_of settings.now }
@@ -177,5 +156,5 @@ pub fn kind(settings: &[u8]) -> Called
     if number != 0 {
         return refused(number);
     }
-    taken(answer(octets::get_u8(settings, KIND)))
+    taken(u64::from(octets::get_u8(settings, KIND)))
 }

@@ -24,13 +24,11 @@ fn judge(old: &[u8], size: usize) -> u8
     ensures { result ≡ first_number size old.now nodes }
 {
     let mut number = 0;
-    let mut node = 0;
-    while node < NODES {
+    for node in 0..NODES {
         let start = size * node;
         let end = start + size;
         let one = number_of(&old[start..end]);
         number = refuse(number, number != 0, one);
-        node += 1;
     }
     number
 }
@@ -40,14 +38,12 @@ fn take_each(old: &[u8], size: usize, images: &mut [u8])
     requires { (length old.now ≡ size * nodes) × (length images.old ≡ images_size) }
     ensures { images.new ≡ after_parts size old.now nodes images.old }
 {
-    let mut n = 0;
-    while n < NODES {
+    for n in 0..NODES {
         let start = size * n;
         let end = start + size;
         let to = image::SIZE * n;
         let to_end = to + image::SIZE;
         intake::take_in(&old[start..end], &mut images[to..to_end]);
-        n += 1;
     }
 }
 

@@ -1,5 +1,5 @@
 -- `increments::any_past`: whether each new value from place i on fits is whether all do.
-use Rattle.std.proofs.Common.{◌≡◌, ℕ, ◌≤◌, not, List, length, sym, refl, ap, ◌∙◌, arith}
+use Rattle.std.proofs.Common.{◌≡◌, ℕ, ◌≤◌, not, List, length, sym, ap, ◌∙◌, arith}
 use Rattle.record.specs.Record.{record_of, check}
 use Rattle.record.proofs.Kept.{checked_meets}
 use Rattle.increments.specs.Deeds.{any_past}
@@ -10,9 +10,6 @@ use Rattle.increments.proofs.any_past.Goals as goal
 long : (l : List ℕ) → check l ≡ 0 → (n : ℕ) → n ≡ (record_of l).count → n ≤ length (record_of l).objects
 long l e n h = let m = checked_meets l e in omega (arith, m.sizes.objects_8, m.objects.eight_at_most)
 
-pub loop-i-init : goal.loop-i-init
-loop-i-init c = (omega arith, refl)
-
 pub returns-then-is_past : goal.returns-then-is_past
 unfolding any_past
 returns-then-is_past c = let k = c.loop-i in
@@ -20,7 +17,7 @@ returns-then-is_past c = let k = c.loop-i in
     let n = c.count-n in
     let e = past_stop (record_of l) n.result (long l c.requires _ n.ensures) k.i (omega arith) _
     (c.object_at-x.ensures ∙ read_at l k.i) _ c.is_past.ensures c.if-is_past.true in
-    ap not (sym e ∙ k.invariant.1) ∙ ap (λ (j : ℕ). not (fits_from (record_of l) j 0)) n.ensures
+    ap not (sym e ∙ k.invariant) ∙ ap (λ (j : ℕ). not (fits_from (record_of l) j 0)) n.ensures
 
 pub loop-i-preserved : goal.loop-i-preserved
 loop-i-preserved c = let k = c.loop-i in
@@ -28,7 +25,7 @@ loop-i-preserved c = let k = c.loop-i in
     let n = c.count-n in
     let e = past_again (record_of l) n.result (long l c.requires _ n.ensures) k.i (omega arith) _
     (c.object_at-x.ensures ∙ read_at l k.i) _ c.is_past.ensures c.if-is_past.false in
-    (omega arith, e ∙ k.invariant.1)
+    e ∙ k.invariant
 
 pub returns : goal.returns
 unfolding any_past
@@ -36,4 +33,4 @@ returns c = let k = c.loop-i in
     let l = c.args.bytes.now in
     let n = c.count-n in
     let e = past_end (record_of l) n.result (long l c.requires _ n.ensures) k.i (omega arith) in
-    ap not (sym e ∙ k.invariant.1) ∙ ap (λ (j : ℕ). not (fits_from (record_of l) j 0)) n.ensures
+    ap not (sym e ∙ k.invariant) ∙ ap (λ (j : ℕ). not (fits_from (record_of l) j 0)) n.ensures

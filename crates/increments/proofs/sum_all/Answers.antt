@@ -15,34 +15,32 @@ pub loop-i-init : goal.loop-i-init
 unfolding ran summing
 loop-i-init c = let l = c.args.bytes.now in
     let small : Bytes l = λ j. omega (arith, c.slice_known-1.given j) in
-    (omega arith, checked_holds l small c.requires)
+    checked_holds l small c.requires
 
 pub set_value-requires : goal.set_value-requires
-set_value-requires c = holds_checked _ _ c.loop-i.invariant.1
+set_value-requires c = holds_checked _ _ c.loop-i.invariant
 
 pub loop-i-preserved : goal.loop-i-preserved
 loop-i-preserved c = let k = c.loop-i in
     let x = c.args in
     let l = x.bytes.now in
     let m = checked_meets l c.requires in
-    let e = c.object_at-x.ensures ∙ sum_found x.me (record_of l) m k.bytes k.i (omega (arith, c.count-n.ensures)) k.invariant.1 in (
-      omega arith,
-      sum_turn x.me (record_of l) m k.bytes k.i (omega (arith, c.count-n.ensures)) k.invariant.1 _ e _ c.sum.ensures _
-          c.set_value.ensures.bytes_after,
-    )
+    let e = c.object_at-x.ensures ∙ sum_found x.me (record_of l) m k.bytes k.i (omega (arith, c.count-n.ensures)) k.invariant in
+    sum_turn x.me (record_of l) m k.bytes k.i (omega (arith, c.count-n.ensures)) k.invariant _ e _ c.sum.ensures _
+    c.set_value.ensures.bytes_after
 
 pub shape_of-bytes : goal.shape_of-bytes
-shape_of-bytes c = checked_length _ (holds_checked _ _ c.loop-i.invariant.1) ∙ sym (checked_length _ c.requires)
+shape_of-bytes c = checked_length _ (holds_checked _ _ c.loop-i.invariant) ∙ sym (checked_length _ c.requires)
 
 pub returns-clause-bytes_after : goal.returns-clause-bytes_after
 returns-clause-bytes_after c = let k = c.loop-i in
     let x = c.args in
     let l = x.bytes.now in
-    let e : k.i ≡ (record_of l).count = omega (arith, c.count-n.ensures) in k.invariant.1.bytes
+    let e : k.i ≡ (record_of l).count = omega (arith, c.count-n.ensures) in k.invariant.bytes
     ∙ ap (λ (n : ℕ). bytes_of (sums_to tree (record_of l) x.me n)) e
 
 pub returns-clause-bytes_after_2 : goal.returns-clause-bytes_after_2
 returns-clause-bytes_after_2 c = let k = c.loop-i in
     let x = c.args in
     let l = x.bytes.now in
-    let e : k.i ≡ (record_of l).count = omega (arith, c.count-n.ensures) in holds_checked _ _ k.invariant.1
+    let e : k.i ≡ (record_of l).count = omega (arith, c.count-n.ensures) in holds_checked _ _ k.invariant

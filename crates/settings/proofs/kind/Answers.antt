@@ -10,4 +10,4 @@ returns-then-number-ne0 c = let s = c.args.settings.now in
 pub returns : goal.returns
 returns c = let s = c.args.settings.now in
     kind_told s _ _ _ c.check-number.ensures c.if-number-ne0.false
-    (c.answer.ensures ∙ c.get_u8.ensures) c.taken.ensures
+    (c.from.ensures ∙ c.get_u8.ensures) c.taken.ensures

@@ -12,7 +12,7 @@ use Rattle.station_intake.proofs.judge.Goals as goal
 
 pub loop-node-init : goal.loop-node-init
 unfolding first_number
-loop-node-init c = (omega arith, refl)
+loop-node-init c = refl
 
 pub overflow_mul-start : goal.overflow_mul-start
 overflow_mul-start c = let l = c.loop-node in
@@ -34,13 +34,11 @@ unfolding first_number
 loop-node-preserved c = let l = c.loop-node in
     let x = c.args in
     let old = x.old.now in
-    let one = c.number_of-one.ensures ∙ ap number_of (lent_part x.size l.node old) in (
-      omega arith,
-      c.refuse-number.ensures ∙ ap₂ (λ (a b : ℕ). cond (not (eqb a 0)) a b) l.invariant.1 one ∙ ap (first_number x.size old) (sym (add-one l.node)),
-    )
+    let one = c.number_of-one.ensures ∙ ap number_of (lent_part x.size l.node old) in
+    c.refuse-number.ensures ∙ ap₂ (λ (a b : ℕ). cond (not (eqb a 0)) a b) l.invariant one ∙ ap (first_number x.size old) (sym (add-one l.node))
 
 pub returns : goal.returns
 returns c = let l = c.loop-node in
     let x = c.args in
     let e : l.node ≡ nodes = let t = c.loop-node-test.false in omega arith in
-    l.invariant.1 ∙ ap (first_number x.size x.old.now) e
+    l.invariant ∙ ap (first_number x.size x.old.now) e

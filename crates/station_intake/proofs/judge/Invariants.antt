@@ -1,12 +1,7 @@
 -- `station_intake::judge`: the number of the parts passed.
 use mathlib.Core.Path.{◌≡◌}
-use Prim.Native.Nat.{◌-◌, ◌≤◌}
-use Rattle.numbers.specs.Sizes.{nodes}
 use Rattle.station_intake.specs.Pass.{first_number}
 use Rattle.station_intake.proofs.judge.Given as goal
 
 abbrev pub invariant-loop-node : goal.invariant-loop-node
-invariant-loop-node l = (l.node ≤ nodes) × (l.number ≡ first_number l.size l.old l.node)
-
-abbrev pub decreases-loop-node : goal.decreases-loop-node
-decreases-loop-node l = nodes - l.node
+invariant-loop-node l = l.number ≡ first_number l.size l.old l.node
