@@ -4,11 +4,12 @@
 ghost use Rattle.std.specs.Prelude.{◌≡◌, true, cond, ℕ, ◌+◌, ◌/◌, ◌%◌, ◌≤◌, ◌<◌, ltb, leb, get_or};
 ghost use Rattle.wire.specs.Formed.{every};
 ghost use Rattle.wire.specs.Decode.{items_from};
+ghost use Rattle.numbers.specs.Outcome.{number_of};
 ghost use Rattle.classes.specs.Classes.{most_bounds, most_classes, too_heavy, bound_count, tally_place, tally_count, bounds, tally_at, tallies};
 ghost use Rattle.classes.specs.Classes.{strange, rising, unbounded, has, twice, length_number, table_number, no_table, sound, class_of};
 ghost use Rattle.classes.specs.Weights.{weight_count, weights, batch_length, overweight, weighed, count_up, tallies_of, grams_of, left_of};
 
-use numbers::{pick, refuse};
+use numbers::Refusal;
 
 // The bytes in which a node keeps its table.
 pub const KEPT: usize = 24;
@@ -46,12 +47,15 @@ pub fn count(kept: &[u8]) -> usize
     usize::from(octets::get_u8(kept, objects_place(kept)))
 }
 
-// The number of a table's length as it is lent: 1 another than the counts say. Ruled out: 0 for a byte behind the lists; 1 for a table without bounds.
-pub fn length_number(list: &[u8]) -> u8
-    ensures { result ≡ length_number list.now }
+// Whether a list has the length that its counts say, as a table that is lent. Ruled out: a byte behind the lists taken; a table without bounds refused.
+#[tactic(auto, unfolding(crate::specs::Classes::length_number))]
+pub fn check_length(list: &[u8]) -> Result<(), Refusal>
+    ensures { number_of result ≡ length_number list.now }
 {
-    let size = objects_place(list) + 1 + count(list);
-    pick(list.len() == size, 0, numbers::LENGTH)
+    if list.len() != objects_place(list) + 1 + count(list) {
+        return Err(Refusal::Length);
+    }
+    Ok(())
 }
 
 // Whether a tally is none.
@@ -108,21 +112,25 @@ fn is_twice(list: &[u8]) -> bool
     })
 }
 
-// The number of a table, at a node that is at work or idle: 6 a tally that is none, 10 not idle, 14 its bounds, 15 a tally twice.
-// Ruled out: 14 where a tally is none too; 0 for two bounds that are equal.
-pub fn table_number(working: bool, list: &[u8]) -> u8
-    ensures { result ≡ table_number working list.now }
+// Whether a node that is at work or idle may take a table: refused for a tally that is none, where it is not idle, for the bounds, for a tally twice.
+// Ruled out: 'bounds' where a tally is none too; two bounds that are equal taken.
+#[tactic(auto, unfolding(crate::specs::Classes::table_number))]
+pub fn check_table(working: bool, list: &[u8]) -> Result<(), Refusal>
+    ensures { number_of result ≡ table_number working list.now }
 {
     if is_strange(list) {
-        return numbers::NO_SUCH_OBJECT;
+        return Err(Refusal::NoSuchObject);
     }
     if working {
-        return numbers::BUSY;
+        return Err(Refusal::Busy);
     }
     if is_unbounded(list) {
-        return numbers::BOUNDS;
+        return Err(Refusal::Bounds);
     }
-    refuse(numbers::TALLY_TWICE, is_twice(list), 0)
+    if is_twice(list) {
+        return Err(Refusal::TallyTwice);
+    }
+    Ok(())
 }
 
 // Whether no table is kept. Ruled out: a table without bounds taken for none; one of which only the first byte is 0 taken for none.
@@ -133,10 +141,11 @@ pub fn is_none(kept: &[u8]) -> bool
 }
 
 // Whether what is kept is no table or one that loading accepts. Ruled out: a refusal for what stands behind the lists; a table with a tally twice passed.
+#[tactic(auto, unfolding(crate::specs::Classes::sound))]
 pub fn is_sound(kept: &[u8]) -> bool
     ensures { result ≡ sound kept.now }
 {
-    is_none(kept) || table_number(false, kept) == 0
+    is_none(kept) || check_table(false, kept).is_ok()
 }
 
 // The tally of a class; 0 where there is no such class.
@@ -168,11 +177,15 @@ fn weight_count(list: &[u8]) -> usize
     usize::from(octets::get_u16(list, 0))
 }
 
-// The number of a batch's length: 1 another than its count says. Ruled out: 0 for a weight cut in half; 1 for a batch of no weights.
-pub fn batch_length(list: &[u8]) -> u8
-    ensures { result ≡ batch_length list.now }
+// Whether a batch has the length that its count says. Ruled out: a weight cut in half taken; a batch of no weights refused.
+#[tactic(auto, unfolding(crate::specs::Weights::batch_length))]
+pub fn check_batch(list: &[u8]) -> Result<(), Refusal>
+    ensures { number_of result ≡ batch_length list.now }
 {
-    pick(list.len() == 2 + 2 * weight_count(list), 0, numbers::LENGTH)
+    if list.len() != 2 + 2 * weight_count(list) {
+        return Err(Refusal::Length);
+    }
+    Ok(())
 }
 
 // Whether every weight is one.

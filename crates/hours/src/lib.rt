@@ -4,9 +4,10 @@
 ghost use Rattle.std.specs.Prelude.{◌≡◌, ◌<◌, eqb, length};
 ghost use Rattle.wire.specs.Formed.{every};
 ghost use Rattle.hours.specs.Hours.{window_count, dates_place, date_count, windows, dates, window_ok, faulty, table_number, any_of, in_window, closed_by};
+ghost use Rattle.numbers.specs.Outcome.{number_of};
 ghost use Rattle.hours.specs.Kept.{kept_size, stored, kept_number, load_number, load_after, closed};
 
-use numbers::{either, refuse};
+use numbers::Refusal;
 
 // The bytes in which a node keeps its hours.
 pub const KEPT: usize = 187;
@@ -90,25 +91,33 @@ fn closes(list: &[u8], day: u32, minute: u16) -> bool
     has_date(list, day) || !has_minute(list, minute)
 }
 
-// The number of a table as it is lent: 1 another length than its counts say, 2 a faulty one. Ruled out: 2 for a table that is too short; 0 for a window
-// that ends where it starts.
-pub fn number(list: &[u8]) -> u8
-    ensures { result ≡ table_number list.now }
+// Whether a list is a table of packing hours: refused for a length that its counts do not say, and where it is faulty. Ruled out: 'damaged' for a table
+// that is too short; a window of no minutes taken.
+#[tactic(auto, unfolding(crate::specs::Hours::table_number, crate::specs::Hours::table_refusals))]
+pub fn check_table(list: &[u8]) -> Result<(), Refusal>
+    ensures { number_of result ≡ table_number list.now }
 {
-    let size = dates_place(list) + 1 + DATE * date_count(list);
-    let bad = refuse(numbers::DAMAGED, is_faulty(list), 0);
-    refuse(numbers::LENGTH, list.len() != size, bad)
+    if list.len() != dates_place(list) + 1 + DATE * date_count(list) {
+        return Err(Refusal::Length);
+    }
+    if is_faulty(list) {
+        return Err(Refusal::Damaged);
+    }
+    Ok(())
 }
 
-// The number of bytes as a node keeps them: 1 another length, 2 damaged. Ruled out: 2 for what stands behind the lists; 0 for a third kind of loaded.
-pub fn check(kept: &[u8]) -> u8
-    ensures { result ≡ kept_number kept.now }
+// Whether bytes are hours as a node keeps them. Ruled out: 'damaged' for what stands behind the lists; a third kind of loaded taken.
+#[tactic(auto, unfolding(crate::specs::Kept::kept_number))]
+pub fn check(kept: &[u8]) -> Result<(), Refusal>
+    ensures { number_of result ≡ kept_number kept.now }
 {
     if kept.len() != KEPT {
-        return numbers::LENGTH;
+        return Err(Refusal::Length);
     }
-    let bad = either(1 < octets::get_u8(kept, 0), is_faulty(&kept[1..]));
-    refuse(numbers::DAMAGED, bad, 0)
+    if 1 < octets::get_u8(kept, 0) || is_faulty(&kept[1..]) {
+        return Err(Refusal::Damaged);
+    }
+    Ok(())
 }
 
 // The stored form over the whole of the bytes: the mark that a table is loaded, then the table.
@@ -120,20 +129,19 @@ fn store(kept: &mut [u8], list: &[u8])
     parts::lay(&mut kept[1..], list);
 }
 
-// Loads a table in place of the one before: 1 another length of either, 2 a faulty table. Ruled out: a faulty table that takes the old one's place; a table
+// Loads a table in place of the one before; refused for another length of either, and for a faulty table. Ruled out: a faulty table that takes the old one's place; a table
 // whose last date is lost.
-pub fn load(kept: &mut [u8], list: &[u8]) -> u8
-    ensures value { result ≡ load_number kept.old list.now }
+#[tactic(auto, unfolding(crate::specs::Kept::load_number, crate::specs::Kept::load_after))]
+pub fn load(kept: &mut [u8], list: &[u8]) -> Result<(), Refusal>
+    ensures value { number_of result ≡ load_number kept.old list.now }
     ensures kept_after { kept.new ≡ load_after kept.old list.now }
 {
     if kept.len() != KEPT {
-        return numbers::LENGTH;
+        return Err(Refusal::Length);
     }
-    let n = number(list);
-    if n == 0 {
-        store(kept, list);
-    }
-    n
+    check_table(list)?;
+    store(kept, list);
+    Ok(())
 }
 
 // Whether the minute of a day is closed; before a table is loaded none is. Ruled out: the end minute open; a closed date open where a window has the minute.

@@ -7,14 +7,16 @@ ghost use Rattle.parts.specs.Parts.{part, splice};
 ghost use Rattle.hours.specs.Kept.{closed};
 ghost use Rattle.classes.specs.Classes.{most_classes};
 ghost use Rattle.record.specs.Record.{record_of};
+ghost use Rattle.numbers.specs.Outcome.{number_of};
+ghost use Rattle.record.specs.Call.{told};
 ghost use Rattle.settings.specs.Settings.{settings_size, hours_in, adds, tenths, below10, unsound, settings_number};
 ghost use Rattle.settings.specs.Settings.{blank_number, blank_after, load_number, load_after, kind_of};
 
 use classes::MOST_CLASSES;
 use coordinator::{COMMITTED, FINISHING, IDLE};
-use numbers::{both, either, lower, refuse};
+use numbers::{Refusal, both, either, first_refusal};
+use record::OUTCOME;
 use record::look::phase;
-use record::{Called, OUTCOME, refused, taken};
 
 // The bytes of a node's settings.
 pub const SETTINGS: usize = 228;
@@ -61,48 +63,54 @@ fn below_10(bytes: &[u8], at: usize) -> bool
 }
 
 // Whether settings of their length are damaged.
+#[tactic(auto, unfolding(crate::specs::Settings::unsound, parts::specs::Parts::part))]
 fn is_unsound(settings: &[u8]) -> bool
     requires { length settings.now ≡ settings_size }
     ensures { result ≡ unsound settings.now }
 {
-    let hours = hours::check(&settings[0..hours::KEPT]);
-    let classes = classes::is_sound(&settings[CLASSES..KIND]);
-    let tenths = both(below_10(settings, WAITED), below_10(settings, LEFT));
-    let behind = either(BATCH < octets::get_u8(settings, KIND), !tenths);
-    either(hours != 0, either(!classes, behind))
+    if hours::check(&settings[0..hours::KEPT]).is_err() {
+        return true;
+    }
+    if !classes::is_sound(&settings[CLASSES..KIND]) || BATCH < octets::get_u8(settings, KIND) {
+        return true;
+    }
+    !below_10(settings, WAITED) || !below_10(settings, LEFT)
 }
 
-// The number of settings: 1 another length, 2 damaged. Ruled out: 2 for a byte behind the hours' lists; 0 for ten tenths that wait.
-pub fn check(settings: &[u8]) -> u8
-    ensures { result ≡ settings_number settings.now }
+// Whether bytes are settings. Ruled out: 'damaged' for a byte behind the hours' lists; ten tenths that wait taken.
+#[tactic(auto, unfolding(crate::specs::Settings::settings_number))]
+pub fn check(settings: &[u8]) -> Result<(), Refusal>
+    ensures { number_of result ≡ settings_number settings.now }
 {
     if settings.len() != SETTINGS {
-        return numbers::LENGTH;
+        return Err(Refusal::Length);
     }
-    refuse(numbers::DAMAGED, is_unsound(settings), 0)
+    if is_unsound(settings) {
+        return Err(Refusal::Damaged);
+    }
+    Ok(())
 }
 
 // Makes settings blank: nothing is loaded. Ruled out: a byte of a buffer of another length altered; a table kept.
-pub fn blank(settings: &mut [u8]) -> u8
-    ensures value { result ≡ blank_number settings.old }
+#[tactic(auto, unfolding(crate::specs::Settings::blank_number, crate::specs::Settings::blank_after))]
+pub fn blank(settings: &mut [u8]) -> Result<(), Refusal>
+    ensures value { number_of result ≡ blank_number settings.old }
     ensures settings_after { settings.new ≡ blank_after settings.old }
 {
     if settings.len() != SETTINGS {
-        return numbers::LENGTH;
+        return Err(Refusal::Length);
     }
     parts::zero(settings);
-    0
+    Ok(())
 }
 
 // Loads a table of packing hours in place of the one before. Ruled out: a faulty table that takes the old one's place; 2 for a table that is too short.
-pub fn load_hours(settings: &mut [u8], list: &[u8]) -> u8
-    ensures value { result ≡ load_number settings.old list.now }
+#[tactic(auto, using(numbers::proofs::Laws::lower_none, crate::proofs::Sound::sound_parts), unfolding(crate::specs::Settings::load_number, crate::specs::Settings::load_after, parts::specs::Parts::part))]
+pub fn load_hours(settings: &mut [u8], list: &[u8]) -> Result<(), Refusal>
+    ensures value { number_of result ≡ load_number settings.old list.now }
     ensures settings_after { settings.new ≡ load_after settings.old list.now }
 {
-    let number = lower(check(settings), hours::number(list));
-    if number != 0 {
-        return number;
-    }
+    first_refusal(check(settings), hours::check_table(list))?;
     hours::load(&mut settings[0..hours::KEPT], list)
 }
 
@@ -149,12 +157,10 @@ pub fn settle(settings: &mut [u8], kind: u8, waits: [u8; MOST_CLASSES], left: [u
 }
 
 // The kind of the transaction begun last: 0 the host's own, 1 a batch. Ruled out: 1 after classes were loaded; a kind of damaged settings.
-pub fn kind(settings: &[u8]) -> Called
-    ensures { result ≡ kind_of settings.now }
+#[tactic(auto, unfolding(crate::specs::Settings::kind_of))]
+pub fn kind(settings: &[u8]) -> Result<u64, Refusal>
+    ensures { told result ≡ kind_of settings.now }
 {
-    let number = check(settings);
-    if number != 0 {
-        return refused(number);
-    }
-    taken(u64::from(octets::get_u8(settings, KIND)))
+    check(settings)?;
+    Ok(u64::from(octets::get_u8(settings, KIND)))
 }
