@@ -3,8 +3,6 @@ use mathlib.Core.Path.{◌≡◌, refl, sym, ap, ap₂, ◌∙◌}
 use mathlib.Core.List.{List}
 use Prim.Native.Nat.{ℕ, ◌+◌}
 use native.Mathlib.Numerals.{add-one}
-use native.Mathlib.Omega.{arith}
-use Rattle.numbers.specs.Sizes.{nodes}
 use Rattle.closing.specs.Copies.{newer_of, copy_at, newest_of}
 use Rattle.closing.proofs.copies.newest_copy.Goals as goal
 
@@ -21,10 +19,3 @@ loop-i-preserved c =
     let l = c.loop-i in
     let x = c.args in
     c.newer-b.ensures ∙ ap₂ newer_of l.invariant c.copy_at.ensures ∙ sym (newest_more x.images.now x.object l.i)
-
-pub returns : goal.returns
-returns c =
-    let l = c.loop-i in
-    let x = c.args in
-    let e : l.i ≡ nodes = omega (arith, c.loop-i-test.false) in
-    l.invariant ∙ ap (newest_of x.images.now x.object) e

@@ -4,14 +4,10 @@ use native.Mathlib.Omega.{arith}
 use mathlib.Core.Path.{ap₂, ◌∙◌}
 use Rattle.numbers.specs.Sizes.{objects}
 use Rattle.report.specs.Page.{page, inks}
-use Rattle.report.specs.Each.{none_yet, one_more, all_put}
+use Rattle.report.specs.Each.{one_more, all_put}
 use Rattle.closing.specs.declared.Best.{Best}
 use Rattle.closing.specs.Texts.{object_texts, nth_object_texts, objects_texts}
 use Rattle.closing.proofs.copies.objects.Goals as goal
-
-pub loop-t-init : goal.loop-t-init
-loop-t-init c = let x = c.args in
-    none_yet (nth_object_texts x.images.now x.sheet.now) objects x.out.now x.at
 
 pub loop-t-preserved : goal.loop-t-preserved
 loop-t-preserved c = let l = c.loop-t in

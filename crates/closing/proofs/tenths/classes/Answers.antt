@@ -4,13 +4,9 @@ use mathlib.Core.Path.{ap, ◌∙◌}
 use Rattle.classes.specs.Classes.{most_classes}
 use Rattle.record.specs.declared.Called.{Called}
 use Rattle.report.specs.Page.{page, inks}
-use Rattle.report.specs.Each.{none_yet, one_more, all_put}
+use Rattle.report.specs.Each.{one_more, all_put}
 use Rattle.closing.specs.Texts.{class_texts, nth_class_texts}
 use Rattle.closing.proofs.tenths.classes.Goals as goal
-
-pub loop-i-init : goal.loop-i-init
-loop-i-init c = let x = c.args in
-    none_yet (nth_class_texts x.bytes.now x.settings.now) most_classes x.out.now x.at
 
 pub loop-i-preserved : goal.loop-i-preserved
 loop-i-preserved c = let l = c.loop-i in

@@ -1,13 +1,9 @@
 -- `closing::tenths::lines`: the loop puts one node's line after another.
 use native.Mathlib.Omega.{arith}
 use Rattle.numbers.specs.Sizes.{nodes}
-use Rattle.report.specs.Each.{none_yet, one_more, all_put}
+use Rattle.report.specs.Each.{one_more, all_put}
 use Rattle.closing.specs.Texts.{nth_node_texts}
 use Rattle.closing.proofs.tenths.lines.Goals as goal
-
-pub loop-n-init : goal.loop-n-init
-loop-n-init c = let x = c.args in
-    none_yet (nth_node_texts x.records.now x.settings.now) nodes x.out.now x.at
 
 pub loop-n-preserved : goal.loop-n-preserved
 loop-n-preserved c = let l = c.loop-n in
