@@ -5,12 +5,12 @@ use mathlib.Core.List.{List}
 use Prim.Native.Nat.{ℕ, ◌<◌}
 use lib.Dec.{T, eqb, eqb→eq, T_not, not_T}
 use lib.ListN.{length}
-use borrow.Author.Tests.{lt-ltb, eq-eqb}
+use borrow.Author.Tests.{lt-ltb}
 use Rattle.numbers.specs.Sizes.{nodes}
 use Rattle.mask.specs.Mask.{contains}
-use Rattle.mask.proofs.Tests.{and_both, and_left, and_right, or_cases, or_left, or_right, T_true}
+use Rattle.mask.proofs.Tests.{and_both, and_left, and_right, or_cases, T_true}
 use Rattle.image.specs.Layout.{state, serial}
-use Rattle.image.specs.Valid.{held, each}
+use Rattle.image.specs.Valid.{held}
 use Rattle.image.proofs.Each.{each_at, each_all}
 use Rattle.clauses.proofs.Parts.{eq-T, true-T}
 use Rattle.coordinator.specs.declared.Coordinator.{Coordinator}

@@ -1,24 +1,21 @@
--- A loop that tries every number below n: what it keeps, one number more, and the end.
-use mathlib.Core.Path.{◌≡◌, refl, sym, ap, ap₂, ◌∙◌}
-use mathlib.Core.Bool.{Bool, true, ◌&&◌}
-use Prim.Native.Nat.{ℕ, ◌+◌, ◌<◌, ◌≤◌}
+-- What `all` says of the numbers below n is what `each` says.
+use mathlib.Core.Path.{◌≡◌, sym, ap, ◌∙◌}
+use mathlib.Core.Bool.{Bool, ◌&&◌, and-true}
+use Prim.Native.Nat.{ℕ, zero, suc, ◌+◌}
 use native.Mathlib.Omega.{arith}
+use Rattle.std.specs.List.{list_all, range_with_len}
+use Rattle.std.proofs.Math.Bool.{and_assoc}
 use Rattle.image.specs.Valid.{each}
 use Rattle.image.proofs.Each.{each_more}
 
--- those before the i-th are tried
-pub record Tried (p : ℕ → Bool) (n : ℕ) (all : Bool) (i : ℕ) : Type 0 where
-  pub within : i ≤ n
-  pub so_far : all ≡ each i p
+-- n more numbers, from a on
+each_from : (p : ℕ → Bool) (a n : ℕ) → each (a + n) p ≡ (each a p && list_all p (range_with_len a n))
+each_from p a zero = let e : a + 0 ≡ a = omega arith in ap (λ (k : ℕ). each k p) e ∙ sym (and-true (each a p))
+each_from p a (suc n) =
+    let e : a + suc n ≡ a + 1 + n = omega arith in
+    let rest = list_all p (range_with_len (a + 1) n) in
+    ap (λ (k : ℕ). each k p) e ∙ each_from p (a + 1) n ∙ ap (λ (b : Bool). b && rest) (each_more p a) ∙ and_assoc (each a p) (p a) rest
 
-module _ (p : ℕ → Bool) (n : ℕ) where
-  pub none_tried : Tried p n true 0
-  unfolding each
-  none_tried = record { within = omega arith; so_far = refl }
-
-  pub one_tried : (all more x : Bool) (i : ℕ) → i < n → Tried p n all i → x ≡ p i → more ≡ (all && x) → Tried p n more (i + 1)
-  one_tried all more x i h t e f =
-      record { within = omega arith; so_far = f ∙ ap₂ (λ (a b : Bool). a && b) t.so_far e ∙ sym (each_more p i) }
-
-  pub all_tried : (all : Bool) (i : ℕ) → n ≤ i → Tried p n all i → all ≡ each n p
-  all_tried all i h t = let w = t.within in let e : i ≡ n = omega arith in t.so_far ∙ ap (λ (k : ℕ). each k p) e
+pub each_range : (p : ℕ → Bool) (n : ℕ) → list_all p (range_with_len 0 n) ≡ each n p
+unfolding each
+each_range p n = let e : 0 + n ≡ n = omega arith in sym (each_from p 0 n) ∙ ap (λ (k : ℕ). each k p) e

@@ -6,40 +6,31 @@ ghost use Rattle.report.specs.Page.{page, inks};
 ghost use Rattle.closing.specs.Copies.{no_copy, copy_at, newer_of, newest_of, newest};
 ghost use Rattle.closing.specs.Texts.{copy_texts, author_texts, object_texts, objects_texts};
 
-use crate::{Best, wide};
+use crate::Best;
 use numbers::{NOBODY, NODES_END, OBJECTS_END, UNKNOWN, both};
 
 // No copy.
-fn none() -> Best
-    ensures { result ≡ no_copy }
-{
-    Best {
-        version: 0,
-        value: 0,
-        nodes: 0,
-        author: NOBODY,
-        serial: 0,
-    }
-}
+const NONE: Best = Best {
+    version: 0,
+    value: 0,
+    nodes: 0,
+    author: NOBODY,
+    serial: 0,
+};
 
 // A node's own copy.
 fn copy_at(images: &[u8], object: u8, node: u8) -> Best
     requires { (length images.now ≡ images_size) × (node < nodes) }
     ensures { result ≡ copy_at images.now object node }
 {
-    let start = image::SIZE * wide(node);
-    let end = start + image::SIZE;
-    let version = image::version(&images[start..end], object);
-    let value = image::value(&images[start..end], object);
-    let nodes = mask::single(node);
-    let author = image::author(&images[start..end], object);
-    let serial = image::author_serial(&images[start..end], object);
+    let start = image::SIZE * usize::from(node);
+    let image = &images[start..start + image::SIZE];
     Best {
-        version,
-        value,
-        nodes,
-        author,
-        serial,
+        version: image::version(image, object),
+        value: image::value(image, object),
+        nodes: mask::single(node),
+        author: image::author(image, object),
+        serial: image::author_serial(image, object),
     }
 }
 
@@ -51,13 +42,9 @@ fn newer(a: Best, b: Best) -> Best
         return b;
     }
     if b.version == a.version {
-        let nodes = mask::join(a.nodes, b.nodes);
         return Best {
-            version: a.version,
-            value: a.value,
-            nodes,
-            author: a.author,
-            serial: a.serial,
+            nodes: mask::join(a.nodes, b.nodes),
+            ..a
         };
     }
     a
@@ -68,12 +55,9 @@ fn newest_copy(images: &[u8], object: u8) -> Best
     requires { length images.now ≡ images_size }
     ensures { result ≡ newest_of images.now object nodes }
 {
-    let mut b = none();
-    let mut i: u8 = 0;
-    while i < NODES_END {
-        let c = copy_at(images, object, i);
-        b = newer(b, c);
-        i = i + 1;
+    let mut b = NONE;
+    for i in 0..NODES_END {
+        b = newer(b, copy_at(images, object, i));
     }
     b
 }
@@ -85,7 +69,7 @@ fn newest(images: &[u8], object: u8) -> Best
     if images.len() == buffers::IMAGES {
         newest_copy(images, object)
     } else {
-        none()
+        NONE
     }
 }
 
@@ -93,10 +77,10 @@ fn newest(images: &[u8], object: u8) -> Best
 fn copy(out: &mut [u8], at: usize, t: u8, b: Best) -> usize
     ensures { page out.new result ≡ inks (page out.old at) (copy_texts t b) }
 {
-    let c = report::number(out, at, b"  object ", t as u64);
-    let d = report::number(out, c, b" version ", b.version as u64);
+    let c = report::number(out, at, b"  object ", u64::from(t));
+    let d = report::number(out, c, b" version ", u64::from(b.version));
     let e = report::value(out, d, b" value ", b.value);
-    report::number(out, e, b" nodes ", b.nodes as u64)
+    report::number(out, e, b" nodes ", u64::from(b.nodes))
 }
 
 // Who wrote it last, in words. Ruled out: an owner printed where nobody is; the serial before the owner.
@@ -109,8 +93,8 @@ fn by(out: &mut [u8], at: usize, owner: u8, serial: u32) -> usize
     if owner == UNKNOWN {
         return report::text(out, at, b" by ?");
     }
-    let c = report::number(out, at, b" by ", owner as u64);
-    report::number(out, c, b"/", serial as u64)
+    let c = report::number(out, at, b" by ", u64::from(owner));
+    report::number(out, c, b"/", u64::from(serial))
 }
 
 // The line of an object; none where no node has a version above 0 and replay's value is 0.
@@ -131,12 +115,8 @@ pub(crate) fn objects(images: &[u8], sheet: &[u64], out: &mut [u8], at: usize) -
     ensures { page out.new result ≡ inks (page out.old at) (objects_texts images.now sheet.now) }
 {
     let mut a = at;
-    let mut t: u8 = 0;
-    while t < OBJECTS_END {
-        let b = newest(images, t);
-        let v = replay::value(sheet, t);
-        a = object(out, a, t, b, v);
-        t = t + 1;
+    for t in 0..OBJECTS_END {
+        a = object(out, a, t, newest(images, t), replay::value(sheet, t));
     }
     a
 }

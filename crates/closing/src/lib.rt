@@ -24,13 +24,6 @@ pub struct Best {
     pub serial: u32,
 }
 
-// A byte as a count.
-pub(crate) fn wide(x: u8) -> usize
-    ensures { result ≡ x }
-{
-    x as usize
-}
-
 // `yes` or `no`, behind a label.
 fn answered(out: &mut [u8], at: usize, label: &[u8], said: bool) -> usize
     ensures { page out.new result ≡ inks (page out.old at) (answer_texts label.now said) }

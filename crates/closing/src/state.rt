@@ -5,7 +5,6 @@ ghost use Rattle.record.specs.Record.{record_of};
 ghost use Rattle.buffers.specs.Buffers.{image_at, record_at, images_size, records_size};
 ghost use Rattle.closing.specs.State.{idle_at, all_idle, at_rest, holds, holds_at, released, decided, settled_with, settled_at, all_settled, settled};
 
-use crate::wide;
 use coordinator::{COMMITTED, Coordinator, FINISHING, IDLE};
 use numbers::{NODES_END, both, either};
 
@@ -14,9 +13,8 @@ fn record_at(records: &[u8], node: u8) -> Coordinator
     requires { (length records.now ≡ records_size) × (node < nodes) }
     ensures { result ≡ record_of (record_at records.now node) }
 {
-    let start = record::SIZE * wide(node);
-    let end = start + record::SIZE;
-    record::read(&records[start..end])
+    let start = record::SIZE * usize::from(node);
+    record::read(&records[start..start + record::SIZE])
 }
 
 // Whether a node's coordinator is idle; whether every one is.
@@ -24,32 +22,21 @@ fn is_idle(records: &[u8], node: u8) -> bool
     requires { (length records.now ≡ records_size) × (node < nodes) }
     ensures { result ≡ idle_at records.now node }
 {
-    let c = record_at(records, node);
-    c.phase == IDLE
+    record_at(records, node).phase == IDLE
 }
 
 fn all_idle(records: &[u8]) -> bool
     requires { length records.now ≡ records_size }
     ensures { result ≡ all_idle records.now }
 {
-    let mut all = true;
-    let mut i: u8 = 0;
-    while i < NODES_END {
-        all = both(all, is_idle(records, i));
-        i = i + 1;
-    }
-    all
+    (0..NODES_END).all(|i| is_idle(records, i))
 }
 
 // Whether the station is at rest. Ruled out: `yes` while the last coordinator votes; `yes` for records of another length.
 pub(crate) fn at_rest(records: &[u8]) -> bool
     ensures { result ≡ at_rest records.now }
 {
-    if records.len() == buffers::RECORDS {
-        all_idle(records)
-    } else {
-        false
-    }
+    records.len() == buffers::RECORDS && all_idle(records)
 }
 
 // Whether an image holds a transaction; whether a node's does.
@@ -66,9 +53,8 @@ fn holds_at(images: &[u8], node: u8, owner: u8, serial: u32) -> bool
     requires { (length images.now ≡ images_size) × (node < nodes) }
     ensures { result ≡ holds_at images.now node owner serial }
 {
-    let start = image::SIZE * wide(node);
-    let end = start + image::SIZE;
-    holds(&images[start..end], owner, serial)
+    let start = image::SIZE * usize::from(node);
+    holds(&images[start..start + image::SIZE], owner, serial)
 }
 
 // Whether no participant holds a transaction.
@@ -76,17 +62,10 @@ fn released(images: &[u8], participants: u16, owner: u8, serial: u32) -> bool
     requires { length images.now ≡ images_size }
     ensures { result ≡ released images.now participants owner serial }
 {
-    let mut all = true;
-    let mut i: u8 = 0;
-    while i < NODES_END {
-        let held = both(
-            mask::has(participants, i),
-            holds_at(images, i, owner, serial),
-        );
-        all = both(all, !held);
-        i = i + 1;
-    }
-    all
+    (0..NODES_END).all(|i| !both(
+        mask::has(participants, i),
+        holds_at(images, i, owner, serial),
+    ))
 }
 
 // Whether a coordinator's transaction is committed, and not finished.
@@ -110,13 +89,7 @@ fn all_settled(images: &[u8], records: &[u8]) -> bool
     requires { (length images.now ≡ images_size) × (length records.now ≡ records_size) }
     ensures { result ≡ all_settled images.now records.now }
 {
-    let mut all = true;
-    let mut i: u8 = 0;
-    while i < NODES_END {
-        all = both(all, settled_at(images, records, i));
-        i = i + 1;
-    }
-    all
+    (0..NODES_END).all(|i| settled_at(images, records, i))
 }
 
 // Whether the station is settled: no participant of a committed transaction holds it.

@@ -8,7 +8,6 @@ ghost use Rattle.report.specs.Page.{page, inks};
 ghost use Rattle.report.specs.Each.{each_from};
 ghost use Rattle.closing.specs.Texts.{class_texts, nth_class_texts, node_texts, nth_node_texts, waiting_texts};
 
-use crate::wide;
 use numbers::NODES_END;
 use record::Called;
 
@@ -30,11 +29,8 @@ fn classes(bytes: &[u8], settings: &[u8], out: &mut [u8], at: usize) -> usize
         ≡ inks (page out.old at) (each_from (nth_class_texts bytes.now settings.now) most_classes 0) }
 {
     let mut a = at;
-    let mut i: u8 = 0;
-    while i < CLASSES_END {
-        let w = frontend::waiting(bytes, settings, i);
-        a = class(out, a, w);
-        i = i + 1;
+    for i in 0..CLASSES_END {
+        a = class(out, a, frontend::waiting(bytes, settings, i));
     }
     a
 }
@@ -47,7 +43,7 @@ fn node(bytes: &[u8], settings: &[u8], out: &mut [u8], at: usize, n: u8) -> usiz
     if first.number != 0 {
         return at;
     }
-    let a = report::number(out, at, b"  waiting ", n as u64);
+    let a = report::number(out, at, b"  waiting ", u64::from(n));
     let b = classes(bytes, settings, out, a);
     report::text(out, b, b"\n")
 }
@@ -56,9 +52,9 @@ fn node_at(records: &[u8], settings: &[u8], out: &mut [u8], at: usize, n: u8) ->
     requires { (length records.now ≡ records_size) × ((length settings.now ≡ all_settings) × (n < nodes)) }
     ensures { page out.new result ≡ inks (page out.old at) (nth_node_texts records.now settings.now n) }
 {
-    let a = record::SIZE * wide(n);
+    let a = record::SIZE * usize::from(n);
     let b = a + record::SIZE;
-    let c = settings::SETTINGS * wide(n);
+    let c = settings::SETTINGS * usize::from(n);
     let d = c + settings::SETTINGS;
     node(&records[a..b], &settings[c..d], out, at, n)
 }
@@ -70,10 +66,8 @@ fn lines(records: &[u8], settings: &[u8], out: &mut [u8], at: usize) -> usize
         ≡ inks (page out.old at) (each_from (nth_node_texts records.now settings.now) nodes 0) }
 {
     let mut a = at;
-    let mut n: u8 = 0;
-    while n < NODES_END {
+    for n in 0..NODES_END {
         a = node_at(records, settings, out, a, n);
-        n = n + 1;
     }
     a
 }

@@ -14,9 +14,7 @@ use Rattle.image.specs.Layout.{Shape, shape, image_size}
 use Rattle.image.specs.Valid.{valid}
 use Rattle.image.proofs.Sound.{Sound}
 use Rattle.numbers.specs.Numbers.{wrong_length, damaged}
-use Rattle.intake.specs.declared.Older.{Older}
-use Rattle.intake.specs.Take.{older_shapes, shape_for, older_of, is_older, was_valid, taken, taken_in, take_refusals, take_number, take_after}
-use Rattle.intake.specs.Pass.{shape_of, found}
+use Rattle.intake.specs.Take.{older_shapes, shape_for, older_of, is_older, was_valid, taken_in, take_refusals, take_number, take_after}
 use Rattle.intake.proofs.Taken.{length_taken}
 use Rattle.intake.proofs.Judged.{taken_sound}
 
@@ -26,50 +24,26 @@ unfolding padded
 padded_whole [] = refl
 padded_whole (x ∷ l) = ap (λ (m : List ℕ). x ∷ m) (padded_whole l)
 
-module _ (old image : List ℕ) (s : Older) (e : older_of (length old) ≡ found s) where
-  -- the first refusal, as the code tests it
-  abbrev unfit : Bool
-  unfit = eqb s.objects 0 || not (eqb (length image) (image_size shape))
+-- no older length
+pub unknown_length : (old image : List ℕ) → older_of (length old) ≡ none → (wrong_length ≡ take_number old image) × (image ≡ take_after old image)
+unfolding take_number take_after take_refusals
+unknown_length old image e = (rw e, rw e)
 
-  number_by : take_number old image ≡ cond unfit wrong_length (cond (valid (shape_of s) old) 0 damaged)
-  unfolding take_number take_refusals
-  number_by = rw e (by (eqb s.objects 0) (eqb (length image) (image_size shape)) (valid (shape_of s) old) refl)
-    where
-      by : (b n v : Bool) → valid (shape_of s) old ≡ v
-          → ◌≡◌ {A = ℕ} (cond (not (is_older (cond b none (some (shape_of s)))) || not n) 1 (cond (not (was_valid (cond b none (some (shape_of s))) old)) 2 0))
-          (cond (b || not n) 1 (cond v 0 2))
-      by true n v q = refl
-      by false true true q = rw q
-      by false true false q = rw q
-      by false false v q = refl
-
-  after_by : take_after old image ≡ cond unfit image (cond (valid (shape_of s) old) (taken_in (shape_of s) old) image)
-  unfolding take_after
-  after_by = rw (number_by, e) (by (eqb s.objects 0) (eqb (length image) (image_size shape)) (valid (shape_of s) old))
-    where
-      by : (b n v : Bool)
-          → cond (eqb (cond (b || not n) 1 (cond v 0 2)) 0) (taken (cond b none (some (shape_of s))) old image) image
-          ≡ cond (b || not n) image (cond v (taken_in (shape_of s) old) image)
-      by true n v = refl
-      by false true true = refl
-      by false true false = refl
-      by false false v = refl
-
-  pub called : (u v : Bool) → unfit ≡ u → valid (shape_of s) old ≡ v
-      → (cond u wrong_length (cond v 0 damaged) ≡ take_number old image) × (cond u image (cond v (taken_in (shape_of s) old) image) ≡ take_after old image)
-  called u v p q = (rw (number_by, p, q), rw (after_by, p, q))
+module _ (old image : List ℕ) (s : Shape) (e : older_of (length old) ≡ some s) where
+  -- today's length or not, and valid or not
+  pub called : (n v : Bool) → eqb (length image) (image_size shape) ≡ n → valid s old ≡ v
+      → (cond n (cond v 0 damaged) wrong_length ≡ take_number old image) × (cond n (cond v (taken_in s old) image) image ≡ take_after old image)
+  unfolding take_number take_after take_refusals
+  called true true p q = (rw (e, p, q), rw (e, p, q))
+  called true false p q = (rw (e, p, q), rw (e, p, q))
+  called false v p q = (rw (e, p), rw (e, p))
 
   -- what is laid into bytes of today's length is there as it is
-  pub laid : (m n : List ℕ) → unfit ≡ false → n ≡ taken_in (shape_of s) old → m ≡ padded (length image) n → m ≡ taken_in (shape_of s) old
+  pub laid : (m n : List ℕ) → length image ≡ image_size shape → n ≡ taken_in s old → m ≡ padded (length image) n → m ≡ taken_in s old
   laid m n p q e =
-      let t = taken_in (shape_of s) old in
-      let k : length image ≡ length t = fits (eqb s.objects 0) (eqb (length image) (image_size shape)) refl p ∙ sym (length_taken (shape_of s) old) in
+      let t = taken_in s old in
+      let k : length image ≡ length t = p ∙ sym (length_taken s old) in
       e ∙ ap (padded (length image)) q ∙ ap (λ (i : ℕ). padded i t) k ∙ padded_whole t
-    where
-      fits : (b n : Bool) → eqb (length image) (image_size shape) ≡ n → (b || not n) ≡ false → length image ≡ image_size shape
-      fits b true e p = eqb→eq (length image) (image_size shape) (subst T (sym e) tt)
-      fits true false e p = absurd (subst T p tt)
-      fits false false e p = absurd (subst T p tt)
 
 -- ---- what a call without a refusal says, for the theorems above
 -- today's length is no older one

@@ -14,13 +14,13 @@ use Rattle.image.specs.declared.Copy.{Copy}
 use Rattle.image.specs.declared.Field.{Field}
 use Rattle.image.specs.declared.Owner.{Owner}
 use Rattle.image.specs.Field.{field_of}
-use Rattle.image.specs.Layout.{Shape, shape, has_author, image_size, value_field, version_field, holder_field, readers_field, writers_field}
+use Rattle.image.specs.Layout.{Shape, has_author, image_size, value_field, version_field, holder_field, readers_field, writers_field}
 use Rattle.image.specs.Layout.{author_field, author_serial_field, serial_field, state_field, stamp_field}
 use Rattle.image.specs.Blank.{blank_as}
 use Rattle.image.proofs.Each.{lt_or_le}
 use Rattle.image.proofs.Lens.{inside, apart, ends, of_out, of_small}
 use Rattle.intake.specs.Take.{author_at, copy_as, owner_as, with_copy_as, with_kept_as, with_copies_as, with_owners_as, taken_into}
-use Rattle.intake.proofs.Columns.{Column, column, with_item, with_items, fields, all_apart, all_together, orderly, every, every_at, In, Has, has_field}
+use Rattle.intake.proofs.Columns.{Column, column, with_item, with_items, all_apart, all_together, orderly, every, every_at, In, Has, has_field}
 use Rattle.intake.proofs.Columns.{length_items, bytes_items, items_apart, items_beyond, items_here}
 use Rattle.image.proofs.Blanks.{length_blank_as, bytes_blank_as}
 use Rattle.intake.proofs.Marks.{marks}

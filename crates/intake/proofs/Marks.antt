@@ -3,7 +3,7 @@ use mathlib.Core.Path.{◌≡◌}
 use mathlib.Core.Bool.{not, true}
 use mathlib.Core.List.{List, [], ◌∷◌}
 use Prim.Native.Nat.{ℕ, ◌<◌, ◌≤◌}
-use lib.Dec.{T, leb, le→leb}
+use lib.Dec.{T, le→leb}
 use Rattle.mask.proofs.Tests.{and_left, and_right, or_right}
 use Rattle.numbers.specs.Sizes.{nobody}
 use Rattle.image.specs.declared.Field.{Field}

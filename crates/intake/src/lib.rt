@@ -1,15 +1,16 @@
 // Takes in an image of an older length: it is written as one of today's.
 #![tactic(auto)]
 
-ghost use Rattle.std.specs.Prelude.{◌≡◌, length};
+ghost use Rattle.std.specs.Prelude.{◌≡◌, length, MatchOption};
+ghost use Rattle.std.proofs.Math.Option.{none, some};
 ghost use Rattle.numbers.specs.Sizes.{nodes};
 ghost use Rattle.image.specs.Layout.{shape, image_size};
 ghost use Rattle.image.specs.Valid.{valid};
 ghost use Rattle.intake.specs.Take.{older_of, copy_as, owner_as, with_copy, with_kept, with_copies, with_owners, taken_in, take_number, take_after};
-ghost use Rattle.intake.specs.Pass.{shape_of, found, Fits};
+ghost use Rattle.intake.specs.Pass.{shape_of, Fits};
 
 use image::{Copy, Owner, SIZE};
-use numbers::{NODES_END, both, either};
+use numbers::{NODES_END, both};
 use read::{counts_ok, old_copy, old_owner};
 
 mod read;
@@ -40,20 +41,14 @@ const BEFORE_AUTHORS: Older = Older {
 
 const SIZE_BEFORE_AUTHORS: usize = 1207;
 
-// The older shape of `len` bytes; one of no objects where there is none.
-fn older_of(len: usize) -> Older
-    ensures len_value { older_of len ≡ found result }
-    ensures fits { Fits result }
+// The older shape of `len` bytes.
+fn older_of(len: usize) -> Option<Older>
+    ensures { MatchOption result (older_of len ≡ none) (λ s. (older_of len ≡ some (shape_of s)) × Fits s) }
 {
-    if len == SIZE_WITH_AUTHORS {
-        return WITH_AUTHORS;
-    }
-    if len == SIZE_BEFORE_AUTHORS {
-        return BEFORE_AUTHORS;
-    }
-    Older {
-        objects: 0,
-        width: 0,
+    match len {
+        SIZE_WITH_AUTHORS => Some(WITH_AUTHORS),
+        SIZE_BEFORE_AUTHORS => Some(BEFORE_AUTHORS),
+        _ => None,
     }
 }
 
@@ -83,11 +78,8 @@ fn set_copies(old: &[u8], s: Older, image: &mut [u8])
     requires { Fits s }
     ensures { image.new ≡ with_copies (copy_as (shape_of s) old.now) s.objects image.old }
 {
-    let mut t: u8 = 0;
-    while t < s.objects {
-        let c = old_copy(old, s, t);
-        set_copy(image, t, c);
-        t = t + 1;
+    for t in 0..s.objects {
+        set_copy(image, t, old_copy(old, s, t));
     }
 }
 
@@ -96,11 +88,8 @@ fn set_owners(old: &[u8], s: Older, image: &mut [u8])
     requires { Fits s }
     ensures { image.new ≡ with_owners (owner_as (shape_of s) old.now) nodes image.old }
 {
-    let mut o: u8 = 0;
-    while o < NODES_END {
-        let w = old_owner(old, s, o);
-        set_owner(image, o, w);
-        o = o + 1;
+    for o in 0..NODES_END {
+        set_owner(image, o, old_owner(old, s, o));
     }
 }
 
@@ -129,8 +118,10 @@ pub fn take_in(old: &[u8], image: &mut [u8]) -> u8
     ensures number { result ≡ take_number old.now image.old }
     ensures image { image.new ≡ take_after old.now image.old }
 {
-    let s = older_of(old.len());
-    if either(s.objects == 0, image.len() != SIZE) {
+    let Some(s) = older_of(old.len()) else {
+        return numbers::LENGTH;
+    };
+    if image.len() != SIZE {
         return numbers::LENGTH;
     }
     let mut scratch = [0u8; SIZE];

@@ -37,7 +37,7 @@ fn copy_place(s: Older, t: u8) -> usize
     requires { Fits s }
     ensures { (result ≡ copies_place + s.width * t) × (result < 65536) }
 {
-    COUNT_SIZE + s.width * t as usize
+    COUNT_SIZE + s.width * usize::from(t)
 }
 
 // Where what is kept of owner o starts.
@@ -45,7 +45,7 @@ fn owner_place(s: Older, o: u8) -> usize
     requires { Fits s }
     ensures { (result ≡ owners_place (shape_of s) + owner_size * o) × (result < 131072) }
 {
-    copy_place(s, s.objects) + COUNT_SIZE + OWNER_SIZE * o as usize
+    copy_place(s, s.objects) + COUNT_SIZE + OWNER_SIZE * usize::from(o)
 }
 
 // The two counts are right.

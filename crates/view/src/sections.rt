@@ -17,7 +17,7 @@ const RIVAL: u16 = 5;
 fn byte_at(s: &[u8], at: u16) -> u16
     ensures { (result ≡ get_or s.now at 0) × (result < 256) }
 {
-    octets::get_u8(s, at as usize) as u16
+    u16::from(octets::get_u8(s, usize::from(at)))
 }
 
 // The header. Ruled out: two fields exchanged; a serial with its high end first.
@@ -53,9 +53,9 @@ pub fn counts_in(s: &[u8], entries: u16, rivals: u16, words: u16) -> Counts
     ensures { result ≡ counts_in s.now entries rivals words }
 {
     Counts {
-        entries: octets::get_u8(s, entries as usize),
-        rivals: octets::get_u8(s, rivals as usize),
-        words: octets::get_u8(s, words as usize),
+        entries: octets::get_u8(s, usize::from(entries)),
+        rivals: octets::get_u8(s, usize::from(rivals)),
+        words: octets::get_u8(s, usize::from(words)),
     }
 }
 
@@ -87,8 +87,8 @@ fn rival_from(s: &[u8], at: usize) -> Rival
 pub fn entry_in(s: &[u8], at: u16, i: u8) -> Entry
     ensures { result ≡ entry_in s.now at i }
 {
-    if i < octets::get_u8(s, at as usize) {
-        entry_from(s, at as usize + 1 + wire::ENTRY * (i as usize))
+    if i < octets::get_u8(s, usize::from(at)) {
+        entry_from(s, usize::from(at) + 1 + wire::ENTRY * usize::from(i))
     } else {
         Entry {
             object: 0,
@@ -102,8 +102,8 @@ pub fn entry_in(s: &[u8], at: u16, i: u8) -> Entry
 pub fn rival_in(s: &[u8], at: u16, i: u8) -> Rival
     ensures { result ≡ rival_in s.now at i }
 {
-    if i < octets::get_u8(s, at as usize) {
-        rival_from(s, at as usize + 1 + wire::RIVAL * (i as usize))
+    if i < octets::get_u8(s, usize::from(at)) {
+        rival_from(s, usize::from(at) + 1 + wire::RIVAL * usize::from(i))
     } else {
         Rival {
             owner: 0,
@@ -115,8 +115,8 @@ pub fn rival_in(s: &[u8], at: u16, i: u8) -> Rival
 pub fn word_in(s: &[u8], at: u16) -> u8
     ensures { result ≡ word_in s.now at }
 {
-    if 0 < octets::get_u8(s, at as usize) {
-        octets::get_u8(s, at as usize + 1)
+    if 0 < octets::get_u8(s, usize::from(at)) {
+        octets::get_u8(s, usize::from(at) + 1)
     } else {
         0
     }

@@ -1,30 +1,21 @@
 -- `intake::older_of`: by its length.
+use mathlib.Core.Path.{◌≡◌, refl}
 use native.Mathlib.Omega.{arith}
-use borrow.Author.Tests.{eq-eqb, ne_eqb}
+use borrow.Author.Tests.{ne_eqb}
 use Rattle.intake.specs.Take.{older_of}
 use Rattle.intake.proofs.older_of.Goals as goal
 
-pub returns-then-len-eq-SIZE_WITH_AUTHORS-clause-len_value : goal.returns-then-len-eq-SIZE_WITH_AUTHORS-clause-len_value
+pub returns-in-1527 : goal.returns-in-1527
 unfolding older_of
-returns-then-len-eq-SIZE_WITH_AUTHORS-clause-len_value c = simp (eq-eqb _ _ c.if-len-eq-SIZE_WITH_AUTHORS.true)
+returns-in-1527 c = (rw c.in-1527.is refl, (omega arith, omega arith))
 
-pub returns-then-len-eq-SIZE_WITH_AUTHORS-clause-fits : goal.returns-then-len-eq-SIZE_WITH_AUTHORS-clause-fits
+pub returns-in-1207 : goal.returns-in-1207
 unfolding older_of
-returns-then-len-eq-SIZE_WITH_AUTHORS-clause-fits c = (omega arith, omega arith)
+returns-in-1207 c = (rw c.in-1207.is refl, (omega arith, omega arith))
 
-pub returns-then-len-eq-SIZE_BEFORE_AUTHORS-clause-len_value : goal.returns-then-len-eq-SIZE_BEFORE_AUTHORS-clause-len_value
+pub returns-in_default : goal.returns-in_default
 unfolding older_of
-returns-then-len-eq-SIZE_BEFORE_AUTHORS-clause-len_value c = simp
-    (ne_eqb _ _ c.if-len-eq-SIZE_WITH_AUTHORS.false, eq-eqb _ _ c.if-len-eq-SIZE_BEFORE_AUTHORS.true)
-
-pub returns-then-len-eq-SIZE_BEFORE_AUTHORS-clause-fits : goal.returns-then-len-eq-SIZE_BEFORE_AUTHORS-clause-fits
-unfolding older_of
-returns-then-len-eq-SIZE_BEFORE_AUTHORS-clause-fits c = (omega arith, omega arith)
-
-pub returns-clause-len_value : goal.returns-clause-len_value
-unfolding older_of
-returns-clause-len_value c = simp (ne_eqb _ _ c.if-len-eq-SIZE_WITH_AUTHORS.false, ne_eqb _ _ c.if-len-eq-SIZE_BEFORE_AUTHORS.false)
-
-pub returns-clause-fits : goal.returns-clause-fits
-unfolding older_of
-returns-clause-fits c = (omega arith, omega arith)
+returns-in_default c =
+    let with_authors : c.args.len ≡ 1527 → ⊥ = λ e. omega arith in
+    let before_authors : c.args.len ≡ 1207 → ⊥ = λ e. omega arith in
+    simp (ne_eqb _ _ with_authors, ne_eqb _ _ before_authors)

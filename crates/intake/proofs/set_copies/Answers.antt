@@ -1,6 +1,5 @@
 -- `intake::set_copies`: the copies of the objects passed are set.
-use native.Mathlib.Omega.{arith}
-use mathlib.Core.Path.{◌≡◌, refl, sym, ◌∙◌}
+use mathlib.Core.Path.{refl, sym}
 use Rattle.intake.specs.Take.{copy_as, with_copies_as}
 use Rattle.intake.specs.Pass.{shape_of}
 use Rattle.intake.proofs.Taken.{copies_more}
@@ -8,19 +7,11 @@ use Rattle.intake.proofs.set_copies.Goals as goal
 
 pub loop-t-init : goal.loop-t-init
 unfolding with_copies_as
-loop-t-init c = (omega arith, refl, refl)
+loop-t-init c = refl
 
 pub loop-t-preserved : goal.loop-t-preserved
 loop-t-preserved c = let l = c.loop-t in
     let x = c.args in
     let k = c.set_copy in
     let copies = copy_as (shape_of x.s) x.old.now in
-    (omega arith, k.auto.image ∙ l.invariant.1, rw (k.ensures, c.old_copy-c.ensures, l.invariant.2) (sym (copies_more copies l.t x.image.now)))
-
-pub shape_of-image : goal.shape_of-image
-shape_of-image c = c.loop-t.invariant.1
-
-pub returns : goal.returns
-returns c = let l = c.loop-t in
-    let e : l.t ≡ c.args.s.objects = omega arith in
-    rw e at l.invariant.2
+    rw (k.ensures, c.old_copy.ensures, l.invariant) (sym (copies_more copies l.t x.image.now))

@@ -1,14 +1,8 @@
 -- `intake::set_copies`: the copies of the objects passed are set.
-use Prim.Native.Nat.{◌-◌, ◌≤◌}
 use mathlib.Core.Path.{◌≡◌}
-use lib.ListN.{length}
 use Rattle.intake.specs.Take.{copy_as, with_copies}
 use Rattle.intake.specs.Pass.{shape_of}
 use Rattle.intake.proofs.set_copies.Given as goal
 
 abbrev pub invariant-loop-t : goal.invariant-loop-t
-invariant-loop-t l = (l.t ≤ l.s.objects) × (length l.image ≡ length l.initial.image)
-    × (l.image ≡ with_copies (copy_as (shape_of l.s) l.old) l.t l.initial.image)
-
-abbrev pub decreases-loop-t : goal.decreases-loop-t
-decreases-loop-t l = l.s.objects - l.t
+invariant-loop-t l = l.image ≡ with_copies (copy_as (shape_of l.s) l.old) l.t l.initial.image

@@ -1,7 +1,5 @@
 -- `intake::set_owners`: what is kept of the owners passed is set.
-use native.Mathlib.Omega.{arith}
-use mathlib.Core.Path.{◌≡◌, refl, sym, ◌∙◌}
-use Rattle.numbers.specs.Sizes.{nodes}
+use mathlib.Core.Path.{refl, sym}
 use Rattle.intake.specs.Take.{owner_as, with_owners_as}
 use Rattle.intake.specs.Pass.{shape_of}
 use Rattle.intake.proofs.Taken.{owners_more}
@@ -9,19 +7,11 @@ use Rattle.intake.proofs.set_owners.Goals as goal
 
 pub loop-o-init : goal.loop-o-init
 unfolding with_owners_as
-loop-o-init c = (omega arith, refl, refl)
+loop-o-init c = refl
 
 pub loop-o-preserved : goal.loop-o-preserved
 loop-o-preserved c = let l = c.loop-o in
     let x = c.args in
     let k = c.set_owner in
     let owners = owner_as (shape_of x.s) x.old.now in
-    (omega arith, k.auto.image ∙ l.invariant.1, rw (k.ensures, c.old_owner-w.ensures, l.invariant.2) (sym (owners_more owners l.o x.image.now)))
-
-pub shape_of-image : goal.shape_of-image
-shape_of-image c = c.loop-o.invariant.1
-
-pub returns : goal.returns
-returns c = let l = c.loop-o in
-    let e : l.o ≡ nodes = omega arith in
-    rw e at l.invariant.2
+    rw (k.ensures, c.old_owner.ensures, l.invariant) (sym (owners_more owners l.o x.image.now))

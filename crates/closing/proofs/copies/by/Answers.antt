@@ -37,5 +37,5 @@ returns c = let x = c.args in
     let d = c.number-c in
     let e = c.number in
     behind (page x.out.now x.at) (page d.new.out d.result) (page e.new.out e.result) (number_texts by_text x.owner)
-    (number_texts slash_text x.serial) d.ensures e.ensures
+    (number_texts slash_text x.serial) (rw c.from.ensures at d.ensures) (rw c.from-2.ensures at e.ensures)
     ∙ ap (inks (page x.out.now x.at)) (sym (by_one x.owner x.serial c.if-owner-eq-NOBODY.false c.if-owner-eq-UNKNOWN.false))

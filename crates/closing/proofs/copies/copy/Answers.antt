@@ -19,6 +19,9 @@ returns c = let x = c.args in
     let one = number_texts object_text x.t in
     let two = number_texts version_text x.b.version in
     let three = value_texts value_text x.b.value in
-    let a : q ≡ inks p (one ++ two) = behind p (page d.new.out d.result) q one two d.ensures e.ensures in
+    let d_text = rw c.from.ensures at d.ensures in
+    let e_text = rw c.from-2.ensures at e.ensures in
+    let g_text = rw c.from-3.ensures at g.ensures in
+    let a : q ≡ inks p (one ++ two) = behind p (page d.new.out d.result) q one two d_text e_text in
     let b : r ≡ inks p (one ++ two ++ three) = behind p q r (one ++ two) three a f.ensures in
-    behind p r (page g.new.out g.result) (one ++ two ++ three) (number_texts nodes_text x.b.nodes) b g.ensures
+    behind p r (page g.new.out g.result) (one ++ two ++ three) (number_texts nodes_text x.b.nodes) b g_text

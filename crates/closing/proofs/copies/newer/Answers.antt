@@ -11,7 +11,7 @@ pub returns-then-b-a : goal.returns-then-b-a
 unfolding newer_of
 returns-then-b-a c = let x = c.args in
     simp (le-ltb _ _ c.if-a-b.false, eq-eqb _ _ c.if-b-a.true)
-    (λ i. with_nodes x.a (c.join-nodes.ensures i))
+    (λ i. with_nodes x.a (c.join.ensures i))
 
 pub returns : goal.returns
 unfolding newer_of

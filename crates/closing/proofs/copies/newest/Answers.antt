@@ -9,4 +9,4 @@ returns-then-images-eq-IMAGES c = simp (eq-eqb _ _ c.if-images-eq-IMAGES.true) c
 
 pub returns-else-images-eq-IMAGES : goal.returns-else-images-eq-IMAGES
 unfolding newest
-returns-else-images-eq-IMAGES c = simp (ne_eqb _ _ c.if-images-eq-IMAGES.false) c.none.ensures
+returns-else-images-eq-IMAGES c = simp (ne_eqb _ _ c.if-images-eq-IMAGES.false)

@@ -1,10 +1,8 @@
 -- `closing::copies::newest_copy`: the newest of the nodes passed.
-use mathlib.Core.Path.{◌≡◌, sym, ap, ap₂, ◌∙◌}
+use mathlib.Core.Path.{◌≡◌, refl, sym, ap, ap₂, ◌∙◌}
 use mathlib.Core.List.{List}
 use Prim.Native.Nat.{ℕ, ◌+◌}
 use native.Mathlib.Numerals.{add-one}
-use native.Mathlib.Omega.{arith}
-use Rattle.numbers.specs.Sizes.{nodes}
 use Rattle.closing.specs.Copies.{newer_of, copy_at, newest_of}
 use Rattle.closing.proofs.copies.newest_copy.Goals as goal
 
@@ -14,21 +12,10 @@ newest_more l t n = ap (newest_of l t) (add-one n)
 
 pub loop-i-init : goal.loop-i-init
 unfolding newest_of
-loop-i-init c = (omega arith, c.none-b.ensures)
-
-pub overflow_add-i : goal.overflow_add-i
-overflow_add-i c = omega arith
-
-pub loop-i-smaller : goal.loop-i-smaller
-loop-i-smaller c = omega arith
+loop-i-init c = refl
 
 pub loop-i-preserved : goal.loop-i-preserved
-loop-i-preserved c = let l = c.loop-i in
+loop-i-preserved c =
+    let l = c.loop-i in
     let x = c.args in
-    (omega arith, c.newer-b.ensures ∙ ap₂ newer_of l.invariant.1 c.copy_at-c.ensures ∙ sym (newest_more x.images.now x.object l.i))
-
-pub returns : goal.returns
-returns c = let l = c.loop-i in
-    let x = c.args in
-    let e : l.i ≡ nodes = omega (arith, c.loop-i-test.false) in
-    l.invariant.1 ∙ ap (newest_of x.images.now x.object) e
+    c.newer-b.ensures ∙ ap₂ newer_of l.invariant c.copy_at.ensures ∙ sym (newest_more x.images.now x.object l.i)

@@ -1,5 +1,4 @@
 -- `closing::copies::objects`: the loop puts one object's line after another.
-use Prim.Native.Nat.{◌-◌}
 use Rattle.numbers.specs.Sizes.{objects}
 use Rattle.report.specs.Each.{Going}
 use Rattle.closing.specs.Texts.{nth_object_texts}
@@ -7,6 +6,3 @@ use Rattle.closing.proofs.copies.objects.Given as goal
 
 abbrev pub invariant-loop-t : goal.invariant-loop-t
 invariant-loop-t l = Going (nth_object_texts l.images l.sheet) objects l.initial.out l.at l.out l.a l.t
-
-abbrev pub decreases-loop-t : goal.decreases-loop-t
-decreases-loop-t l = objects - l.t

@@ -1,26 +1,20 @@
 -- `closing::state::all_idle`: every node is tried.
-use native.Mathlib.Omega.{arith}
+use mathlib.Core.Path.{refl, ◌∙◌}
+use mathlib.Core.Bool.{Bool}
+use Prim.Native.Nat.{ℕ}
+use borrow.Author.Rules.{rules}
+use borrow.Author.Tests.{tests}
+use Rattle.std.proofs.lemmas.Iterator.{YieldsList-from_range}
+use Rattle.std.proofs.lemmas.Iterator.Search.{all_from_yields_List}
 use Rattle.numbers.specs.Sizes.{nodes}
 use Rattle.closing.specs.State.{idle_at, all_idle}
-use Rattle.closing.proofs.Loops.{none_tried, one_tried, all_tried}
+use Rattle.closing.proofs.Loops.{each_range}
 use Rattle.closing.proofs.state.all_idle.Goals as goal
-
-pub loop-i-init : goal.loop-i-init
-loop-i-init c = none_tried (idle_at c.args.records.now) nodes
-
-pub overflow_add-i : goal.overflow_add-i
-overflow_add-i c = omega arith
-
-pub loop-i-smaller : goal.loop-i-smaller
-loop-i-smaller c = omega arith
-
-pub loop-i-preserved : goal.loop-i-preserved
-loop-i-preserved c = let l = c.loop-i in
-    let r = c.args.records.now in
-    one_tried (idle_at r) nodes l.all c.both-all.result c.is_idle.result l.i c.loop-i-test.true l.invariant
-    c.is_idle.ensures c.both-all.ensures
 
 pub returns : goal.returns
 unfolding all_idle
-returns c = let l = c.loop-i in
-    all_tried (idle_at c.args.records.now) nodes l.all l.i (omega (arith, c.loop-i-test.false)) l.invariant
+returns c =
+    let each_one : ℕ → Bool = idle_at c.args.records.now in
+    let tried = all_from_yields_List each_one _ _ c.all.result c.all.ensures.ran
+    (YieldsList-from_range 0 nodes nodes refl refl) (λ x b q k. search (rules, tests)) in
+    tried ∙ each_range each_one nodes

@@ -11,7 +11,7 @@ use Rattle.closing.proofs.state.holds_at.Goals as goal
 
 pub returns : goal.returns
 unfolding holds_at image_at part
-returns c = let w = c.wide-start in
+returns c = let w = c.from-start in
     let x = c.args in
     let e : image_size shape * w.result + image_size shape - image_size shape * w.result ≡ image_size shape = omega arith in
     c.holds.ensures ∙ ap₂ (λ (m n : ℕ). holds (take m (drop (image_size shape * n) x.images.now)) x.owner x.serial) e w.ensures

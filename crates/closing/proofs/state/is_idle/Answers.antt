@@ -7,4 +7,4 @@ use Rattle.closing.proofs.state.is_idle.Goals as goal
 
 pub returns : goal.returns
 unfolding idle_at
-returns c = ap (λ (r : Coordinator). eqb r.phase 0) c.record_at-c.ensures
+returns c = ap (λ (r : Coordinator). eqb r.phase 0) c.record_at.ensures

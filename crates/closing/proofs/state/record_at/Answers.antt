@@ -11,7 +11,7 @@ use Rattle.closing.proofs.state.record_at.Goals as goal
 
 pub returns : goal.returns
 unfolding record_at part
-returns c = let w = c.wide-start in
+returns c = let w = c.from-start in
     let x = c.args in
     let e : record_size * w.result + record_size - record_size * w.result ≡ record_size = omega arith in
     c.read.ensures ∙ ap₂ (λ (m n : ℕ). record_of (take m (drop (record_size * n) x.records.now))) e w.ensures

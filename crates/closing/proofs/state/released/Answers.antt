@@ -1,32 +1,20 @@
 -- `closing::state::released`: every node is tried.
-use mathlib.Core.Path.{ap, ap₂, ◌∙◌}
-use mathlib.Core.Bool.{Bool, not, ◌&&◌}
-use native.Mathlib.Omega.{arith}
+use mathlib.Core.Path.{refl, ◌∙◌}
+use mathlib.Core.Bool.{Bool}
+use Prim.Native.Nat.{ℕ}
+use borrow.Author.Rules.{rules}
+use borrow.Author.Tests.{tests}
+use Rattle.std.proofs.lemmas.Iterator.{YieldsList-from_range}
+use Rattle.std.proofs.lemmas.Iterator.Search.{all_from_yields_List}
 use Rattle.numbers.specs.Sizes.{nodes}
 use Rattle.closing.specs.State.{released_at, released}
-use Rattle.closing.proofs.Loops.{none_tried, one_tried, all_tried}
+use Rattle.closing.proofs.Loops.{each_range}
 use Rattle.closing.proofs.state.released.Goals as goal
-
-pub loop-i-init : goal.loop-i-init
-loop-i-init c = let x = c.args in
-    none_tried (released_at x.images.now x.participants x.owner x.serial) nodes
-
-pub overflow_add-i : goal.overflow_add-i
-overflow_add-i c = omega arith
-
-pub loop-i-smaller : goal.loop-i-smaller
-loop-i-smaller c = omega arith
-
-pub loop-i-preserved : goal.loop-i-preserved
-loop-i-preserved c = let l = c.loop-i in
-    let x = c.args in
-    let b = c.both-held in
-    let e = b.ensures ∙ ap₂ (λ (p q : Bool). p && q) c.has.ensures c.holds_at.ensures in
-    one_tried (released_at x.images.now x.participants x.owner x.serial) nodes l.all c.both-all.result (not b.result) l.i
-    c.loop-i-test.true l.invariant (ap not e) c.both-all.ensures
 
 pub returns : goal.returns
 unfolding released
-returns c = let l = c.loop-i in
-    let x = c.args in
-    all_tried (released_at x.images.now x.participants x.owner x.serial) nodes l.all l.i (omega (arith, c.loop-i-test.false)) l.invariant
+returns c =
+    let each_one : ℕ → Bool = released_at c.args.images.now c.args.participants c.args.owner c.args.serial in
+    let tried = all_from_yields_List each_one _ _ c.all.result c.all.ensures.ran
+    (YieldsList-from_range 0 nodes nodes refl refl) (λ x b q k. search (rules, tests)) in
+    tried ∙ each_range each_one nodes

@@ -1,19 +1,9 @@
 -- `closing::tenths::lines`: the loop puts one node's line after another.
 use native.Mathlib.Omega.{arith}
 use Rattle.numbers.specs.Sizes.{nodes}
-use Rattle.report.specs.Each.{none_yet, one_more, all_put}
+use Rattle.report.specs.Each.{one_more, all_put}
 use Rattle.closing.specs.Texts.{nth_node_texts}
 use Rattle.closing.proofs.tenths.lines.Goals as goal
-
-pub loop-n-init : goal.loop-n-init
-loop-n-init c = let x = c.args in
-    none_yet (nth_node_texts x.records.now x.settings.now) nodes x.out.now x.at
-
-pub overflow_add-n : goal.overflow_add-n
-overflow_add-n c = omega arith
-
-pub loop-n-smaller : goal.loop-n-smaller
-loop-n-smaller c = omega arith
 
 pub loop-n-preserved : goal.loop-n-preserved
 loop-n-preserved c = let l = c.loop-n in
@@ -21,9 +11,6 @@ loop-n-preserved c = let l = c.loop-n in
     let o = c.node_at-a in
     one_more (nth_node_texts x.records.now x.settings.now) nodes x.out.now x.at l.out l.a l.n o.new.out o.result
     c.loop-n-test.true l.invariant o.ensures
-
-pub shape_of-out : goal.shape_of-out
-shape_of-out c = c.loop-n.invariant.long
 
 pub returns : goal.returns
 returns c = let l = c.loop-n in

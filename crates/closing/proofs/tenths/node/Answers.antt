@@ -1,6 +1,6 @@
 -- `closing::tenths::node`: no text, or the line's texts one behind another.
 use mathlib.Core.Path.{◌≡◌, sym, ap, ◌∙◌}
-use mathlib.Core.Bool.{Bool, true, false, cond}
+use mathlib.Core.Bool.{Bool, cond}
 use mathlib.Core.List.{List, [], ◌∷◌, ◌++◌}
 use Prim.Native.Nat.{ℕ}
 use lib.Dec.{eqb}
@@ -44,6 +44,6 @@ returns c = let x = c.args in
     let one = number_texts waiting_text x.n in
     let two = each_from (nth_class_texts x.bytes.now x.settings.now) most_classes 0 in
     let a : q ≡ inks p (one ++ two) =
-    behind p (page c.number-a.new.out c.number-a.result) q one two c.number-a.ensures c.classes-b.ensures in
+    behind p (page c.number-a.new.out c.number-a.result) q one two (rw c.from.ensures at c.number-a.ensures) c.classes-b.ensures in
     behind p q (page f.new.out f.result) (one ++ two) (line_end ∷ []) a f.ensures
     ∙ ap (inks p) (sym (its_line x.bytes.now x.settings.now x.n _ c.waiting-first.ensures c.if-first-ne0.false))

@@ -30,4 +30,4 @@ pub returns : goal.returns
 returns c = let x = c.args in
     let p = page x.out.now x.at in
     c.node.ensures ∙ ap₂ (λ (l s : List ℕ). inks p (node_texts l s x.n))
-    (record_part x.records.now _ x.n c.wide-a.ensures) (settings_part x.settings.now _ x.n c.wide-c.ensures)
+    (record_part x.records.now _ x.n c.from-a.ensures) (settings_part x.settings.now _ x.n c.from-c.ensures)
