@@ -1,6 +1,4 @@
 -- `quorum_lines::feed` meets its contract. The loop's invariant is `Going`: what is taken so far and what is to be taken are the whole piece.
-use Prim.Native.Nat.{◌-◌}
-use lib.ListN.{length}
 use Rattle.quorum_lines.proofs.Feeding.{Going}
 use Rattle.quorum_lines.proofs.feed.Given as goal
 
