@@ -34,22 +34,25 @@ fn is_answer(c: Coordinator, phase: u8, nodes: u16, m: &[u8]) -> bool
     ensures { result ≡ answers c phase nodes m.now }
 {
     let known = mask::has(nodes, wire::from(m));
-    let same = both(wire::stamp(m) == c.timestamp, known);
-    both(c.phase == phase, both(wire::serial(m) == c.serial, same))
+    let same = wire::stamp(m) == c.timestamp && known;
+    c.phase == phase && wire::serial(m) == c.serial && same
 }
 
 // The object with a copy that came: the highest version, the first such copy. Ruled out: a later copy of the same version; the node not counted.
+#[tactic(auto, unfolding(crate::specs::Receive::with_copy))]
 pub fn copied(x: Object, from: u8, e: Entry) -> Object
     ensures { result ≡ with_copy x from e }
 {
-    let newer = x.version < e.version;
-    let mut y = x;
-    y.came = mask::join(x.came, mask::single(from));
-    if either(x.came == 0, newer) {
-        y.version = e.version;
-        y.value = e.value;
+    let came = mask::join(x.came, mask::single(from));
+    if x.came == 0 || x.version < e.version {
+        return Object {
+            came,
+            version: e.version,
+            value: e.value,
+            ..x
+        };
     }
-    y
+    Object { came, ..x }
 }
 
 // Whether a copy counts.
@@ -80,15 +83,22 @@ fn take_copy(c: Coordinator, m: &[u8]) -> Step
 fn with_yes(c: Coordinator, agreed: u16, rivals: [u32; NODES]) -> Step
     ensures { result ≡ with_yes c agreed rivals }
 {
-    let mut d = c;
-    d.yes = agreed;
-    d.rivals = rivals;
     if mask::subset(c.participants, agreed) {
-        d.phase = FINISHING;
-        d.outcome = COMMITTED;
+        let d = Coordinator {
+            phase: FINISHING,
+            outcome: COMMITTED,
+            yes: agreed,
+            rivals,
+            ..c
+        };
         bring(COMMITTED, d)
     } else {
-        d.phase = VOTING;
+        let d = Coordinator {
+            phase: VOTING,
+            yes: agreed,
+            rivals,
+            ..c
+        };
         bring(NOTHING, d)
     }
 }
@@ -100,9 +110,7 @@ fn with_done(c: Coordinator, said: u16) -> Step
     if mask::subset(awaited_by(c), said) {
         bring(FINISHED, idle_with(c.serial, c.timestamp, c.outcome))
     } else {
-        let mut d = c;
-        d.done = said;
-        bring(NOTHING, d)
+        bring(NOTHING, Coordinator { done: said, ..c })
     }
 }
 

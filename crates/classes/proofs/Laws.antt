@@ -1,16 +1,19 @@
 -- A test of each place where an item stands is that of the items. A row of places is filled one by one.
-use mathlib.Core.Path.{◌≡◌, refl, sym, ap, ap₂, ◌∙◌}
+use denote.Param.Members.{Mut}
+use mathlib.Core.Path.{◌≡◌, refl, sym, ap, ap₂, subst, ◌∙◌}
 use mathlib.Core.Bool.{Bool, true, false, cond, ◌&&◌, ◌||◌}
 use mathlib.Core.List.{List, [], ◌∷◌, ◌++◌}
 use Prim.Native.Nat.{ℕ, zero, suc, ◌+◌, ◌-◌, ◌*◌, ◌≤◌, ◌<◌}
 use native.Mathlib.Nat.{mul-suc}
 use native.Mathlib.Omega.{arith}
 use borrow.Author.Count.{below_more}
-use borrow.Author.Tests.{lt-leb, lt-ltb, le-ltb, ltb-true, eqb-true, eqb-false}
+use borrow.Author.Tests.{lt-leb, lt-ltb, le-ltb, ltb-true, ltb-false, eqb-true, eqb-false}
 use lib.Dec.{eqb, ltb, leb}
 use lib.ListN.{length, get_or, set, take, drop, replicate, drop_of_length-le, get_or-eq_default}
 use lib.Seq.{ext_get_or, get_or-set_same, get_or-set_other, paste, take_all, drop-cons}
 use Rattle.octets.specs.Octets.{get}
+use Rattle.std.specs.Array.{IsFromFnResult, IsFromFnResultFrom}
+use Rattle.std.specs.Fn.{Called}
 use Rattle.std.specs.List.{list_all, list_any, range_with_len}
 use Rattle.wire.specs.Formed.{every}
 use Rattle.wire.specs.Decode.{items_from}
@@ -101,17 +104,31 @@ module _ (f : ℕ → ℕ) where
   up_at (suc n) i zero h = let e : i ≡ i + 0 = omega arith in ap f e
   up_at (suc n) i (suc j) h = let e : i + 1 + j ≡ i + suc j = omega arith in up_at n (i + 1) j (omega arith) ∙ ap f e
 
-  -- a row that is filled place by place
-  pub up_more : (a : List ℕ) (i v : ℕ) → i < length a → ((j : ℕ) → j < i → get_or a j 0 ≡ f j) → v ≡ f i
-      → (j : ℕ) → j < i + 1 → get_or (set a i v) j 0 ≡ f j
-  up_more a i v h g e =
-      below_more (λ (j : ℕ). get_or (set a i v) j 0 ≡ f j) i
-      (λ j k. get_or-set_other a i j v 0 (λ q. omega arith) ∙ g j k) (get_or-set_same a i v 0 h ∙ e)
-
+  -- a row that is filled
   pub up_all : (n : ℕ) (a : List ℕ) → length a ≡ n → ((j : ℕ) → j < n → get_or a j 0 ≡ f j) → a ≡ count_up f n 0
   up_all n a e g =
       let m = length_up n 0 in
       ext_get_or 0 a (count_up f n 0) (e ∙ sym m) (λ j h. g j (omega arith) ∙ sym (up_at n 0 j (omega arith) ∙ ap f (let z : 0 + j ≡ j = omega arith in z)))
+
+-- a row made by a call at each place
+module _ {F : Type 0} {g : Mut F (ℕ × Unit {0}) ℕ} (h : ℕ → ℕ) {f : F} (ys : List ℕ)
+    (is : (x y : ℕ) (q : F) → Called g f (x, tt) y q → (q ≡ f) × (y ≡ h x)) where
+  made_from : (n i : ℕ) → IsFromFnResultFrom g f ys i n → (j : ℕ) → i ≤ j → j < i + n → get_or ys j 0 ≡ h j
+  made_from zero i w j lo hi = absurd (let z : ⊥ = omega arith in z)
+  made_from (suc n) i w j lo hi =
+      let here = is i w.1 w.0 w.3 in
+      let rest = subst (λ (q : F). IsFromFnResultFrom g q ys (i + 1) n) here.0 w.4 in
+      by (ltb i j) refl (λ e. made_from n (i + 1) rest j (omega arith) (omega arith)) (w.2.1 0 ∙ here.1)
+    where
+      by : (b : Bool) → ltb i j ≡ b → (i < j → get_or ys j 0 ≡ h j) → get_or ys i 0 ≡ h i → get_or ys j 0 ≡ h j
+      by true e later now = later (ltb-true i j e)
+      by false e later now =
+          let below = ltb-false i j e in
+          let same : i ≡ j = omega arith in
+          subst (λ (k : ℕ). get_or ys k 0 ≡ h k) same now
+
+  pub made_all : (n : ℕ) → IsFromFnResult g f ys n → ys ≡ count_up h n 0
+  made_all n w = up_all h n ys w.long (λ j k. made_from n 0 w.each j (omega arith) (omega arith))
 
 -- two rows with the same places
 pub up_same : (f g : ℕ → ℕ) (n i : ℕ) → ((j : ℕ) → i ≤ j → j < i + n → f j ≡ g j) → count_up f n i ≡ count_up g n i

@@ -10,6 +10,9 @@ ghost use Rattle.classes.specs.Classes.{strange, rising, unbounded, has, twice, 
 ghost use Rattle.classes.specs.Weights.{weight_count, weights, batch_length, overweight, weighed, count_up, tallies_of, grams_of, left_of};
 
 use numbers::Refusal;
+use std::array;
+use numbers::{pick, refuse};
+use std::array;
 
 // The bytes in which a node keeps its table.
 pub const KEPT: usize = 24;
@@ -163,11 +166,7 @@ fn object_of(kept: &[u8], i: usize) -> u8
 pub fn tallies(kept: &[u8]) -> [u8; MOST_CLASSES]
     ensures { result ≡ tallies_of kept.now }
 {
-    let mut a = [0u8; MOST_CLASSES];
-    for i in 0..MOST_CLASSES {
-        a[i] = object_of(kept, i);
-    }
-    a
+    array::from_fn(|i| object_of(kept, i))
 }
 
 // How many weights a batch has.

@@ -58,110 +58,94 @@ fn largest(k: usize) -> u32
 }
 
 // The line is bad, whatever comes.
+#[tactic(auto, unfolding(crate::specs::Line::spoil))]
 fn spoilt(line: Line) -> Line
     ensures { result ≡ spoil line }
 {
-    let mut l = line;
-    l.spoilt = true;
-    l
+    Line {
+        spoilt: true,
+        ..line
+    }
 }
 
 // The number that was read is complete.
+#[tactic(auto, unfolding(crate::specs::Line::keep))]
 fn kept(line: Line) -> Line
     requires { line.count ≤ nodes }
     ensures { result ≡ keep line }
 {
-    let mut l = line;
-    let k = line.count;
-    l.count = k + 1;
-    l.digits = false;
-    l.value = 0;
-    if k == 0 {
+    let mut l = Line {
+        count: line.count + 1,
+        digits: false,
+        value: 0,
+        ..line
+    };
+    if line.count == 0 {
         l.live = line.value;
     } else {
-        let i = k - 1;
-        l.distances[i] = line.value;
+        l.distances[line.count - 1] = line.value;
     }
     l
 }
 
 // A space: it is good behind the mask and behind each distance.
+#[tactic(auto, unfolding(crate::specs::Line::space))]
 fn spaced(line: Line) -> Line
     ensures { result ≡ space line }
 {
-    if line.digits {
-        if line.count <= NODES {
-            return kept(line);
-        }
+    if line.digits && line.count <= NODES {
+        return kept(line);
     }
-    let mut bad = line;
-    bad.spoilt = true;
-    bad
+    spoilt(line)
 }
 
 // A digit.
+#[tactic(auto, unfolding(crate::specs::Line::digit, crate::specs::Line::may_follow, crate::specs::Line::more))]
 fn with_digit(line: Line, d: u8) -> Line
     requires { d < 10 }
     ensures { result ≡ digit line d }
 {
-    let v = line.value as u32 * 10 + d as u32;
-    if largest(line.count) < v {
+    let v = u32::from(line.value) * 10 + u32::from(d);
+    let leading = line.digits && line.value == 0;
+    if largest(line.count) < v || leading {
         return spoilt(line);
     }
-    if line.digits {
-        if line.value == 0 {
-            return spoilt(line);
-        }
+    Line {
+        digits: true,
+        value: v as u16,
+        ..line
     }
-    let mut l = line;
-    l.digits = true;
-    l.value = v as u16;
-    l
 }
 
 // One byte of a line. Ruled out: a second space taken for one; a digit behind a leading zero taken as part of the number.
+#[tactic(auto, unfolding(crate::specs::Line::step, crate::specs::Line::step_on))]
 pub fn step(line: Line, b: u8) -> Line
     ensures { result ≡ stepLine line b }
 {
     if line.spoilt {
         return line;
     }
-    if b == 32 {
-        return spaced(line);
+    match b {
+        b' ' => spaced(line),
+        b'0'..=b'9' => with_digit(line, b - b'0'),
+        _ => spoilt(line),
     }
-    if b < 48 {
-        return spoilt(line);
-    }
-    if 57 < b {
-        return spoilt(line);
-    }
-    with_digit(line, b - 48)
 }
 
 // Whether the number that is being read may be the line's last: the last distance, or an asker that is a node.
+#[tactic(auto, unfolding(crate::specs::Line::may_end))]
 fn may_end(line: Line) -> bool
     ensures { result ≡ may_end line }
 {
-    if line.count == NODES {
-        return true;
-    }
-    if line.count == NODES + 1 {
-        return line.value < ASKERS_END;
-    }
-    false
+    line.count == NODES || line.count == NODES + 1 && line.value < ASKERS_END
 }
 
 // Whether a line that ends here is good.
+#[tactic(auto, unfolding(crate::specs::Line::is_good))]
 fn is_good(line: Line) -> bool
     ensures { result ≡ is_good line }
 {
-    if line.spoilt {
-        return false;
-    }
-    if line.digits {
-        return may_end(line);
-    }
-    false
+    !line.spoilt && line.digits && may_end(line)
 }
 
 // A good line as it stands at the asker: one that ends with the last distance has this complete, and asker 0.
@@ -175,16 +159,11 @@ fn at_asker(line: Line) -> Line
 }
 
 // Whether something of a line is read.
+#[tactic(auto, unfolding(crate::specs::Line::begun))]
 fn is_begun(line: Line) -> bool
     ensures { result ≡ begun line }
 {
-    if line.spoilt {
-        return true;
-    }
-    if line.digits {
-        return true;
-    }
-    0 < line.count
+    line.spoilt || line.digits || 0 < line.count
 }
 
 // The mask and the sum of a chosen quorum, or `- -`.
@@ -230,7 +209,7 @@ fn put_row(out: &mut [u8], at: usize, asker: u8, live: u16, distances: &[u16; NO
     ensures buffer { out.new ≡ put_at out.old at (row asker live distances.now) }
     ensures within { length (row asker live distances.now) ≤ 40 }
 {
-    let a = decimal::put(out, at, live as u64);
+    let a = decimal::put(out, at, u64::from(live));
     let b = put_column(out, a, Kind::Read, asker, live, distances);
     let c = put_column(out, b, Kind::Write, asker, live, distances);
     decimal::append(out, c, b"\n")
@@ -297,17 +276,22 @@ pub fn feed(line: Line, input: &[u8], out: &mut [u8]) -> Fed
     ensures within { (result.used ≤ length input.now) × (result.written ≤ length out.new) }
 {
     let mut l = line;
-    let mut i = 0;
     let mut at = 0;
-    while i < input.len() && LONGEST_ROW <= out.len() - at {
-        let t = take_byte(l, input[i], out, at);
+    for (i, b) in input.iter().enumerate() {
+        if out.len() - at < LONGEST_ROW {
+            return Fed {
+                line: l,
+                used: i,
+                written: at,
+            };
+        }
+        let t = take_byte(l, *b, out, at);
         l = t.line;
         at = t.at;
-        i += 1;
     }
     Fed {
         line: l,
-        used: i,
+        used: input.len(),
         written: at,
     }
 }

@@ -5,31 +5,30 @@
 use quorum_lines::Line;
 use std::io;
 use std::io::{Read, Stdin, Stdout, Write};
+use std::ops::ControlFlow;
 
 // How many bytes are read at once, and written at once.
 const PIECE: usize = 65536;
 
-// The line that is being read, and whether to go on.
-#[derive(Clone, Copy)]
-struct Went {
+// Writes the replies to one piece of the input. Goes on with the line behind it, and stops where no reply fits into the buffer.
+fn answer(
     line: Line,
-    on: bool,
-}
-
-// Writes the replies to one piece of the input, and stops where no reply fits into the buffer.
-fn answer(line: Line, input: &[u8], to: &mut Stdout, out: &mut [u8]) -> io::Result<Went> {
+    input: &[u8],
+    to: &mut Stdout,
+    out: &mut [u8],
+) -> io::Result<ControlFlow<Line, Line>> {
     let mut l = line;
-    let mut from = 0;
-    while from < input.len() {
-        let fed = quorum_lines::feed(l, &input[from..], out);
+    let mut rest = input;
+    while !rest.is_empty() {
+        let fed = quorum_lines::feed(l, rest, out);
         if fed.used == 0 {
-            return Ok(Went { line: l, on: false });
+            return Ok(ControlFlow::Break(l));
         }
         to.write_all(&out[..fed.written])?;
         l = fed.line;
-        from += fed.used;
+        rest = &rest[fed.used..];
     }
-    Ok(Went { line: l, on: true })
+    Ok(ControlFlow::Continue(l))
 }
 
 // Reads once, and answers what came; the input ends where nothing came.
@@ -39,10 +38,10 @@ fn turn(
     input: &mut [u8],
     to: &mut Stdout,
     out: &mut [u8],
-) -> io::Result<Went> {
+) -> io::Result<ControlFlow<Line, Line>> {
     let n = from.read(input)?;
     if n == 0 {
-        return Ok(Went { line, on: false });
+        return Ok(ControlFlow::Break(line));
     }
     answer(line, &input[..n], to, out)
 }
@@ -52,10 +51,9 @@ fn turn(
 fn all(from: &mut Stdin, input: &mut [u8], to: &mut Stdout, out: &mut [u8]) -> io::Result<Line> {
     let mut l = quorum_lines::fresh();
     for _ in 0..u64::MAX {
-        let went = turn(l, from, input, to, out)?;
-        l = went.line;
-        if !went.on {
-            break;
+        match turn(l, from, input, to, out)? {
+            ControlFlow::Continue(next) => l = next,
+            ControlFlow::Break(last) => return Ok(last),
         }
     }
     Ok(l)

@@ -42,14 +42,6 @@ pub put_else : (l b : List ℕ) → first_yes (cell l (serial_cell (owner_of b))
 unfolding with_put
 put_else l b e = simp e
 
-pub value_when : (l : List ℕ) (t : ℕ) → (eqb (length l) size && ltb t objects) ≡ true → value_of l t ≡ cell l (last_value_cell t)
-unfolding value_of
-value_when l t e = simp e
-
-pub value_else : (l : List ℕ) (t : ℕ) → (eqb (length l) size && ltb t objects) ≡ false → value_of l t ≡ 0
-unfolding value_of
-value_else l t e = simp e
-
 -- ---- a call done, and one refused
 pub unless_done : (number : ℕ) (l m : List ℕ) → number ≡ 0 → unless number l m ≡ m
 unless_done number l m e = simp (eq-eqb number 0 e)

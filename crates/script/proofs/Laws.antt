@@ -1,27 +1,15 @@
--- How few numbers stand before the distances; whether a line's numbers fit; one turn, and the end, of the loop over the distances among them.
+-- Whether a line's numbers fit; one turn, and the end, of the loop over the distances among them.
 use Prim.Native.Nat.{ℕ, zero, suc, ◌+◌, ◌-◌, ◌%◌, ◌≤◌, ◌<◌}
 use native.Mathlib.Numerals.{add-one}
 use native.Mathlib.Omega.{arith}
 use mathlib.Core.Path.{◌≡◌, refl, ap}
 use mathlib.Core.Bool.{Bool, true, false, cond, ◌&&◌}
 use mathlib.Core.List.{List, [], ◌∷◌, ◌++◌, append_assoc, append-nil}
-use borrow.Author.Tests.{le-leb, lt-leb}
 use lib.Dec.{leb}
-use lib.ListN.{length, get_or, take, drop, set}
-use lib.Seq.{drop-cons, drop-length, take_all, take-suc-set}
+use lib.ListN.{length, get_or, take, set}
+use lib.Seq.{take_all, take-suc-set}
 use Rattle.std.specs.List.{list_all, enumerate_from}
 use Rattle.script.specs.Parse.{has_three, has_two, has_one, arity, most_at, fit_from, fill_from}
-
--- ---- how few numbers stand before the distances
-small : (a b c : Bool) → cond a 3 (cond b 2 (cond c 1 0)) ≤ 3
-small true b c = omega arith
-small false true c = omega arith
-small false false true = omega arith
-small false false false = omega arith
-
-pub arity_small : (w : ℕ) → arity w ≤ 3
-unfolding arity
-arity_small w = small (has_three w) (has_two w) (has_one w)
 
 -- ---- whether the numbers from one place on fit: each with its place is asked
 abbrev pub fits_at : ℕ → ℕ × ℕ → Bool

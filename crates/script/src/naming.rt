@@ -153,7 +153,10 @@ fn count_fits(w: u64, n: u64) -> bool
 fn numbers_fit(s: Said) -> bool
     ensures { result ≡ fit_from s.word 0 s.numbers }
 {
-    s.numbers.iter().enumerate().all(|(i, n)| *n <= most_at(s.word, i as u64))
+    s.numbers
+        .iter()
+        .enumerate()
+        .all(|(i, n)| *n <= most_at(s.word, i as u64))
 }
 
 #[tactic(auto, unfolding(crate::specs::Parse::is_good))]

@@ -23,14 +23,16 @@ mask_first l at live room h p q =
 
 pub put_column-b-requires : goal.put_column-b-requires
 put_column-b-requires c = let x = c.args in
-    let s = mask_first x.out.now x.at x.live (omega arith) (omega arith) c.put-a.ensures.next c.put-a.ensures.buffer in
+    let s = mask_first x.out.now x.at x.live (omega arith) (omega arith)
+    (rw c.from.ensures at c.put-a.ensures.next) (rw c.from.ensures at c.put-a.ensures.buffer) in
     omega (arith, behind_length x.out.now x.at (decimal x.live) s.1)
 
 pub put_column-c-requires : goal.put_column-c-requires
 put_column-c-requires c = let x = c.args in
     let room = c.requires in
     let small : x.live < 65536 = omega (arith, c.ranges.live) in
-    let s = mask_first x.out.now x.at x.live room small c.put-a.ensures.next c.put-a.ensures.buffer in
+    let s = mask_first x.out.now x.at x.live room small
+    (rw c.from.ensures at c.put-a.ensures.next) (rw c.from.ensures at c.put-a.ensures.buffer) in
     let r = column Read x.asker x.live x.distances.now in
     let t = c.put_column-b.ensures in
     omega (
@@ -46,7 +48,8 @@ unfolding row
 returns-clause-next c = let x = c.args in
     let l = x.out.now in
     let room = c.requires in
-    let s = mask_first l x.at x.live room (omega (arith, c.ranges.live)) c.put-a.ensures.next c.put-a.ensures.buffer in
+    let s = mask_first l x.at x.live room (omega (arith, c.ranges.live))
+    (rw c.from.ensures at c.put-a.ensures.next) (rw c.from.ensures at c.put-a.ensures.buffer) in
     let d = decimal x.live in
     let r = column Read x.asker x.live x.distances.now in
     let w = column Write x.asker x.live x.distances.now in
@@ -66,7 +69,8 @@ unfolding row
 returns-clause-buffer c = let x = c.args in
     let l = x.out.now in
     let room = c.requires in
-    let s = mask_first l x.at x.live room (omega (arith, c.ranges.live)) c.put-a.ensures.next c.put-a.ensures.buffer in
+    let s = mask_first l x.at x.live room (omega (arith, c.ranges.live))
+    (rw c.from.ensures at c.put-a.ensures.next) (rw c.from.ensures at c.put-a.ensures.buffer) in
     let d = decimal x.live in
     let r = column Read x.asker x.live x.distances.now in
     let w = column Write x.asker x.live x.distances.now in
@@ -86,7 +90,8 @@ unfolding row
 returns-clause-within c = let x = c.args in
     let l = x.out.now in
     let room = c.requires in
-    let s = mask_first l x.at x.live room (omega (arith, c.ranges.live)) c.put-a.ensures.next c.put-a.ensures.buffer in
+    let s = mask_first l x.at x.live room (omega (arith, c.ranges.live))
+    (rw c.from.ensures at c.put-a.ensures.next) (rw c.from.ensures at c.put-a.ensures.buffer) in
     let d = decimal x.live in
     let r = column Read x.asker x.live x.distances.now in
     let w = column Write x.asker x.live x.distances.now in

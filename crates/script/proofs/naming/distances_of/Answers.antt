@@ -3,23 +3,16 @@ use native.Mathlib.Omega.{arith}
 use lib.ListN.{length-set}
 use Rattle.script.proofs.Laws.{fill_again, fill_end}
 use borrow.Author.Tests.{eq-eqb, ne_eqb}
-use Prim.Native.Nat.{ℕ, ◌+◌}
-use mathlib.Core.Path.{◌≡◌, refl, sym, ap, ◌∙◌}
+use mathlib.Core.Path.{◌≡◌, sym, ◌∙◌}
 use mathlib.Core.Bool.{false}
 use lib.Dec.{eqb}
-use Rattle.script.specs.Parse.{arity, fill_from, distances_of}
+use Rattle.script.specs.Parse.{arity, distances_of}
 use Rattle.script.proofs.naming.distances_of.Goals as goal
 
 pub returns-then-s-h : goal.returns-then-s-h
 unfolding distances_of
 returns-then-s-h c = let s = c.args.s in
     simp (eq-eqb s.count (arity s.word) (c.if-s-h.true ∙ c.arity-h.ensures.0))
-
-pub loop-i-init : goal.loop-i-init
-loop-i-init c = let s = c.args.s in
-    let e = c.arity-h.ensures.0 in
-    let z : c.arity-h.result + 0 ≡ arity s.word = omega arith in
-    (refl, ap (λ (n : ℕ). fill_from 13 n s.numbers) z)
 
 pub loop-i-preserved : goal.loop-i-preserved
 loop-i-preserved c = let l = c.loop-i in
