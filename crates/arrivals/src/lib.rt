@@ -5,6 +5,8 @@
 
 ghost use Rattle.std.specs.Prelude.{◌≡◌};
 ghost use Rattle.numbers.specs.Refusal.{first_of};
+ghost use Rattle.numbers.specs.Outcome.{number_of};
+ghost use Rattle.coordinator.specs.Step.{step, step_taken};
 ghost use Rattle.wire.specs.Decode.{rival_count};
 ghost use Rattle.coordinator.specs.declared.Coordinator.{Coordinator};
 ghost use Rattle.coordinator.specs.System.{tree};
@@ -12,20 +14,19 @@ ghost use Rattle.arrivals.specs.Receive.{brought, answers, with_copy, copy_fits,
 ghost use Rattle.arrivals.specs.Receive.{with_done, done_taken, yield_taken, delivered, receive_refusals, receive_of};
 
 use coordinator::{
-    ABORTED, COMMITTED, Coordinator, FINISHED, FINISHING, NOTHING, OPEN, Object, READY, Step,
-    VOTING, at_place, awaited_by, idle_with, is_ready, place, refused, with_aborted, with_object,
+    ABORTED, COMMITTED, Coordinator, FINISHED, FINISHING, NOTHING, OPEN, Object, READY, Taken,
+    VOTING, at_place, awaited_by, idle_with, is_ready, place, with_aborted, with_object,
 };
-use numbers::{MOST_OPEN, NODES, NODES_END, both, either, pick, refuse};
+use numbers::{MOST_OPEN, NODES, NODES_END, Refusal};
 use wire::{Entry, Rival};
 
 // What a delivery brought about.
-fn bring(what: u8, c: Coordinator) -> Step
-    ensures { result ≡ brought what c }
+fn bring(what: u8, coordinator: Coordinator) -> Taken
+    ensures { step_taken result ≡ brought what coordinator }
 {
-    Step {
-        number: 0,
+    Taken {
         answer: u64::from(what),
-        coordinator: c,
+        coordinator,
     }
 }
 
@@ -56,23 +57,24 @@ pub fn copied(x: Object, from: u8, e: Entry) -> Object
 }
 
 // Whether a copy counts.
+#[tactic(auto, unfolding(crate::specs::Receive::copy_fits))]
 fn copy_fits(c: Coordinator, m: &[u8]) -> bool
     ensures { result ≡ copy_fits tree c m.now }
 {
     let e = wire::nth_entry(m, 0);
     let x = at_place(c, e.object);
-    let wanted = both(e.mode == x.mode, !is_ready(x));
-    let here = both(place(c, e.object) < MOST_OPEN, wanted);
-    both(is_answer(c, OPEN, c.contacted, m), here)
+    let wanted = e.mode == x.mode && !is_ready(x);
+    is_answer(c, OPEN, c.contacted, m) && place(c, e.object) < MOST_OPEN && wanted
 }
 
-fn take_copy(c: Coordinator, m: &[u8]) -> Step
-    ensures { result ≡ copy_taken tree c m.now }
+#[tactic(auto, unfolding(crate::specs::Receive::copy_taken))]
+fn take_copy(c: Coordinator, m: &[u8]) -> Taken
+    ensures { step_taken result ≡ copy_taken tree c m.now }
 {
     if copy_fits(c, m) {
         let e = wire::nth_entry(m, 0);
         let x = copied(at_place(c, e.object), wire::from(m), e);
-        let what = pick(is_ready(x), READY, NOTHING);
+        let what = if is_ready(x) { READY } else { NOTHING };
         bring(what, with_object(c, place(c, e.object), x))
     } else {
         bring(NOTHING, c)
@@ -80,8 +82,9 @@ fn take_copy(c: Coordinator, m: &[u8]) -> Step
 }
 
 // The record after a yes: committed when every participant said it.
-fn with_yes(c: Coordinator, agreed: u16, rivals: [u32; NODES]) -> Step
-    ensures { result ≡ with_yes c agreed rivals }
+#[tactic(auto, unfolding(crate::specs::Receive::with_yes))]
+fn with_yes(c: Coordinator, agreed: u16, rivals: [u32; NODES]) -> Taken
+    ensures { step_taken result ≡ with_yes c agreed rivals }
 {
     if mask::subset(c.participants, agreed) {
         let d = Coordinator {
@@ -104,8 +107,9 @@ fn with_yes(c: Coordinator, agreed: u16, rivals: [u32; NODES]) -> Step
 }
 
 // The record after a done: idle when every awaited node said it.
-fn with_done(c: Coordinator, said: u16) -> Step
-    ensures { result ≡ with_done c said }
+#[tactic(auto, unfolding(crate::specs::Receive::with_done))]
+fn with_done(c: Coordinator, said: u16) -> Taken
+    ensures { step_taken result ≡ with_done c said }
 {
     if mask::subset(awaited_by(c), said) {
         bring(FINISHED, idle_with(c.serial, c.timestamp, c.outcome))
@@ -114,8 +118,9 @@ fn with_done(c: Coordinator, said: u16) -> Step
     }
 }
 
-fn take_done(c: Coordinator, m: &[u8]) -> Step
-    ensures { result ≡ done_taken c m.now }
+#[tactic(auto, unfolding(crate::specs::Receive::done_taken))]
+fn take_done(c: Coordinator, m: &[u8]) -> Taken
+    ensures { step_taken result ≡ done_taken c m.now }
 {
     if is_answer(c, FINISHING, awaited_by(c), m) {
         with_done(c, mask::join(c.done, mask::single(wire::from(m))))
@@ -124,14 +129,12 @@ fn take_done(c: Coordinator, m: &[u8]) -> Step
     }
 }
 
-fn take_yield(c: Coordinator, m: &[u8]) -> Step
-    ensures { result ≡ yield_taken c m.now }
+#[tactic(auto, unfolding(crate::specs::Receive::yield_taken))]
+fn take_yield(c: Coordinator, m: &[u8]) -> Taken
+    ensures { step_taken result ≡ yield_taken c m.now }
 {
     let r = wire::nth_rival(m, 0);
-    if both(
-        either(c.phase == OPEN, c.phase == VOTING),
-        r.serial == c.serial,
-    ) {
+    if (c.phase == OPEN || c.phase == VOTING) && r.serial == c.serial {
         bring(ABORTED, with_aborted(c))
     } else {
         bring(NOTHING, c)
@@ -159,8 +162,9 @@ pub fn raised_by(rivals: [u32; NODES], m: &[u8]) -> [u32; NODES]
     a
 }
 
-fn take_vote(c: Coordinator, m: &[u8]) -> Step
-    ensures { result ≡ vote_taken c m.now }
+#[tactic(auto, unfolding(crate::specs::Receive::vote_taken))]
+fn take_vote(c: Coordinator, m: &[u8]) -> Taken
+    ensures { step_taken result ≡ vote_taken c m.now }
 {
     if is_answer(c, VOTING, c.participants, m) {
         if wire::word(m) == 0 {
@@ -175,8 +179,9 @@ fn take_vote(c: Coordinator, m: &[u8]) -> Step
 }
 
 // The kind decides.
-fn deliver(c: Coordinator, m: &[u8]) -> Step
-    ensures { result ≡ delivered tree c m.now }
+#[tactic(auto, unfolding(crate::specs::Receive::delivered))]
+fn deliver(c: Coordinator, m: &[u8]) -> Taken
+    ensures { step_taken result ≡ delivered tree c m.now }
 {
     match wire::kind(m) {
         wire::COPY => take_copy(c, m),
@@ -187,34 +192,27 @@ fn deliver(c: Coordinator, m: &[u8]) -> Step
     }
 }
 
-// The number of a delivery, whatever the record is. Ruled out: 'out of turn' for a message to another node; 0 for an ask.
-pub fn receive_number(me: u8, m: &[u8]) -> u8
-    ensures { (c : Coordinator) → result ≡ first_of (receive_refusals c me m.now) }
+// Whether a node may take a message, whatever its record is. Ruled out: 'out of turn' for a message to another node; an ask taken.
+#[tactic(auto, using(crate::proofs::Refused::check_first), unfolding(crate::specs::Receive::receive_refusals))]
+pub fn may_receive(me: u8, m: &[u8]) -> Result<(), Refusal>
+    ensures { (c : Coordinator) → number_of result ≡ first_of (receive_refusals c me m.now) }
 {
-    let kind = wire::kind(m);
-    let other = either(
-        kind == wire::FETCH,
-        either(kind == wire::ASK, kind == wire::OUTCOME),
-    );
-    let turn = refuse(numbers::OUT_OF_TURN, other, 0);
-    let stranger = refuse(
-        numbers::STRANGER,
-        either(!(me < NODES_END), !(wire::to(m) == me)),
-        turn,
-    );
-    let checked = wire::check(m);
-    let garbled = refuse(numbers::GARBLED, checked == numbers::GARBLED, stranger);
-    refuse(numbers::LENGTH, checked == numbers::LENGTH, garbled)
+    wire::check(m)?;
+    if NODES_END <= me || wire::to(m) != me {
+        return Err(Refusal::Stranger);
+    }
+    match wire::kind(m) {
+        wire::FETCH | wire::ASK | wire::OUTCOME => Err(Refusal::OutOfTurn),
+        _ => Ok(()),
+    }
 }
 
 // Delivers one message; answers what it brought about.
 // Ruled out: commit by a majority of the participants; a late copy that changes a value found; idle before every done.
-pub fn receive(c: Coordinator, me: u8, m: &[u8]) -> Step
-    ensures { result ≡ receive_of tree c me m.now }
+#[tactic(auto, unfolding(crate::specs::Receive::receive_of))]
+pub fn receive(c: Coordinator, me: u8, m: &[u8]) -> Result<Taken, Refusal>
+    ensures { step c result ≡ receive_of tree c me m.now }
 {
-    let number = receive_number(me, m);
-    if number != 0 {
-        return refused(number, c);
-    }
-    deliver(c, m)
+    may_receive(me, m)?;
+    Ok(deliver(c, m))
 }

@@ -11,8 +11,6 @@ ghost use Rattle.classes.specs.Weights.{weight_count, weights, batch_length, ove
 
 use numbers::Refusal;
 use std::array;
-use numbers::{pick, refuse};
-use std::array;
 
 // The bytes in which a node keeps its table.
 pub const KEPT: usize = 24;

@@ -10,7 +10,11 @@ pub record Step : Type 0 where
   pub answer : ℕ
   pub coordinator : Coordinator
 
+-- what a call that is taken comes to
+abbrev pub step_taken : Taken → Step
+step_taken t = record { number = 0; answer = t.answer; coordinator = t.coordinator }
+
 -- what a call that was given the record c comes to, by what it returned
 abbrev pub step : Coordinator → Result Taken Refusal → Step
-step c (Ok t) = record { number = 0; answer = t.answer; coordinator = t.coordinator }
+step c (Ok t) = step_taken t
 step c (Err r) = record { number = code_of r; answer = 0; coordinator = c }
