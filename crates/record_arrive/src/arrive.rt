@@ -3,13 +3,11 @@ ghost use Rattle.std.specs.Prelude.{◌≡◌, cond, ◌≤◌, length};
 ghost use Rattle.record.specs.Layout.{record_size};
 ghost use Rattle.numbers.specs.Sizes.{nodes, most_open};
 ghost use Rattle.mask.specs.Mask.{within};
-ghost use Rattle.numbers.specs.Refusal.{first_of};
-ghost use Rattle.coordinator.specs.declared.Coordinator.{Coordinator};
 ghost use Rattle.coordinator.specs.System.{tree};
-ghost use Rattle.arrivals.specs.Receive.{answers, copy_fits, copy_taken, vote_taken, done_taken, yield_taken, delivered, receive_refusals, receive_of};
+ghost use Rattle.arrivals.specs.Receive.{answers, copy_fits, copy_taken, vote_taken, done_taken, yield_taken, delivered};
 ghost use Rattle.record_arrive.specs.Change.{with_rivals, raised_by, yes_taken};
 ghost use Rattle.record.specs.Record.{record_of, bytes_of, check};
-ghost use Rattle.record.specs.Call.{told_by, kept};
+ghost use Rattle.record.specs.Call.{called, told_by, kept};
 
 use coordinator::{ABORTED, COMMITTED, FINISHED, FINISHING, NOTHING, OPEN, READY, VOTING};
 use numbers::{MOST_OPEN, both, either};
@@ -17,8 +15,7 @@ use record::load::rivals_of;
 use record::look::{awaited_in, object_named, phase, place};
 use record::store::{become_idle, end_aborted, put_object, put_rivals, turn};
 use record::{
-    CONTACTED, Called, DONE, OBJECT_SIZE, OBJECTS_PLACE, OUTCOME, PARTICIPANTS, SERIAL, TIMESTAMP,
-    YES, refused, taken,
+    CONTACTED, DONE, OBJECT_SIZE, OBJECTS_PLACE, OUTCOME, PARTICIPANTS, SERIAL, TIMESTAMP, YES,
 };
 
 // An answer to this transaction, in this phase, from one of these nodes.
@@ -55,9 +52,9 @@ fn ready_or_not(ready: bool) -> u64
 }
 
 // A copy of an open object counts until the object is ready.
-fn take_copy(bytes: &mut [u8], m: &[u8]) -> Called
+fn take_copy(bytes: &mut [u8], m: &[u8]) -> u64
     requires { check bytes.old ≡ 0 }
-    ensures value { result ≡ told_by (copy_taken tree (record_of bytes.old) m.now) }
+    ensures value { called 0 result ≡ told_by (copy_taken tree (record_of bytes.old) m.now) }
     ensures bytes_after { bytes.new ≡ kept (copy_taken tree (record_of bytes.old) m.now) bytes.old }
 {
     if copy_fits(bytes, m) {
@@ -65,9 +62,9 @@ fn take_copy(bytes: &mut [u8], m: &[u8]) -> Called
         let p = place(bytes, e.object);
         let x = arrivals::copied(object_named(bytes, e.object), wire::from(m), e);
         put_object(bytes, OBJECTS_PLACE + OBJECT_SIZE * p, x);
-        return taken(ready_or_not(coordinator::is_ready(x)));
+        return ready_or_not(coordinator::is_ready(x));
     }
-    taken(NOTHING as u64)
+    NOTHING as u64
 }
 
 // The rivals that a message names, each with the highest serial.
@@ -92,9 +89,9 @@ fn is_agreed(participants: u16, agreed: u16) -> bool
 }
 
 // A yes counts with its rivals, and the last one commits.
-fn take_yes(bytes: &mut [u8], m: &[u8]) -> Called
+fn take_yes(bytes: &mut [u8], m: &[u8]) -> u64
     requires { (check bytes.old ≡ 0) × ((record_of bytes.old).phase ≡ 2) }
-    ensures value { result ≡ told_by (yes_taken (record_of bytes.old) m.now) }
+    ensures value { called 0 result ≡ told_by (yes_taken (record_of bytes.old) m.now) }
     ensures bytes_after { bytes.new ≡ bytes_of (yes_taken (record_of bytes.old) m.now).coordinator }
 {
     let participants = octets::get_u16(bytes, PARTICIPANTS);
@@ -103,32 +100,32 @@ fn take_yes(bytes: &mut [u8], m: &[u8]) -> Called
     octets::put_u16(bytes, YES, agreed);
     if is_agreed(participants, agreed) {
         turn(bytes, COMMITTED, FINISHING);
-        return taken(COMMITTED as u64);
+        return COMMITTED as u64;
     }
-    taken(NOTHING as u64)
+    NOTHING as u64
 }
 
 // A no aborts.
-fn take_vote(bytes: &mut [u8], m: &[u8]) -> Called
+fn take_vote(bytes: &mut [u8], m: &[u8]) -> u64
     requires { check bytes.old ≡ 0 }
-    ensures value { result ≡ told_by (vote_taken (record_of bytes.old) m.now) }
+    ensures value { called 0 result ≡ told_by (vote_taken (record_of bytes.old) m.now) }
     ensures bytes_after { bytes.new ≡ kept (vote_taken (record_of bytes.old) m.now) bytes.old }
 {
     let participants = octets::get_u16(bytes, PARTICIPANTS);
     if is_answer(bytes, VOTING, participants, m) {
         if wire::word(m) == 0 {
             end_aborted(bytes);
-            return taken(ABORTED as u64);
+            return ABORTED as u64;
         }
         return take_yes(bytes, m);
     }
-    taken(NOTHING as u64)
+    NOTHING as u64
 }
 
 // A done: the last one ends the transaction.
-fn take_done(bytes: &mut [u8], m: &[u8]) -> Called
+fn take_done(bytes: &mut [u8], m: &[u8]) -> u64
     requires { check bytes.old ≡ 0 }
-    ensures value { result ≡ told_by (done_taken (record_of bytes.old) m.now) }
+    ensures value { called 0 result ≡ told_by (done_taken (record_of bytes.old) m.now) }
     ensures bytes_after { bytes.new ≡ kept (done_taken (record_of bytes.old) m.now) bytes.old }
 {
     let nodes = awaited_in(bytes);
@@ -137,18 +134,18 @@ fn take_done(bytes: &mut [u8], m: &[u8]) -> Called
         if mask::subset(nodes, said) {
             let outcome = octets::get_u8(bytes, OUTCOME);
             become_idle(bytes, outcome);
-            return taken(FINISHED as u64);
+            return FINISHED as u64;
         }
         octets::put_u16(bytes, DONE, said);
-        return taken(NOTHING as u64);
+        return NOTHING as u64;
     }
-    taken(NOTHING as u64)
+    NOTHING as u64
 }
 
 // A yield that names this transaction aborts it while open or voting.
-fn take_yield(bytes: &mut [u8], m: &[u8]) -> Called
+fn take_yield(bytes: &mut [u8], m: &[u8]) -> u64
     requires { check bytes.old ≡ 0 }
-    ensures value { result ≡ told_by (yield_taken (record_of bytes.old) m.now) }
+    ensures value { called 0 result ≡ told_by (yield_taken (record_of bytes.old) m.now) }
     ensures bytes_after { bytes.new ≡ kept (yield_taken (record_of bytes.old) m.now) bytes.old }
 {
     let r = wire::nth_rival(m, 0);
@@ -156,15 +153,15 @@ fn take_yield(bytes: &mut [u8], m: &[u8]) -> Called
     let named = r.serial == octets::get_u32(bytes, SERIAL);
     if both(either(at == OPEN, at == VOTING), named) {
         end_aborted(bytes);
-        return taken(ABORTED as u64);
+        return ABORTED as u64;
     }
-    taken(NOTHING as u64)
+    NOTHING as u64
 }
 
 // The kind decides.
-fn deliver(bytes: &mut [u8], m: &[u8]) -> Called
+pub(crate) fn deliver(bytes: &mut [u8], m: &[u8]) -> u64
     requires { check bytes.old ≡ 0 }
-    ensures value { result ≡ told_by (delivered tree (record_of bytes.old) m.now) }
+    ensures value { called 0 result ≡ told_by (delivered tree (record_of bytes.old) m.now) }
     ensures bytes_after { bytes.new ≡ kept (delivered tree (record_of bytes.old) m.now) bytes.old }
 {
     match wire::kind(m) {
@@ -172,19 +169,6 @@ fn deliver(bytes: &mut [u8], m: &[u8]) -> Called
         wire::VOTE => take_vote(bytes, m),
         wire::DONE => take_done(bytes, m),
         wire::YIELD => take_yield(bytes, m),
-        _ => taken(NOTHING as u64),
+        _ => NOTHING as u64,
     }
-}
-
-// A delivery whose number is found already.
-pub(crate) fn receive(bytes: &mut [u8], me: u8, m: &[u8], number: u8) -> Called
-    requires bytes_value { check bytes.old ≡ 0 }
-    requires number_value { (c : Coordinator) → number ≡ first_of (receive_refusals c me m.now) }
-    ensures value { result ≡ told_by (receive_of tree (record_of bytes.old) me m.now) }
-    ensures bytes_after { bytes.new ≡ kept (receive_of tree (record_of bytes.old) me m.now) bytes.old }
-{
-    if number != 0 {
-        return refused(number);
-    }
-    deliver(bytes, m)
 }

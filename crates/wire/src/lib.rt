@@ -5,7 +5,7 @@ mod read;
 mod verify;
 
 pub use read::{entries, from, kind, nth_entry, nth_rival, owner, rivals, serial, stamp, to, word};
-pub use verify::{above, check, counts_ok, entry_fits, entry_ok, head_ok, rival_ok};
+pub use verify::{above, check, counts_ok, entry_fits, entry_ok, has_length, head_ok, rival_ok};
 
 // One object of a message (document 01: tally): which, in which mode (0 read, 1 write), the version and the value.
 #[repr(C)]

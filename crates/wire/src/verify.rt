@@ -4,6 +4,7 @@ ghost use Rattle.wire.specs.Formed.{counts_ok, direction_ok, content_ok, entry_o
 ghost use Rattle.wire.specs.Encode.{entry_size, rival_size, size_with};
 ghost use Rattle.wire.specs.Decode.{kind_of, entry_at, rival_at, items_from, entries_place, accepted, check_of};
 ghost use Rattle.wire.specs.Headed.{headed, head_ok};
+ghost use Rattle.numbers.specs.Numbers.{wrong_length};
 ghost use Rattle.numbers.specs.Outcome.{number_of};
 ghost use Rattle.wire.specs.Run.{run, object_of, owner_in, word_with};
 
@@ -237,13 +238,21 @@ fn is_accepted(s: &[u8]) -> bool
     }
 }
 
+// Whether bytes have a message's length. Ruled out: no to 128 bytes; yes to 14.
+#[tactic(auto, unfolding(crate::specs::Decode::check_of))]
+pub fn has_length(s: &[u8]) -> bool
+    ensures { result ≡ not (eqb (check_of s.now) wrong_length) }
+{
+    SHORTEST_MESSAGE <= s.len() && s.len() <= LONGEST_MESSAGE
+}
+
 // Whether bytes are a message: refused for their length, and where they are garbled.
 // Ruled out: bytes left over accepted; a rival that is the owner accepted; 'garbled' for a message of 14 bytes.
 #[tactic(auto, unfolding(crate::specs::Decode::check_of))]
 pub fn check(s: &[u8]) -> Result<(), Refusal>
     ensures { number_of result ≡ check_of s.now }
 {
-    if s.len() < SHORTEST_MESSAGE || LONGEST_MESSAGE < s.len() {
+    if !has_length(s) {
         return Err(Refusal::Length);
     }
     if !is_accepted(s) {
