@@ -68,7 +68,3 @@ each_both p q (suc n) = ap (λ (b : Bool). b && (p n && q n)) (each_both p q n) 
 pub unless : (b : Bool) → not b ≡ true → b ≡ false
 unless true e = sym e
 unless false e = refl
-
-pub indeed : (b : Bool) → not b ≡ false → b ≡ true
-indeed true e = refl
-indeed false e = sym e

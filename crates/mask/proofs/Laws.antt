@@ -1,12 +1,12 @@
 -- The laws of masks: what each operation says of each node, and that a mask is its nodes. By the bits of a number, digit by digit.
 use mathlib.Core.Path.{◌≡◌, refl, sym, ap, ◌∙◌, subst}
 use mathlib.Core.Bool.{Bool, true, false, not, cond, ◌&&◌, ◌||◌}
-use Prim.Native.Nat.{ℕ, zero, suc, ◌+◌, ◌*◌, ◌-◌, ◌/◌, ◌%◌, ◌^◌, ◌≤◌, ◌<◌, min, max}
+use Prim.Native.Nat.{ℕ, zero, suc, ◌+◌, ◌-◌, ◌/◌, ◌%◌, ◌^◌, ◌≤◌, ◌<◌, min, max}
 use native.Mathlib.Nat.{mod-lt, lt_of_le_of_lt, min-le_left, zero-lt-suc, pow-suc, zero-div, div-add-mod', div-one, div_self, div-eq_of_lt}
 use native.Mathlib.Omega.{arith}
 use lib.Arith.{digits_mod, bin_ind}
 use lib.Bits.{bit_and, bit_or, bit_xor, and_step, or_step, xor_step, and_shr, or_shr, xor_shr, differ}
-use lib.Pow.{shr-shr, pow-add, shl_exact, pow_pos, pow-lt, pow_mono, shl-shr}
+use lib.Pow.{shr-shr, pow-add, pow_pos, pow-lt, pow_mono, shl-shr}
 use lib.Dec.{T, eqb, eqb→eq, eqb_refl}
 use borrow.Author.Tests.{lt-ltb}
 use Rattle.mask.specs.Mask.{bit, contains, only, within, minus}
@@ -77,10 +77,6 @@ contains_high m i h k = ap (λ (x : ℕ). eqb x 1) (bit_high m i (omega (arith, 
 
 pub only_small : (i : ℕ) → i < 16 → only i ≡ 2 ^ i
 only_small i h = ap (λ (b : Bool). cond b (2 ^ i) 0) (lt-ltb i 16 h)
-
--- `1 << i` at 16 bits
-pub shift_one : (i : ℕ) → i < 16 → (1 * 2 ^ i) % 2 ^ 16 ≡ 2 ^ i
-shift_one i h = shl_exact 1 i 16 (omega arith) (omega arith) ∙ omega arith
 
 power_above : (j k : ℕ) → bit (2 ^ (suc k + j)) j ≡ 0
 power_above j k = ap (λ (x : ℕ). x / 2 ^ j % 2) (pow-add 2 (suc k) j) ∙ ap (λ (x : ℕ). x % 2) (shl-shr (2 ^ suc k) j) ∙ omega (arith, pow-suc 2 k)

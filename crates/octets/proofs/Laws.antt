@@ -7,8 +7,8 @@ use mathlib.Core.Path.{◌≡◌, refl, sym, ap, ◌∙◌}
 use mathlib.Core.Logic.{◌⊎◌, inl, inr, ⊎_elim}
 use mathlib.Core.List.{List, [], ◌∷◌, ◌++◌}
 use mathlib.Core.Bool.{Bool, true, false}
-use lib.Dec.{ltb, leb}
-use borrow.Author.Tests.{ltb-true, ltb-false, leb-true, leb-false}
+use lib.Dec.{ltb}
+use borrow.Author.Tests.{ltb-true, ltb-false}
 use lib.ListN.{length, get_or, set, take, drop, length-set, get_or-eq_default}
 use lib.Seq.{get_or-set_same, get_or-set_other, set-set, set_comm, set-get_or, set_out, get_or-append-add, get_or-drop, sets, drop-cons}
 use Rattle.octets.specs.Octets.{get, put, le}
@@ -221,17 +221,3 @@ pub put_eight : (l : List ℕ) (i v : ℕ) → put 8 l i v ≡ put 4 (put 4 l i 
 unfolding put
 put_eight l i v =
     rw (let e : i + 1 + 1 + 1 + 1 ≡ i + 4 = omega arith in e, let e : v / 256 / 256 / 256 / 256 ≡ v / 4294967296 = omega arith in e) refl
-
--- ---- whether k bytes from i on are there, as the code tests it
--- two tests that say the same of the numbers
-tests_same : (a b c d : ℕ) → (a ≤ b → c ≤ d) → (c ≤ d → a ≤ b) → leb a b ≡ leb c d
-tests_same a b c d f g = go (leb a b) (leb c d) refl refl
-  where
-    go : (x y : Bool) → leb a b ≡ x → leb c d ≡ y → x ≡ y
-    go true true p q = refl
-    go false false p q = refl
-    go true false p q = let h = f (leb-true a b p) in absurd (let z = leb-false c d q in omega arith)
-    go false true p q = let h = g (leb-true c d q) in absurd (let z = leb-false a b p in omega arith)
-
-pub leb_shift : (n i k : ℕ) → k ≤ n → leb i (n - k) ≡ leb (i + k) n
-leb_shift n i k h = tests_same i (n - k) (i + k) n (λ p. omega arith) (λ p. omega arith)

@@ -1,14 +1,10 @@
 -- `image::change::free_here`: by the test; a holder that is another stays as it is.
 use native.Mathlib.Omega.{arith}
 use mathlib.Core.Path.{sym, ◌∙◌}
-use borrow.Author.Tests.{eq-eqb, ne_eqb}
+use borrow.Author.Tests.{ne_eqb}
 use Rattle.image.specs.Layout.{shape, holder_field}
 use Rattle.image.proofs.Lens.{with_same}
 use Rattle.image.proofs.change.free_here.Goals as goal
-
-pub returns-then-here_u8-o : goal.returns-then-here_u8-o
-returns-then-here_u8-o c = let h = c.here_u8.ensures in
-    rw c.put_here_u8.ensures (simp (eq-eqb _ _ (sym h ∙ c.if-here_u8-o.true)))
 
 pub returns-else-here_u8-o : goal.returns-else-here_u8-o
 returns-else-here_u8-o c = let x = c.args in

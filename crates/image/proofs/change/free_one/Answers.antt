@@ -1,14 +1,10 @@
 -- `image::change::free_one`: by the test; a holder that is another stays as it is.
 use native.Mathlib.Omega.{arith}
 use mathlib.Core.Path.{sym, ◌∙◌}
-use borrow.Author.Tests.{eq-eqb, ne_eqb}
+use borrow.Author.Tests.{ne_eqb}
 use Rattle.image.specs.Layout.{shape, holder_field}
 use Rattle.image.proofs.Lens.{with_same}
 use Rattle.image.proofs.change.free_one.Goals as goal
-
-pub returns-then-holder-o : goal.returns-then-holder-o
-returns-then-holder-o c = let h = c.holder.ensures in
-    rw c.set_holder.ensures (simp (eq-eqb _ _ (sym h ∙ c.if-holder-o.true)))
 
 pub returns-else-holder-o : goal.returns-else-holder-o
 returns-else-holder-o c = let x = c.args in

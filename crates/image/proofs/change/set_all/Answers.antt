@@ -1,8 +1,6 @@
 -- `image::change::set_all`: the objects passed have the number.
-use native.Mathlib.Omega.{arith}
-use mathlib.Core.Path.{◌≡◌, refl, sym}
+use mathlib.Core.Path.{refl, sym}
 use Rattle.image.specs.Field.{changed_all}
-use Rattle.image.specs.Layout.{shape}
 use Rattle.image.proofs.Lens.{all_more}
 use Rattle.image.proofs.change.set_all.Goals as goal
 
@@ -15,6 +13,3 @@ loop-t-preserved c =
     let l = c.loop-t in
     let x = c.args in
     rw (c.put_u8.ensures, l.invariant) (sym (all_more x.f (λ a. x.v) l.t x.image.now))
-
-pub returns : goal.returns
-returns c = let e : c.loop-t.t ≡ shape.objects = omega arith in rw e at c.loop-t.invariant

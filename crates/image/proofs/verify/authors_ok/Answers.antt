@@ -37,8 +37,3 @@ loop-t-preserved c = let l = c.loop-t in
     ) (author_by image l.t (omega arith)) in
     let e : fine image l.t ≡ true = sym said ∙ c.if-not-author_ok.false in
     each_more (fine image) l.t ∙ rw (l.invariant, e)
-
-pub returns : goal.returns
-returns c = let l = c.loop-t in
-    let e : l.t ≡ shape.objects = omega arith in
-    sym (rw e at l.invariant)

@@ -1,9 +1,8 @@
 -- `image::verify::walk`: what was tested so far is `each` of the owners passed, and the masks mark those of them in states 1 and 2.
 use native.Mathlib.Omega.{arith}
 use Prim.Native.Nat.{ℕ}
-use mathlib.Core.Path.{◌≡◌, refl, sym}
+use mathlib.Core.Path.{refl, sym}
 use lib.Dec.{eqb}
-use Rattle.numbers.specs.Sizes.{nodes}
 use Rattle.image.specs.Layout.{state, owner_of}
 use Rattle.image.specs.Valid.{each}
 use Rattle.image.specs.Pass.{owner_fits}
@@ -25,8 +24,3 @@ loop-o-preserved c = let l = c.loop-o in
       rw (c.mark-listed.ensures, w) (marks_next (λ (k : ℕ). eqb (state i k) 1) l.listed l.o (omega arith) l.invariant.1),
       rw (c.mark-held.ensures, w) (marks_next (λ (k : ℕ). eqb (state i k) 2) l.held l.o (omega arith) l.invariant.2),
     )
-
-pub returns : goal.returns
-returns c = let l = c.loop-o in
-    let e : l.o ≡ nodes = omega arith in
-    record { each_fits = rw e at l.invariant.0; in_listed = rw e at l.invariant.1; in_held = rw e at l.invariant.2 }

@@ -12,17 +12,6 @@ use Rattle.wire.specs.Headed.{headed}
 use Rattle.letters.proofs.ByOwner.{section_stores, words_length, message_stores}
 use Rattle.letters.proofs.write.fill_entries.Goals as goal
 
-pub returns-clause-value : goal.returns-clause-value
-unfolding together
-returns-clause-value c = let a = c.args in
-    let x = c.put_words in
-    let es : List Entry = take a.n a.entries in
-    let ws : List ℕ = take a.words (a.word ∷ []) in
-    let len : a.n ≡ length es = sym c.put_entries.ensures.entries_len in
-    let one : length ws ≡ a.words = words_length a.words a.word (omega arith) in
-    let head : List ℕ = sets a.out.now 0 (encode_header (headed a.h [] [] [])) in
-    omega (arith, x.ensures.value)
-
 pub returns-clause-out_after : goal.returns-clause-out_after
 unfolding together
 returns-clause-out_after c = let a = c.args in

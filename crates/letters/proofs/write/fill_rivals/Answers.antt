@@ -13,17 +13,6 @@ use Rattle.letters.specs.Write.{rivals_by}
 use Rattle.letters.proofs.ByOwner.{section_stores, message_stores}
 use Rattle.letters.proofs.write.fill_rivals.Goals as goal
 
-pub returns-clause-value : goal.returns-clause-value
-unfolding together
-returns-clause-value c = let a = c.args in
-    let n = c.requires.0 in
-    let x = c.put_words.ensures in
-    let y = c.put_rivals-at in
-    let rs : List Rival = rivals_by 0 a.serials in
-    let ws : List ℕ = a.word ∷ [] in
-    let head : List ℕ = sets a.out.now 0 (encode_header (headed a.h [] [] [])) in
-    omega (arith, x.value, y.ensures.value)
-
 pub returns-clause-out_after : goal.returns-clause-out_after
 unfolding together
 returns-clause-out_after c = let a = c.args in

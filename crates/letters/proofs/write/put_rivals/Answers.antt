@@ -1,5 +1,5 @@
 -- `letters::write::put_rivals`: storing the rivals that are left from here on gives what storing all of them gives.
-use mathlib.Core.Path.{◌≡◌, refl, sym, ap, ap₂, ◌∙◌}
+use mathlib.Core.Path.{◌≡◌, sym, ap, ap₂, ◌∙◌}
 use Prim.Native.Nat.{ℕ, ◌+◌}
 use native.Mathlib.Omega.{arith}
 use mathlib.Core.List.{List, ◌++◌}
@@ -12,12 +12,6 @@ use Rattle.letters.specs.Write.{one_rival, rivals_by}
 use Rattle.letters.proofs.ByOwner.{one_count, rivals_step, rivals_end, rivals_then}
 use borrow.Author.Rules.{rules}
 use Rattle.letters.proofs.write.put_rivals.Goals as goal
-
-pub loop-i-init : goal.loop-i-init
-loop-i-init c = (omega arith, refl, refl)
-
-pub put_by_owner-next-requires : goal.put_by_owner-next-requires
-put_by_owner-next-requires c = (omega arith, omega arith)
 
 pub loop-i-preserved : goal.loop-i-preserved
 loop-i-preserved c =

@@ -12,14 +12,10 @@ use Rattle.wire.specs.Formed.{well_formed}
 use Rattle.wire.specs.Encode.{encode, size_of}
 use Rattle.wire.specs.Headed.{headed}
 use Rattle.letters.specs.Write.{first_entries}
-use Rattle.letters.proofs.Sending.{room, room_in_front, refused_written, refused_buffer, good_written, good_buffer}
+use Rattle.letters.proofs.Sending.{room_in_front, refused_written, refused_buffer, good_written, good_buffer}
 use Rattle.letters.proofs.Sending.{all_there, first_formed, few_entries}
-use Rattle.letters.proofs.ByOwner.{words_length}
 use borrow.Author.Rules.{rules}
 use Rattle.letters.proofs.write.send_entries.Goals as goal
-
-pub array_ok-listed-requires : goal.array_ok-listed-requires
-array_ok-listed-requires c = omega (arith, c.min-count.ensures)
 
 pub returns-then-number-ne0-clause-value : goal.returns-then-number-ne0-clause-value
 returns-then-number-ne0-clause-value c = let a = c.args in
@@ -48,10 +44,6 @@ returns-then-number-ne0-clause-out_after c = let a = c.args in
     refused_buffer m l
     c.formed.result x.result f x.ensures c.if-number-ne0.true
 
-pub slice_bounds-fill_entries-end : goal.slice_bounds-fill_entries-end
-slice_bounds-fill_entries-end c = room c.args.out.now
-    c.formed.result _ c.refusal-number.ensures c.if-number-ne0.false
-
 pub slice_bounds-fill_entries-end-2 : goal.slice_bounds-fill_entries-end-2
 slice_bounds-fill_entries-end-2 c = sym (room_in_front c.args.out.now
     c.formed.result _ c.refusal-number.ensures c.if-number-ne0.false)
@@ -63,14 +55,6 @@ fill_entries-length-requires c = let l = c.args.out.now in
       search rules,
       omega (arith, room_in_front l r.result _ c.refusal-number.ensures c.if-number-ne0.false),
     )
-
-pub written-requires : goal.written-requires
-written-requires c = let a = c.args in
-    let r = c.formed in
-    let few = few_entries a.out.now r.result _ _ _ _ _ _ c.refusal-number.ensures c.if-number-ne0.false r.ensures in
-    let k = c.min-count in
-    let all = all_there a.entries a.n _ k.ensures c.array_ok-listed.ensures.entries_len few in
-    omega (arith, few, all.0, c.fill_entries-length.ensures.value, words_length a.words a.word (omega arith))
 
 pub returns-clause-value : goal.returns-clause-value
 returns-clause-value c = let a = c.args in

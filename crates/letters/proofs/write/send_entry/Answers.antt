@@ -5,7 +5,7 @@ use mathlib.Core.List.{[], ◌∷◌}
 use Rattle.wire.specs.Message.{Message}
 use Rattle.wire.specs.Formed.{well_formed}
 use Rattle.wire.specs.Headed.{headed}
-use Rattle.letters.proofs.Sending.{room, room_in_front, refused_written, refused_buffer, good_written, good_buffer}
+use Rattle.letters.proofs.Sending.{room_in_front, refused_written, refused_buffer, good_written, good_buffer}
 use Rattle.letters.proofs.Sending.{entry_formed}
 use Rattle.letters.proofs.write.send_entry.Goals as goal
 
@@ -27,10 +27,6 @@ returns-then-number-ne0-clause-out_after c = let a = c.args in
     entry_formed a.h a.e _ _ c.formed.ensures c.entry_ok.ensures in
     refused_buffer m l
     c.formed.result x.result f x.ensures c.if-number-ne0.true
-
-pub slice_bounds-fill_entry-end : goal.slice_bounds-fill_entry-end
-slice_bounds-fill_entry-end c = room c.args.out.now c.formed.result _
-    c.refusal-number.ensures c.if-number-ne0.false
 
 pub slice_bounds-fill_entry-end-2 : goal.slice_bounds-fill_entry-end-2
 slice_bounds-fill_entry-end-2 c = sym (room_in_front c.args.out.now

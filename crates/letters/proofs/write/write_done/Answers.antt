@@ -3,7 +3,7 @@ use mathlib.Core.Path.{◌≡◌, refl, sym, ◌∙◌}
 use Rattle.wire.specs.Message.{Message}
 use Rattle.wire.specs.Formed.{well_formed}
 use Rattle.letters.specs.Write.{done_of}
-use Rattle.letters.proofs.Sending.{room, room_in_front, refused_written, refused_buffer, good_written, good_buffer}
+use Rattle.letters.proofs.Sending.{room_in_front, refused_written, refused_buffer, good_written, good_buffer}
 use Rattle.letters.proofs.Sending.{nothing_formed}
 use Rattle.letters.proofs.write.write_done.Goals as goal
 
@@ -23,10 +23,6 @@ returns-then-number-ne0-clause-out_after c = let a = c.args in
     let f : c.formed.result ≡ well_formed m = nothing_formed _ _ c.formed.ensures in
     refused_buffer m l
     c.formed.result x.result f x.ensures c.if-number-ne0.true
-
-pub slice_bounds-fill_nothing-end : goal.slice_bounds-fill_nothing-end
-slice_bounds-fill_nothing-end c = room c.args.out.now c.formed.result _
-    c.refusal-number.ensures c.if-number-ne0.false
 
 pub slice_bounds-fill_nothing-end-2 : goal.slice_bounds-fill_nothing-end-2
 slice_bounds-fill_nothing-end-2 c = sym (room_in_front c.args.out.now

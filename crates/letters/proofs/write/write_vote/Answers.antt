@@ -9,7 +9,7 @@ use Rattle.wire.specs.Message.{Message}
 use Rattle.wire.specs.Formed.{counts_ok, well_formed}
 use Rattle.wire.specs.Headed.{head_ok}
 use Rattle.letters.specs.Write.{rivals_by, vote_of}
-use Rattle.letters.proofs.Sending.{room, room_in_front, refused_written, refused_buffer, good_written, good_buffer}
+use Rattle.letters.proofs.Sending.{room_in_front, refused_written, refused_buffer, good_written, good_buffer}
 use Rattle.letters.proofs.Sending.{rivals_formed}
 use Rattle.letters.proofs.Votes.{own_decides}
 use Rattle.letters.proofs.write.write_vote.Goals as goal
@@ -44,10 +44,6 @@ returns-then-number-ne0-clause-out_after c = let a = c.args in
     rivals_formed h (rivals_by 0 ss) (a.word ∷ []) _ _ (c.formed.ensures ∙ counted) listed in
     refused_buffer m l
     c.formed.result x.result f x.ensures c.if-number-ne0.true
-
-pub slice_bounds-fill_rivals-end : goal.slice_bounds-fill_rivals-end
-slice_bounds-fill_rivals-end c = room c.args.out.now
-    c.formed.result _ c.refusal-number.ensures c.if-number-ne0.false
 
 pub slice_bounds-fill_rivals-end-2 : goal.slice_bounds-fill_rivals-end-2
 slice_bounds-fill_rivals-end-2 c = sym (room_in_front c.args.out.now

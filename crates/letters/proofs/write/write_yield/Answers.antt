@@ -4,7 +4,7 @@ use native.Mathlib.Omega.{arith}
 use Rattle.wire.specs.Message.{Message}
 use Rattle.wire.specs.Formed.{well_formed}
 use Rattle.letters.specs.Write.{yield_of}
-use Rattle.letters.proofs.Sending.{room, room_in_front, refused_written, refused_buffer, good_written, good_buffer}
+use Rattle.letters.proofs.Sending.{room_in_front, refused_written, refused_buffer, good_written, good_buffer}
 use Rattle.letters.proofs.Sending.{rival_formed}
 use Rattle.letters.proofs.write.write_yield.Goals as goal
 
@@ -26,10 +26,6 @@ returns-then-number-ne0-clause-out_after c = let a = c.args in
     rival_formed _ _ _ _ c.formed.ensures c.rival_ok-listed.ensures in
     refused_buffer m l
     c.formed.result x.result f x.ensures c.if-number-ne0.true
-
-pub slice_bounds-fill_rival-end : goal.slice_bounds-fill_rival-end
-slice_bounds-fill_rival-end c = room c.args.out.now c.formed.result _
-    c.refusal-number.ensures c.if-number-ne0.false
 
 pub slice_bounds-fill_rival-end-2 : goal.slice_bounds-fill_rival-end-2
 slice_bounds-fill_rival-end-2 c = sym (room_in_front c.args.out.now

@@ -1,5 +1,5 @@
 -- `view::sections::entry_from`: field by field.
-use Rattle.view.proofs.Equal.{made_entry}
+use Rattle.wire.proofs.Made.{made_entry}
 use Rattle.wire.specs.Decode.{entry_at}
 use Rattle.view.proofs.sections.entry_from.Goals as goal
 

@@ -1,5 +1,5 @@
 -- `view::sections::rival_from`: field by field.
-use Rattle.view.proofs.Equal.{made_rival}
+use Rattle.wire.proofs.Made.{made_rival}
 use Rattle.wire.specs.Decode.{rival_at}
 use Rattle.view.proofs.sections.rival_from.Goals as goal
 

@@ -23,12 +23,6 @@ unfolding counts_ok
 returns-in_default-entries-3 c = simp
     (c.in-3.is, le-leb 1 _ c.in_default-entries.if-entries-lt1-own.false, lt-leb _ most_open c.in_default-entries.if-entries-lt9-own.false)
 
-pub returns-in-4 : goal.returns-in-4
-returns-in-4 c = simp (c.vote_counts.ensures, c.in-4.is)
-
-pub returns-in-5 : goal.returns-in-5
-returns-in-5 c = simp (c.outcome_counts.ensures, c.in-5.is)
-
 pub returns-in-6 : goal.returns-in-6
 unfolding counts_ok
 returns-in-6 c = simp (c.both-in-6-2.ensures, c.both-in-6.ensures, c.in-6.is)

@@ -1,39 +1,14 @@
 -- `wire::verify::is_accepted`: the counts are the definition's, then the parts in its order.
 use mathlib.Core.Path.{sym, ap, ap₂, ◌∙◌}
 use Prim.Native.Nat.{ℕ, ◌+◌, ◌*◌}
-use native.Mathlib.Omega.{arith}
 use lib.ListN.{get_or}
 use Rattle.wire.specs.declared.Head.{Head}
 use Rattle.wire.specs.Formed.{entry_ok, rival_ok}
 use Rattle.wire.specs.Decode.{kind_of, owner_of, to_of, entry_at, rival_at, items_from, entries_place}
 use Rattle.wire.specs.Headed.{head_ok}
 use Rattle.wire.specs.Run.{run, object_of, owner_in}
-use Rattle.wire.proofs.Accepted.{sized_fits, sized_length, accepted_when, not_accepted}
-use borrow.Author.Rules.{rules}
+use Rattle.wire.proofs.Accepted.{sized_fits, accepted_when, not_accepted}
 use Rattle.wire.proofs.verify.is_accepted.Goals as goal
-
-pub entries_ok-requires : goal.entries_ok-requires
-entries_ok-requires c = (
-  search rules,
-  omega (
-    arith,
-    sized_length c.args.s.now c.entries-n.result
-        c.count_at-r.result
-        c.count_at-w.result c.sized.result c.sized.ensures c.if-sized.true,
-  ),
-)
-
-pub rivals_ok-requires : goal.rivals_ok-requires
-rivals_ok-requires c = (
-  search rules,
-  search rules,
-  omega (
-    arith,
-    sized_length c.args.s.now
-        c.entries-n.result c.count_at-r.result
-        c.count_at-w.result c.sized.result c.sized.ensures c.if-sized.true,
-  ),
-)
 
 pub returns-then-sized : goal.returns-then-sized
 returns-then-sized c = let l = c.args.s.now in

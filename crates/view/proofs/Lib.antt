@@ -1,2 +1,0 @@
--- Equal has what the proofs share.
-pub mod Equal
