@@ -263,6 +263,7 @@ fn line_of(w: u64) -> u8
     }
 }
 
+#[tactic(auto, unfolding(crate::specs::Parse::what_of))]
 fn what_of(s: Said) -> u8
     ensures { result ≡ what_of s }
 {
@@ -280,6 +281,7 @@ fn what_of(s: Said) -> u8
 
 // The end of a line: what it is, and the step that it names.
 // Ruled out: a word with a number missing taken as a step; a node of 256 taken as node 0.
+#[tactic(auto, unfolding(crate::specs::Parse::parsed))]
 pub fn parse(s: Said) -> Parsed
     ensures { result ≡ parsed s }
 {
