@@ -56,6 +56,7 @@ pub fn copied(x: Object, from: u8, e: Entry) -> Object
 }
 
 // Whether a copy counts.
+#[tactic(auto, unfolding(crate::specs::Receive::copy_fits))]
 fn copy_fits(c: Coordinator, m: &[u8]) -> bool
     ensures { result ≡ copy_fits tree c m.now }
 {
@@ -66,6 +67,7 @@ fn copy_fits(c: Coordinator, m: &[u8]) -> bool
     both(is_answer(c, OPEN, c.contacted, m), here)
 }
 
+#[tactic(auto, unfolding(crate::specs::Receive::copy_taken))]
 fn take_copy(c: Coordinator, m: &[u8]) -> Step
     ensures { result ≡ copy_taken tree c m.now }
 {
@@ -80,6 +82,7 @@ fn take_copy(c: Coordinator, m: &[u8]) -> Step
 }
 
 // The record after a yes: committed when every participant said it.
+#[tactic(auto, unfolding(crate::specs::Receive::with_yes))]
 fn with_yes(c: Coordinator, agreed: u16, rivals: [u32; NODES]) -> Step
     ensures { result ≡ with_yes c agreed rivals }
 {
@@ -104,6 +107,7 @@ fn with_yes(c: Coordinator, agreed: u16, rivals: [u32; NODES]) -> Step
 }
 
 // The record after a done: idle when every awaited node said it.
+#[tactic(auto, unfolding(crate::specs::Receive::with_done))]
 fn with_done(c: Coordinator, said: u16) -> Step
     ensures { result ≡ with_done c said }
 {
@@ -114,6 +118,7 @@ fn with_done(c: Coordinator, said: u16) -> Step
     }
 }
 
+#[tactic(auto, unfolding(crate::specs::Receive::done_taken))]
 fn take_done(c: Coordinator, m: &[u8]) -> Step
     ensures { result ≡ done_taken c m.now }
 {
@@ -124,6 +129,7 @@ fn take_done(c: Coordinator, m: &[u8]) -> Step
     }
 }
 
+#[tactic(auto, unfolding(crate::specs::Receive::yield_taken))]
 fn take_yield(c: Coordinator, m: &[u8]) -> Step
     ensures { result ≡ yield_taken c m.now }
 {
@@ -159,6 +165,7 @@ pub fn raised_by(rivals: [u32; NODES], m: &[u8]) -> [u32; NODES]
     a
 }
 
+#[tactic(auto, unfolding(crate::specs::Receive::vote_taken))]
 fn take_vote(c: Coordinator, m: &[u8]) -> Step
     ensures { result ≡ vote_taken c m.now }
 {
@@ -175,6 +182,7 @@ fn take_vote(c: Coordinator, m: &[u8]) -> Step
 }
 
 // The kind decides.
+#[tactic(auto, unfolding(crate::specs::Receive::delivered))]
 fn deliver(c: Coordinator, m: &[u8]) -> Step
     ensures { result ≡ delivered tree c m.now }
 {
@@ -188,6 +196,7 @@ fn deliver(c: Coordinator, m: &[u8]) -> Step
 }
 
 // The number of a delivery, whatever the record is. Ruled out: 'out of turn' for a message to another node; 0 for an ask.
+#[tactic(auto, unfolding(crate::specs::Receive::receive_refusals))]
 pub fn receive_number(me: u8, m: &[u8]) -> u8
     ensures { (c : Coordinator) → result ≡ first_of (receive_refusals c me m.now) }
 {
@@ -209,6 +218,7 @@ pub fn receive_number(me: u8, m: &[u8]) -> u8
 
 // Delivers one message; answers what it brought about.
 // Ruled out: commit by a majority of the participants; a late copy that changes a value found; idle before every done.
+#[tactic(auto, unfolding(crate::specs::Receive::receive_of))]
 pub fn receive(c: Coordinator, me: u8, m: &[u8]) -> Step
     ensures { result ≡ receive_of tree c me m.now }
 {
