@@ -48,6 +48,7 @@ pub fn count(kept: &[u8]) -> usize
 }
 
 // The number of a table's length as it is lent: 1 another than the counts say. Ruled out: 0 for a byte behind the lists; 1 for a table without bounds.
+#[tactic(auto, unfolding(crate::specs::Classes::length_number))]
 pub fn length_number(list: &[u8]) -> u8
     ensures { result ≡ length_number list.now }
 {
@@ -79,6 +80,7 @@ fn rises(list: &[u8]) -> bool
 }
 
 // Whether the bounds are too many, not one fewer than the tallies, or do not rise.
+#[tactic(auto, unfolding(crate::specs::Classes::unbounded))]
 fn is_unbounded(list: &[u8]) -> bool
     ensures { result ≡ unbounded list.now }
 {
@@ -111,6 +113,7 @@ fn is_twice(list: &[u8]) -> bool
 
 // The number of a table, at a node that is at work or idle: 6 a tally that is none, 10 not idle, 14 its bounds, 15 a tally twice.
 // Ruled out: 14 where a tally is none too; 0 for two bounds that are equal.
+#[tactic(auto, unfolding(crate::specs::Classes::table_number))]
 pub fn table_number(working: bool, list: &[u8]) -> u8
     ensures { result ≡ table_number working list.now }
 {
@@ -127,6 +130,7 @@ pub fn table_number(working: bool, list: &[u8]) -> u8
 }
 
 // Whether no table is kept. Ruled out: a table without bounds taken for none; one of which only the first byte is 0 taken for none.
+#[tactic(auto, unfolding(crate::specs::Classes::no_table))]
 pub fn is_none(kept: &[u8]) -> bool
     ensures { result ≡ no_table kept.now }
 {
@@ -134,6 +138,7 @@ pub fn is_none(kept: &[u8]) -> bool
 }
 
 // Whether what is kept is no table or one that loading accepts. Ruled out: a refusal for what stands behind the lists; a table with a tally twice passed.
+#[tactic(auto, unfolding(crate::specs::Classes::sound))]
 pub fn is_sound(kept: &[u8]) -> bool
     ensures { result ≡ sound kept.now }
 {
@@ -166,6 +171,7 @@ fn weight_count(list: &[u8]) -> usize
 }
 
 // The number of a batch's length: 1 another than its count says. Ruled out: 0 for a weight cut in half; 1 for a batch of no weights.
+#[tactic(auto, unfolding(crate::specs::Weights::batch_length))]
 pub fn batch_length(list: &[u8]) -> u8
     ensures { result ≡ batch_length list.now }
 {
@@ -180,6 +186,7 @@ fn all_light(list: &[u8]) -> bool
 }
 
 // Whether a batch is too long or has a weight that is none. Ruled out: a weight of 2,000 passed; a batch of 4,096 weights refused.
+#[tactic(auto, unfolding(crate::specs::Weights::overweight))]
 pub fn is_overweight(list: &[u8]) -> bool
     ensures { result ≡ overweight list.now }
 {

@@ -77,6 +77,7 @@ fn has_date(list: &[u8], day: u32) -> bool
 }
 
 // Whether a table is faulty, and whether it closes a minute of a day.
+#[tactic(auto, unfolding(crate::specs::Hours::faulty))]
 fn is_faulty(list: &[u8]) -> bool
     ensures { result ≡ faulty list.now }
 {
@@ -92,6 +93,7 @@ fn closes(list: &[u8], day: u32, minute: u16) -> bool
 
 // The number of a table as it is lent: 1 another length than its counts say, 2 a faulty one. Ruled out: 2 for a table that is too short; 0 for a window
 // that ends where it starts.
+#[tactic(auto, unfolding(crate::specs::Hours::table_number))]
 pub fn number(list: &[u8]) -> u8
     ensures { result ≡ table_number list.now }
 {
@@ -101,6 +103,7 @@ pub fn number(list: &[u8]) -> u8
 }
 
 // The number of bytes as a node keeps them: 1 another length, 2 damaged. Ruled out: 2 for what stands behind the lists; 0 for a third kind of loaded.
+#[tactic(auto, unfolding(crate::specs::Kept::kept_number))]
 pub fn check(kept: &[u8]) -> u8
     ensures { result ≡ kept_number kept.now }
 {
@@ -122,6 +125,7 @@ fn store(kept: &mut [u8], list: &[u8])
 
 // Loads a table in place of the one before: 1 another length of either, 2 a faulty table. Ruled out: a faulty table that takes the old one's place; a table
 // whose last date is lost.
+#[tactic(auto, unfolding(crate::specs::Kept::load_number, crate::specs::Kept::load_after))]
 pub fn load(kept: &mut [u8], list: &[u8]) -> u8
     ensures value { result ≡ load_number kept.old list.now }
     ensures kept_after { kept.new ≡ load_after kept.old list.now }
@@ -137,6 +141,7 @@ pub fn load(kept: &mut [u8], list: &[u8]) -> u8
 }
 
 // Whether the minute of a day is closed; before a table is loaded none is. Ruled out: the end minute open; a closed date open where a window has the minute.
+#[tactic(auto, unfolding(crate::specs::Kept::closed))]
 pub fn is_closed(kept: &[u8], day: u32, minute: u16) -> bool
     ensures { result ≡ closed kept.now day minute }
 {

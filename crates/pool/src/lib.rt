@@ -36,6 +36,7 @@ pub fn place(k: u8) -> usize
 }
 
 // How long the k-th message is; 0 where its length is impossible. Ruled out: the length of the message after it; a length above 128.
+#[tactic(auto, unfolding(crate::specs::Pool::length_at))]
 pub fn length(pool: &[u8], k: u8) -> usize
     ensures { result ≡ length_at pool.now k }
 {
@@ -44,6 +45,7 @@ pub fn length(pool: &[u8], k: u8) -> usize
 }
 
 // The number of a pool: 1 another length, 2 an impossible count, 0 neither. Ruled out: 2 for bytes of another length; 2 for a full pool.
+#[tactic(auto, unfolding(crate::specs::Pool::check))]
 pub fn check(pool: &[u8]) -> u8
     ensures { result ≡ check pool.now }
 {
@@ -52,6 +54,7 @@ pub fn check(pool: &[u8]) -> u8
 }
 
 // Stores a message's length and bytes in the slot that starts at a place.
+#[tactic(auto, unfolding(crate::specs::Change::stored))]
 fn store(pool: &mut [u8], at: usize, message: &[u8])
     requires { (length message.now ≤ longest_message) × (at + slot_size ≤ length pool.old) }
     ensures { pool.new ≡ stored pool.old at message.now }
@@ -62,6 +65,7 @@ fn store(pool: &mut [u8], at: usize, message: &[u8])
 }
 
 // The number of an addition.
+#[tactic(auto, unfolding(crate::specs::Change::add_number, crate::specs::Change::add_refusals))]
 fn add_number(pool: &[u8], size: usize) -> u8
     ensures { result ≡ add_number pool.now size }
 {
@@ -88,6 +92,7 @@ pub fn add(pool: &mut [u8], message: &[u8]) -> u8
 }
 
 // Moves n bytes one slot down, to a place.
+#[tactic(auto, unfolding(crate::specs::Change::moved))]
 fn move_down(pool: &mut [u8], at: usize, n: usize)
     requires { at + n + slot_size ≤ length pool.old }
     ensures { pool.new ≡ moved pool.old at n }
@@ -97,6 +102,7 @@ fn move_down(pool: &mut [u8], at: usize, n: usize)
 }
 
 // The number of a removal.
+#[tactic(auto, unfolding(crate::specs::Change::remove_number, crate::specs::Change::remove_refusals))]
 fn remove_number(pool: &[u8], k: u8) -> u8
     ensures { result ≡ remove_number pool.now k }
 {
