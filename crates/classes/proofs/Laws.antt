@@ -5,6 +5,7 @@ use mathlib.Core.Bool.{Bool, true, false, cond, ◌&&◌, ◌||◌}
 use mathlib.Core.List.{List, [], ◌∷◌, ◌++◌}
 use Prim.Native.Nat.{ℕ, zero, suc, ◌+◌, ◌-◌, ◌*◌, ◌≤◌, ◌<◌}
 use native.Mathlib.Nat.{mul-suc}
+use native.Mathlib.Numerals.{add-one}
 use native.Mathlib.Omega.{arith}
 use borrow.Author.Count.{below_more}
 use borrow.Author.Tests.{lt-leb, lt-ltb, le-ltb, ltb-true, ltb-false, eqb-true, eqb-false}
@@ -113,22 +114,17 @@ module _ (f : ℕ → ℕ) where
 -- a row made by a call at each place
 module _ {F : Type 0} {g : Mut F (ℕ × Unit {0}) ℕ} (h : ℕ → ℕ) {f : F} (ys : List ℕ)
     (is : (x y : ℕ) (q : F) → Called g f (x, tt) y q → (q ≡ f) × (y ≡ h x)) where
-  made_from : (n i : ℕ) → IsFromFnResultFrom g f ys i n → (j : ℕ) → i ≤ j → j < i + n → get_or ys j 0 ≡ h j
-  made_from zero i w j lo hi = absurd (let z : ⊥ = omega arith in z)
-  made_from (suc n) i w j lo hi =
+  made_from : (n i : ℕ) → length ys ≡ i + n → IsFromFnResultFrom g f ys i n → drop i ys ≡ count_up h n i
+  unfolding count_up
+  made_from zero i long w = drop_of_length-le ys {i = i} (omega arith)
+  made_from (suc n) i long w =
       let here = is i w.1 w.0 w.3 in
       let rest = subst (λ (q : F). IsFromFnResultFrom g q ys (i + 1) n) here.0 w.4 in
-      by (ltb i j) refl (λ e. made_from n (i + 1) rest j (omega arith) (omega arith)) (w.2.1 0 ∙ here.1)
-    where
-      by : (b : Bool) → ltb i j ≡ b → (i < j → get_or ys j 0 ≡ h j) → get_or ys i 0 ≡ h i → get_or ys j 0 ≡ h j
-      by true e later now = later (ltb-true i j e)
-      by false e later now =
-          let below = ltb-false i j e in
-          let same : i ≡ j = omega arith in
-          subst (λ (k : ℕ). get_or ys k 0 ≡ h k) same now
+      let behind = made_from n (i + 1) (omega arith) rest in
+      drop-cons ys i 0 (omega arith) ∙ ap₂ ◌∷◌ (w.2.1 0 ∙ here.1) (ap (λ (k : ℕ). drop k ys) (sym (add-one i)) ∙ behind)
 
   pub made_all : (n : ℕ) → IsFromFnResult g f ys n → ys ≡ count_up h n 0
-  made_all n w = up_all h n ys w.long (λ j k. made_from n 0 w.each j (omega arith) (omega arith))
+  made_all n w = made_from n 0 (omega (arith, w.long)) w.each
 
 -- two rows with the same places
 pub up_same : (f g : ℕ → ℕ) (n i : ℕ) → ((j : ℕ) → i ≤ j → j < i + n → f j ≡ g j) → count_up f n i ≡ count_up g n i

@@ -83,6 +83,7 @@ fn rises(list: &[u8]) -> bool
 }
 
 // Whether the bounds are too many, not one fewer than the tallies, or do not rise.
+#[tactic(auto, unfolding(crate::specs::Classes::unbounded))]
 fn is_unbounded(list: &[u8]) -> bool
     ensures { result ≡ unbounded list.now }
 {
@@ -135,6 +136,7 @@ pub fn check_table(working: bool, list: &[u8]) -> Result<(), Refusal>
 }
 
 // Whether no table is kept. Ruled out: a table without bounds taken for none; one of which only the first byte is 0 taken for none.
+#[tactic(auto, unfolding(crate::specs::Classes::no_table))]
 pub fn is_none(kept: &[u8]) -> bool
     ensures { result ≡ no_table kept.now }
 {
@@ -193,6 +195,7 @@ fn all_light(list: &[u8]) -> bool
 }
 
 // Whether a batch is too long or has a weight that is none. Ruled out: a weight of 2,000 passed; a batch of 4,096 weights refused.
+#[tactic(auto, unfolding(crate::specs::Weights::overweight))]
 pub fn is_overweight(list: &[u8]) -> bool
     ensures { result ≡ overweight list.now }
 {

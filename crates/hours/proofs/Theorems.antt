@@ -5,7 +5,7 @@ use mathlib.Core.List.{List, [], ◌∷◌, ◌++◌, append-nil}
 use Prim.Native.Nat.{ℕ, zero, suc, ◌+◌, ◌-◌, ◌*◌, ◌≤◌}
 use native.Mathlib.Omega.{arith}
 use lib.Dec.{eqb, ltb}
-use lib.ListN.{length, get_or, take, drop, set, replicate, length-drop, drop_of_length-le}
+use lib.ListN.{length, get_or, take, drop, set, replicate, drop_of_length-le}
 use lib.Seq.{take_all}
 use borrow.Author.Tests.{eqb-true, eq-eqb, ltb-false}
 use Rattle.octets.specs.Octets.{get}
@@ -16,7 +16,7 @@ use Rattle.parts.proofs.Laws.{length_padded, padded_same}
 use Rattle.hours.specs.Hours.{Window, most_windows, most_dates, window_at, window_size, date_at, date_size, window_count, dates_place, date_count, windows}
 use Rattle.hours.specs.Hours.{dates}
 use Rattle.hours.specs.Hours.{list_size, window_ok, faulty, table_number, any_of, in_window, closed_by}
-use Rattle.hours.specs.Kept.{kept_size, lists_in, stored, kept_number, closed}
+use Rattle.hours.specs.Kept.{kept_size, stored, kept_number, closed}
 
 -- ---- lists that read the same at every place are the same table
 module _ (a b : List ℕ) (same : (i : ℕ) → get_or a i 0 ≡ get_or b i 0) where
@@ -68,15 +68,6 @@ laid_behind (x ∷ t) l last n h m e =
     ap (λ (r : List ℕ). 1 ∷ r) (
     ap₂ (λ (u v : List ℕ). u ++ v) (e ∙ ap (λ (i : ℕ). padded i l) a) (drop_of_length-le t {i = n} (omega (arith, h, m))) ∙ append-nil (padded 186 l)
     )
-
--- bytes with a first one that is not 0 are some
-pub some_byte : (l : List ℕ) → (get_or l 0 0 ≡ 0 → ⊥) → 1 ≤ length l
-some_byte [] n = absurd (n refl)
-some_byte (x ∷ l) n = omega arith
-
--- all that stands behind the first byte
-pub behind_first : (k : List ℕ) → take (length k - 1) (drop 1 k) ≡ lists_in k
-behind_first k = take_all (length k - 1) (drop 1 k) (let e = length-drop 1 k in omega (arith, e))
 
 -- ---- THE THEOREMS: what loading accepts is kept whole, and closes what the table closes
 neither : (a b : Bool) → (a || b) ≡ false → (a ≡ false) × (b ≡ false)

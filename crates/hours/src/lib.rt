@@ -78,6 +78,7 @@ fn has_date(list: &[u8], day: u32) -> bool
 }
 
 // Whether a table is faulty, and whether it closes a minute of a day.
+#[tactic(auto, unfolding(crate::specs::Hours::faulty))]
 fn is_faulty(list: &[u8]) -> bool
     ensures { result ≡ faulty list.now }
 {
@@ -145,6 +146,7 @@ pub fn load(kept: &mut [u8], list: &[u8]) -> Result<(), Refusal>
 }
 
 // Whether the minute of a day is closed; before a table is loaded none is. Ruled out: the end minute open; a closed date open where a window has the minute.
+#[tactic(auto, unfolding(crate::specs::Kept::closed))]
 pub fn is_closed(kept: &[u8], day: u32, minute: u16) -> bool
     ensures { result ≡ closed kept.now day minute }
 {

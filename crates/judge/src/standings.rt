@@ -8,6 +8,7 @@ use numbers::either;
 
 // The number of a standing: over for late, the state of the last serial, fresh or ahead above it.
 // Ruled out: a second serial that has the first one's state; an older serial that counts as fresh.
+#[tactic(auto, unfolding(crate::specs::Standing::standing, wire::specs::Decode::decode))]
 pub fn standing(image: &[u8], message: &[u8]) -> u8
     ensures { result ≡ standing image.now (decode message.now) }
 {
@@ -22,6 +23,7 @@ pub fn standing(image: &[u8], message: &[u8]) -> u8
 }
 
 // A serial above the last.
+#[tactic(auto, unfolding(crate::specs::Standing::above_of))]
 fn above(state: u8) -> u8
     ensures { result ≡ above_of state }
 {
@@ -30,6 +32,7 @@ fn above(state: u8) -> u8
 
 // Listed already, or fresh.
 // Ruled out: active again after its outcome; active once it is held.
+#[tactic(auto, unfolding(crate::specs::Standing::active))]
 pub fn is_active(image: &[u8], message: &[u8]) -> bool
     ensures { result ≡ active image.now (decode message.now) }
 {
@@ -39,6 +42,7 @@ pub fn is_active(image: &[u8], message: &[u8]) -> bool
 
 // A fresh transaction becomes listed, with its serial and stamp.
 // Ruled out: a stamp replaced while the transaction is listed; another owner's serial replaced.
+#[tactic(auto, unfolding(crate::specs::Standing::entered, wire::specs::Decode::decode))]
 pub fn enter(image: &mut [u8], message: &[u8])
     ensures { image.new ≡ entered image.old (decode message.now) }
 {

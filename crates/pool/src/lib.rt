@@ -37,6 +37,7 @@ pub fn place(k: u8) -> usize
 }
 
 // How long the k-th message is; 0 where its length is impossible. Ruled out: the length of the message after it; a length above 128.
+#[tactic(auto, unfolding(crate::specs::Pool::length_at))]
 pub fn length(pool: &[u8], k: u8) -> usize
     ensures { result ≡ length_at pool.now k }
 {
@@ -60,6 +61,7 @@ pub fn check(pool: &[u8]) -> Result<(), Refusal>
 }
 
 // Stores a message's length and bytes in the slot that starts at a place.
+#[tactic(auto, unfolding(crate::specs::Change::stored))]
 fn store(pool: &mut [u8], at: usize, message: &[u8])
     requires { (length message.now ≤ longest_message) × (at + slot_size ≤ length pool.old) }
     ensures { pool.new ≡ stored pool.old at message.now }
@@ -99,6 +101,7 @@ pub fn add(pool: &mut [u8], message: &[u8]) -> Result<(), Refusal>
 }
 
 // Moves n bytes one slot down, to a place.
+#[tactic(auto, unfolding(crate::specs::Change::moved))]
 fn move_down(pool: &mut [u8], at: usize, n: usize)
     requires { at + n + slot_size ≤ length pool.old }
     ensures { pool.new ≡ moved pool.old at n }

@@ -67,6 +67,7 @@ fn in_hall(kind: Kind, m: u16, counts: u16, hall: u8) -> bool
 
 // Whether m contains a quorum of the whole tree; bits above node 12 do not matter.
 // Ruled out: a write quorum without the root; a read quorum of two leaves of one hall.
+#[tactic(auto, unfolding(crate::specs::Quorum::is_quorum))]
 pub fn is_quorum(kind: Kind, m: u16) -> bool
     ensures { result ≡ is_quorum kind m }
 {

@@ -37,6 +37,7 @@ pub struct Line {
 }
 
 // A line of which nothing is read. Ruled out: a line that begins with numbers of the line before; one that is bad at once.
+#[tactic(auto, unfolding(crate::specs::Line::fresh))]
 pub fn fresh() -> Line
     ensures { result ≡ freshLine }
 {
@@ -51,6 +52,7 @@ pub fn fresh() -> Line
 }
 
 // The largest that a number may be, after k others; the asker's own limit is tested where the line ends.
+#[tactic(auto, unfolding(crate::specs::Line::most))]
 fn largest(k: usize) -> u32
     ensures { (result ≡ most k) × (result < 65536) }
 {

@@ -65,12 +65,14 @@ fn zero(sheet: &mut [u64], at: usize, n: usize)
 }
 
 // The numbers of a slice of this length with an owner, and with an object.
+#[tactic(auto, unfolding(crate::specs::Sheet::sheet_number))]
 fn sheet_number(long: usize) -> u8
     ensures { result ≡ sheet_number long }
 {
     refuse(numbers::LENGTH, long != SIZE, 0)
 }
 
+#[tactic(auto, unfolding(crate::specs::Sheet::owner_number))]
 fn owner_number(long: usize, owner: u8) -> u8
     ensures { result ≡ owner_number long owner }
 {
@@ -78,6 +80,7 @@ fn owner_number(long: usize, owner: u8) -> u8
     refuse(numbers::LENGTH, long != SIZE, strange)
 }
 
+#[tactic(auto, unfolding(crate::specs::Sheet::object_number))]
 fn object_number(long: usize, owner: u8, object: u8) -> u8
     ensures { result ≡ object_number long owner object }
 {
@@ -100,6 +103,7 @@ pub fn blank(sheet: &mut [u64]) -> u8
 }
 
 // The next serial of an owner, with nothing else told of it.
+#[tactic(auto, unfolding(crate::specs::Sheet::with_begun))]
 fn begin(sheet: &mut [u64], owner: u8)
     ensures { sheet.new ≡ with_begun sheet.old owner }
 {
@@ -111,6 +115,7 @@ fn begin(sheet: &mut [u64], owner: u8)
 }
 
 // An accepted begin. Ruled out: the place of the transaction before kept; its marks kept, so that the next one seems to write what it wrote.
+#[tactic(auto, unfolding(crate::specs::Sheet::begun_after))]
 pub fn begun(sheet: &mut [u64], owner: u8) -> u8
     ensures number { result ≡ owner_number (length sheet.old) owner }
     ensures sheet { sheet.new ≡ begun_after sheet.old owner }
@@ -124,6 +129,7 @@ pub fn begun(sheet: &mut [u64], owner: u8) -> u8
 }
 
 // An accepted open, to read (mode 0) or to write (mode 1). Ruled out: an object that is read marked as written; another owner's mark set.
+#[tactic(auto, unfolding(crate::specs::Sheet::opened_after))]
 pub fn opened(sheet: &mut [u64], owner: u8, object: u8, mode: u8) -> u8
     ensures number { result ≡ object_number (length sheet.old) owner object }
     ensures sheet { sheet.new ≡ opened_after sheet.old owner object mode }
@@ -141,6 +147,7 @@ pub fn opened(sheet: &mut [u64], owner: u8, object: u8, mode: u8) -> u8
 }
 
 // An accepted set of a new value. Ruled out: the first of two counts; it is stored as the object's last value before the commit.
+#[tactic(auto, unfolding(crate::specs::Sheet::valued_after))]
 pub fn valued(sheet: &mut [u64], owner: u8, object: u8, value: u64) -> u8
     ensures number { result ≡ object_number (length sheet.old) owner object }
     ensures sheet { sheet.new ≡ valued_after sheet.old owner object value }
@@ -168,6 +175,7 @@ fn first_yes(serial: u64, place: u64, message: &[u8]) -> bool
 }
 
 // The owner gets the next place.
+#[tactic(auto, unfolding(crate::specs::Sheet::with_place))]
 fn give_place(sheet: &mut [u64], owner: u8)
     ensures { sheet.new ≡ with_place sheet.old owner }
 {
@@ -228,6 +236,7 @@ fn take_all(sheet: &mut [u64], o: usize)
 
 // A delivery that answered 'committed' for the owner's present transaction.
 // Ruled out: a writer that decides later but stands earlier in the log overwrites; an object that is only read takes a value.
+#[tactic(auto, unfolding(crate::specs::Sheet::committed_after))]
 pub fn committed(sheet: &mut [u64], owner: u8) -> u8
     ensures number { result ≡ owner_number (length sheet.old) owner }
     ensures sheet { sheet.new ≡ committed_after sheet.old owner }

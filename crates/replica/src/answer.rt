@@ -8,6 +8,7 @@ ghost use Rattle.replica.specs.Given.{written_as};
 use numbers::NODES;
 
 // The copy that a fetch asked for.
+#[tactic(auto, unfolding(wire::specs::Decode::decode))]
 pub(crate) fn say_copy(
     answer: &mut [u8],
     me: u8,
@@ -24,6 +25,7 @@ pub(crate) fn say_copy(
 }
 
 // A vote: the rivals' serials by owner, and the word.
+#[tactic(auto, unfolding(wire::specs::Decode::decode))]
 pub(crate) fn say_vote(
     answer: &mut [u8],
     me: u8,
@@ -41,6 +43,7 @@ pub(crate) fn say_vote(
 }
 
 // Done.
+#[tactic(auto, unfolding(wire::specs::Decode::decode))]
 pub(crate) fn say_done(answer: &mut [u8], me: u8, message: &[u8]) -> letters::Written
     ensures value { result ≡ written_of (length answer.old) (done_to me (decode message.now)) }
     ensures answer_after { answer.new ≡ buffer_after (done_to me (decode message.now)) answer.old }
@@ -52,6 +55,7 @@ pub(crate) fn say_done(answer: &mut [u8], me: u8, message: &[u8]) -> letters::Wr
 }
 
 // No answer.
+#[tactic(auto, unfolding(crate::specs::Given::written_as))]
 pub(crate) fn silence() -> letters::Written
     ensures { result ≡ written_as 0 silent }
 {

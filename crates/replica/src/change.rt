@@ -40,6 +40,7 @@ pub(crate) fn hold(image: &mut [u8], message: &[u8])
 }
 
 // The owner o leaves all lists, and has this state. Where it is in none, there is nothing to leave.
+#[tactic(auto, unfolding(crate::specs::Steps::leaves))]
 pub(crate) fn leave(image: &mut [u8], o: u8, state: u8, listed: bool)
     requires { listed ≡ false → unlist image.old o ≡ image.old }
     ensures { image.new ≡ leaves image.old o state }

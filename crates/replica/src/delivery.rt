@@ -12,6 +12,7 @@ use judge::{AHEAD, is_active, standing};
 use numbers::{both, either};
 
 // A commit needs late or held; an abort anything but ahead.
+#[tactic(auto, unfolding(crate::specs::Receive::outcome_wrong_turn))]
 fn outcome_wrong_turn(word: u8, s: u8) -> bool
     ensures { result ≡ outcome_wrong_turn word s }
 {
@@ -33,6 +34,7 @@ fn wrong_turn(image: &[u8], message: &[u8]) -> bool
 }
 
 // The number of a delivery, 0 for none.
+#[tactic(auto, unfolding(crate::specs::Receive::refusal, crate::specs::Receive::refusals, wire::specs::Decode::decode))]
 fn refusal(image: &[u8], me: u8, message: &[u8], size: usize) -> u8
     ensures { result ≡ refusal size image.now me message.now }
 {
@@ -61,6 +63,7 @@ fn refusal(image: &[u8], me: u8, message: &[u8], size: usize) -> u8
 }
 
 // The step of a message's kind.
+#[tactic(auto, unfolding(crate::specs::Receive::step, wire::specs::Decode::decode, crate::specs::Given::written_as, crate::specs::Given::filled_by))]
 fn perform(image: &mut [u8], me: u8, message: &[u8], answer: &mut [u8]) -> letters::Written
     requires { (kind_of message.now ≡ 5 → Raisable (decode message.now)) × Clear image.old (decode message.now) }
     ensures number { result ≡ written_as (length answer.old) (step image.old me (decode message.now)).answer }
@@ -94,6 +97,7 @@ pub fn receive(image: &mut [u8], me: u8, message: &[u8], answer: &mut [u8]) -> R
 }
 
 // Whether a message that nothing refuses is answered.
+#[tactic(auto, unfolding(crate::specs::Receive::speaks, wire::specs::Decode::decode))]
 fn speaks(image: &[u8], message: &[u8]) -> bool
     ensures { result ≡ speaks image.now (decode message.now) }
 {

@@ -12,6 +12,7 @@ use judge::{enter, is_active, judged, serials_of, standing};
 use numbers::NODES;
 
 // The copy here of the entry's object, with the entry's mode.
+#[tactic(auto, unfolding(crate::specs::Steps::copy_here))]
 fn copy_here(image: &[u8], e: wire::Entry) -> wire::Entry
     ensures { result ≡ copy_here image.now e }
 {
@@ -39,6 +40,7 @@ pub(crate) fn fetch(image: &mut [u8], me: u8, message: &[u8], answer: &mut [u8])
 }
 
 // A listed ask: a no leaves it refused; a yes holds what it writes and names the rivals. Either way the owner leaves all lists, if it was `listed` before.
+#[tactic(auto, unfolding(wire::specs::Decode::decode, crate::specs::Given::written_as, crate::specs::Given::filled_by, crate::specs::Steps::judged_image, crate::specs::Steps::judged_answer))]
 fn judge(
     image: &mut [u8],
     me: u8,
@@ -85,6 +87,7 @@ pub(crate) fn ask(image: &mut [u8], me: u8, message: &[u8], answer: &mut [u8]) -
 }
 
 // An outcome: always answered with done.
+#[tactic(auto, unfolding(crate::specs::Given::written_as, crate::specs::Given::filled_by))]
 pub(crate) fn outcome(
     image: &mut [u8],
     me: u8,

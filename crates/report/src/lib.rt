@@ -14,6 +14,7 @@ use view::Header;
 use wire::{Entry, Rival};
 
 // Puts a text. Ruled out: a text cut off at the buffer's end; a byte behind it that changes.
+#[tactic(auto, unfolding(crate::specs::Page::ink, crate::specs::Page::page))]
 pub fn text(out: &mut [u8], at: usize, t: &[u8]) -> usize
     ensures { page out.new result ≡ ink (page out.old at) t.now }
 {
@@ -21,6 +22,7 @@ pub fn text(out: &mut [u8], at: usize, t: &[u8]) -> usize
 }
 
 // Puts a number.
+#[tactic(auto, unfolding(crate::specs::Page::ink, crate::specs::Page::page))]
 fn digits(out: &mut [u8], at: usize, n: u64) -> usize
     ensures { page out.new result ≡ ink (page out.old at) (decimal n) }
 {
@@ -28,6 +30,7 @@ fn digits(out: &mut [u8], at: usize, n: u64) -> usize
 }
 
 // A number behind a label. Ruled out: the number before its label; "07" for 7.
+#[tactic(auto, unfolding(crate::specs::Page::inks, crate::specs::Texts::number_texts))]
 pub fn number(out: &mut [u8], at: usize, label: &[u8], n: u64) -> usize
     ensures { page out.new result ≡ inks (page out.old at) (number_texts label.now n) }
 {
@@ -36,6 +39,7 @@ pub fn number(out: &mut [u8], at: usize, label: &[u8], n: u64) -> usize
 }
 
 // A value behind a label, 64 bits read as a signed number. Ruled out: 18446744073709551615 for -1; "-0" for 0.
+#[tactic(auto, unfolding(crate::specs::Page::inks, crate::specs::Texts::value_texts))]
 pub fn value(out: &mut [u8], at: usize, label: &[u8], v: u64) -> usize
     ensures { page out.new result ≡ inks (page out.old at) (value_texts label.now v) }
 {
@@ -127,6 +131,7 @@ fn kind_word(out: &mut [u8], at: usize, kind: u8, word: u8) -> usize
 }
 
 // An object with its mode.
+#[tactic(auto, unfolding(crate::specs::Page::inks, crate::specs::Texts::mode_text, crate::specs::Texts::number_texts))]
 fn mode(out: &mut [u8], at: usize, mode: u8, object: u8) -> usize
     ensures { page out.new result ≡ inks (page out.old at) (number_texts (mode_text mode) object) }
 {

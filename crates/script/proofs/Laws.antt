@@ -1,15 +1,18 @@
--- Whether a line's numbers fit; one turn, and the end, of the loop over the distances among them.
-use Prim.Native.Nat.{ℕ, zero, suc, ◌+◌, ◌-◌, ◌%◌, ◌≤◌, ◌<◌}
+-- Whether a line's numbers fit, and the distances among them.
+use Prim.Native.Nat.{ℕ, zero, suc, ◌+◌, ◌%◌}
 use native.Mathlib.Numerals.{add-one}
 use native.Mathlib.Omega.{arith}
-use mathlib.Core.Path.{◌≡◌, refl, ap}
-use mathlib.Core.Bool.{Bool, true, false, cond, ◌&&◌}
-use mathlib.Core.List.{List, [], ◌∷◌, ◌++◌, append_assoc, append-nil}
+use denote.Param.Members.{Mut}
+use mathlib.Core.Path.{◌≡◌, refl, sym, ap, ap₂, subst, ◌∙◌}
+use mathlib.Core.Bool.{Bool, ◌&&◌}
+use mathlib.Core.List.{List, [], ◌∷◌}
 use lib.Dec.{leb}
-use lib.ListN.{length, get_or, take, set}
-use lib.Seq.{take_all, take-suc-set}
+use lib.ListN.{length, get_or, drop, drop_of_length-le}
+use lib.Seq.{drop-cons}
+use Rattle.std.specs.Array.{IsFromFnResult, IsFromFnResultFrom}
+use Rattle.std.specs.Fn.{Called}
 use Rattle.std.specs.List.{list_all, enumerate_from}
-use Rattle.script.specs.Parse.{has_three, has_two, has_one, arity, most_at, fit_from, fill_from}
+use Rattle.script.specs.Parse.{most_at, fit_from, fill_from}
 
 -- ---- whether the numbers from one place on fit: each with its place is asked
 abbrev pub fits_at : ℕ → ℕ × ℕ → Bool
@@ -20,22 +23,18 @@ unfolding fit_from
 all_fit w [] i = refl
 all_fit w (v ∷ l) i = ap (λ (b : Bool). leb v (most_at w i) && b) (all_fit w l (i + 1))
 
--- ---- the distances from one place on
-fill_step : (k i : ℕ) (l : List ℕ) → 0 < k → fill_from k i l ≡ get_or l i 0 % 65536 ∷ fill_from (k - 1) (i + 1) l
-unfolding fill_from
-fill_step zero i l h = absurd (let z : ⊥ = omega arith in z)
-fill_step (suc k) i l h = ap (λ (n : ℕ). get_or l i 0 % 65536 ∷ fill_from n (i + 1) l) (let e : k ≡ suc k - 1 = omega arith in e)
-
-module _ (h i : ℕ) (l d : List ℕ) (long : length d ≡ 13) where
-  pub fill_again : (v : ℕ) → i < 13 → v ≡ get_or l (h + i) 0 % 65536
-      → take (i + 1) (set d i v) ++ fill_from (13 - (i + 1)) (h + (i + 1)) l ≡ take i d ++ fill_from (13 - i) (h + i) l
-  fill_again v below e =
-      let at : i < length d = omega arith in
-      let left : 0 < 13 - i = omega arith in
-      let p : 13 - (i + 1) ≡ 13 - i - 1 = omega arith in
-      let q : h + (i + 1) ≡ h + i + 1 = omega arith in
-      rw (p, q, add-one i, take-suc-set d i v, append_assoc, e, fill_step (13 - i) (h + i) l)
-
-  pub fill_end : i ≡ 13 → take i d ++ fill_from (13 - i) (h + i) l ≡ d
+-- ---- the distances from one place on: each is made by a call
+module _ {F : Type 0} {g : Mut F (ℕ × Unit {0}) ℕ} {f : F} (ys l : List ℕ) (h : ℕ)
+    (is : (x y : ℕ) (q : F) → Called g f (x, tt) y q → (q ≡ f) × (y ≡ get_or l (h + x) 0 % 65536)) where
+  made_from : (n i : ℕ) → length ys ≡ i + n → IsFromFnResultFrom g f ys i n → drop i ys ≡ fill_from n (h + i) l
   unfolding fill_from
-  fill_end e = rw (e, take_all 13 d (omega arith)) (append-nil d)
+  made_from zero i long w = drop_of_length-le ys {i = i} (omega arith)
+  made_from (suc n) i long w =
+      let here = is i w.1 w.0 w.3 in
+      let rest = subst (λ (q : F). IsFromFnResultFrom g q ys (i + 1) n) here.0 w.4 in
+      let next : h + (i + 1) ≡ h + i + 1 = omega arith in
+      let behind = made_from n (i + 1) (omega arith) rest ∙ ap (λ (k : ℕ). fill_from n k l) next in
+      drop-cons ys i 0 (omega arith) ∙ ap₂ ◌∷◌ (w.2.1 0 ∙ here.1) (ap (λ (k : ℕ). drop k ys) (sym (add-one i)) ∙ behind)
+
+  pub made_fill : (n : ℕ) → IsFromFnResult g f ys n → ys ≡ fill_from n h l
+  made_fill n w = made_from n 0 (omega (arith, w.long)) w.each ∙ ap (λ (k : ℕ). fill_from n k l) (let e : h + 0 ≡ h = omega arith in e)

@@ -29,6 +29,7 @@ const SHORT_NUMBER: u64 = 922337203685477580;
 const SHORT_WORD: u64 = 72057594037927935;
 
 // A line of which nothing is read. Ruled out: a line that is bad at once; one that begins with numbers of the line before.
+#[tactic(auto, unfolding(crate::specs::Said::fresh))]
 pub fn fresh() -> Said
     ensures { result ≡ fresh }
 {
@@ -68,6 +69,7 @@ fn letter(s: Said, b: u8) -> Said
 }
 
 // The largest number, by its sign.
+#[tactic(auto, unfolding(crate::specs::Said::most))]
 fn most(part: u8) -> u64
     ensures { result ≡ most part }
 {
@@ -78,6 +80,7 @@ fn most(part: u8) -> u64
     }
 }
 
+#[tactic(auto, unfolding(crate::specs::Said::digits_part))]
 fn digits_part(part: u8) -> u8
     ensures { result ≡ digits_part part }
 {
@@ -119,6 +122,7 @@ fn negated(v: u64) -> u64
     v.wrapping_neg()
 }
 
+#[tactic(auto, unfolding(crate::specs::Said::bits))]
 fn bits(part: u8, v: u64) -> u64
     ensures { result ≡ bits part v }
 {
@@ -126,6 +130,7 @@ fn bits(part: u8, v: u64) -> u64
 }
 
 // One more number.
+#[tactic(auto, unfolding(crate::specs::Said::with_number))]
 fn number(s: Said, v: u64) -> Said
     requires { s.count < 16 }
     ensures { result ≡ with_number s v }
@@ -140,6 +145,7 @@ fn number(s: Said, v: u64) -> Said
 }
 
 // The number that was read is complete; a line with too many is bad.
+#[tactic(auto, unfolding(crate::specs::Said::complete))]
 fn complete(s: Said) -> Said
     ensures { result ≡ complete s }
 {
@@ -163,6 +169,7 @@ pub(crate) fn space(s: Said) -> Said
 }
 
 // A comment begins.
+#[tactic(auto, unfolding(crate::specs::Said::silenced))]
 fn silenced(s: Said) -> Said
     ensures { result ≡ silenced s }
 {
@@ -173,6 +180,7 @@ fn silenced(s: Said) -> Said
 }
 
 // A minus.
+#[tactic(auto, unfolding(crate::specs::Said::minus))]
 fn minus(s: Said) -> Said
     ensures { result ≡ minus s }
 {
@@ -207,6 +215,7 @@ fn letter_or_none(s: Said, b: u8) -> Said
 }
 
 // One byte of a line. Ruled out: a letter behind a number taken as part of a word; a comment that is read as part of the line.
+#[tactic(auto, unfolding(crate::specs::Said::step))]
 pub fn step(s: Said, b: u8) -> Said
     ensures { result ≡ stepSaid s b }
 {

@@ -8,6 +8,7 @@ use crate::{MOST_NUMBERS, Parsed, Said};
 use coordinator::BeginWith;
 use numbers::NODES;
 use orders::{Kind, Order};
+use std::array;
 
 const BLANK: u64 = 422725119595;
 
@@ -194,15 +195,11 @@ fn kind_of(w: u64) -> Kind
 fn distances_of(s: Said) -> [u16; NODES]
     ensures { result ≡ distances_of s }
 {
-    let mut d = [1u16; NODES];
     let h = arity(s.word) as usize;
     if s.count == h {
-        return d;
+        return [1; NODES];
     }
-    for i in 0..NODES {
-        d[i] = low16(s.numbers[h + i]);
-    }
-    d
+    array::from_fn(|i| low16(s.numbers[h + i]))
 }
 
 // What a begin or a reselect needs.
@@ -266,6 +263,7 @@ fn line_of(w: u64) -> u8
     }
 }
 
+#[tactic(auto, unfolding(crate::specs::Parse::what_of))]
 fn what_of(s: Said) -> u8
     ensures { result ≡ what_of s }
 {
@@ -283,6 +281,7 @@ fn what_of(s: Said) -> u8
 
 // The end of a line: what it is, and the step that it names.
 // Ruled out: a word with a number missing taken as a step; a node of 256 taken as node 0.
+#[tactic(auto, unfolding(crate::specs::Parse::parsed))]
 pub fn parse(s: Said) -> Parsed
     ensures { result ≡ parsed s }
 {
