@@ -13,7 +13,7 @@ ghost use Rattle.frontend.specs.Plan.{told_by, left_by, batch_here, request_by, 
 use classes::MOST_CLASSES;
 use coordinator::{BeginWith, IDLE};
 use hours::LAST_MINUTE;
-use numbers::{NODES_END, either, lower, refuse};
+use numbers::{NODES_END, either, first_refusal, lower, refuse};
 use record::look::phase;
 use record::{Called, refused, taken};
 use settings::{BATCH, CLASSES, KIND, OWN, SETTINGS, is_adding, is_closed, settle, tenths};
@@ -22,7 +22,7 @@ use settings::{BATCH, CLASSES, KIND, OWN, SETTINGS, is_adding, is_closed, settle
 pub(crate) fn lent_number(bytes: &[u8], settings: &[u8]) -> u8
     ensures { result ≡ lent_number bytes.now settings.now }
 {
-    lower(record::check(bytes), settings::check(settings))
+    numbers::number(first_refusal(record::check(bytes), settings::check(settings)))
 }
 
 // What a request answers that gives its transaction up: aborted.
@@ -50,11 +50,11 @@ pub fn begin(
         return refused(numbers::GARBLED);
     }
     if is_closed(settings, day, minute) {
-        let own = record_calls::begin_number(bytes, me, w);
+        let own = numbers::number(record_calls::may_begin(bytes, me, w));
         return refused(refuse(own, own != 0, numbers::CLOSED));
     }
     let waits = tenths(bytes, settings);
-    let r = deeds::begin(bytes, me, w);
+    let r = Called::from(deeds::begin(bytes, me, w));
     if r.number == 0 {
         settle(settings, OWN, waits, [0; MOST_CLASSES]);
     }
@@ -79,7 +79,7 @@ fn begin_batch(bytes: &mut [u8], settings: &mut [u8], me: u8, w: BeginWith, list
     ensures settings_after { settings.new ≡ (batch_here bytes.old settings.old me w list.now).settings }
 {
     let waits = tenths(bytes, settings);
-    let r = deeds::begin(bytes, me, w);
+    let r = Called::from(deeds::begin(bytes, me, w));
     if r.number == 0 {
         let sorted = classes::sort(&settings[CLASSES..KIND], waits, list);
         let count = classes::count(&settings[CLASSES..KIND]);
@@ -107,7 +107,8 @@ pub fn batch(
     ensures bytes_after { bytes.new ≡ front_record bytes.old settings.old me (batch w day minute list.now) }
     ensures settings_after { settings.new ≡ front_settings bytes.old settings.old me (batch w day minute list.now) }
 {
-    let number = lower(lent_number(bytes, settings), classes::batch_length(list));
+    let length = numbers::number(classes::check_batch(list));
+    let number = lower(lent_number(bytes, settings), length);
     if number != 0 {
         return refused(number);
     }
@@ -115,10 +116,11 @@ pub fn batch(
         return refused(numbers::GARBLED);
     }
     if classes::is_none(&settings[CLASSES..KIND]) {
-        return refused(late(record_calls::begin_number(bytes, me, w)));
+        let alone = numbers::number(record_calls::may_begin(bytes, me, w));
+        return refused(late(alone));
     }
     if is_closed(settings, day, minute) {
-        let ahead = record_calls::begin_number(bytes, me, w);
+        let ahead = numbers::number(record_calls::may_begin(bytes, me, w));
         return refused(refuse(ahead, ahead != 0, numbers::CLOSED));
     }
     begin_batch(bytes, settings, me, w, list)
@@ -143,7 +145,7 @@ pub fn open_read(bytes: &mut [u8], settings: &[u8], me: u8, object: u8) -> Calle
     if is_adding(settings) {
         return refused(not_yours(me));
     }
-    deeds::open(bytes, me, object, 0)
+    Called::from(deeds::open(bytes, me, object, 0))
 }
 
 // Opens an object to write it. Ruled out: an object opened on a batch; a ninth object taken.
@@ -158,7 +160,7 @@ pub fn open_write(bytes: &mut [u8], settings: &[u8], me: u8, object: u8) -> Call
     if is_adding(settings) {
         return refused(not_yours(me));
     }
-    deeds::open(bytes, me, object, 1)
+    Called::from(deeds::open(bytes, me, object, 1))
 }
 
 // Gives a written object its new value. Ruled out: a batch's grams overwritten; 6 on a batch.
@@ -173,7 +175,7 @@ pub fn set_value(bytes: &mut [u8], settings: &[u8], me: u8, object: u8, value: u
     if is_adding(settings) {
         return refused(not_yours(me));
     }
-    deeds::set_value(bytes, me, object, value)
+    Called::from(deeds::set_value(bytes, me, object, value))
 }
 
 // Votes asked for on a record and settings whose checks passed.
@@ -183,9 +185,9 @@ fn ask(bytes: &mut [u8], adding: bool, me: u8) -> Called
     ensures bytes_after { bytes.new ≡ left_by (request_by adding tree (record_of bytes.old) [] me) bytes.old me }
 {
     if !adding {
-        return deeds::request_commit(bytes, me);
+        return Called::from(deeds::request_commit(bytes, me));
     }
-    let number = deeds::request_ahead(bytes, me);
+    let number = numbers::number(deeds::may_request(bytes, me));
     if number != 0 {
         return refused(number);
     }
@@ -197,7 +199,7 @@ fn ask(bytes: &mut [u8], adding: bool, me: u8) -> Called
         };
     }
     increments::sum_all(bytes, me);
-    deeds::request_commit(bytes, me)
+    Called::from(deeds::request_commit(bytes, me))
 }
 
 // Asks for votes; answers the participants. On a batch each tally's new value is what was found and the grams; where one is past the range, the number is 9,
@@ -219,11 +221,12 @@ pub fn load_classes(bytes: &[u8], settings: &mut [u8], me: u8, list: &[u8]) -> C
     ensures value { result ≡ front_told bytes.now settings.old me (load_classes list.now) }
     ensures settings_after { settings.new ≡ front_settings bytes.now settings.old me (load_classes list.now) }
 {
-    let first = lower(lent_number(bytes, settings), classes::length_number(list));
+    let length = numbers::number(classes::check_length(list));
+    let first = lower(lent_number(bytes, settings), length);
     if first != 0 {
         return refused(first);
     }
-    let table = classes::table_number(phase(bytes) != IDLE, list);
+    let table = numbers::number(classes::check_table(phase(bytes) != IDLE, list));
     let number = refuse(numbers::STRANGER, !(me < NODES_END), table);
     if number != 0 {
         return refused(number);

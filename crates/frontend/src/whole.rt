@@ -21,8 +21,8 @@ pub fn list_number(act: Act, list: &[u8]) -> u8
     ensures { (a : Ask) → result ≡ list_number (call_by act a list.now) }
 {
     match act {
-        Act::Batch => classes::batch_length(list),
-        Act::LoadClasses => classes::length_number(list),
+        Act::Batch => numbers::number(classes::check_batch(list)),
+        Act::LoadClasses => numbers::number(classes::check_length(list)),
         _ => 0,
     }
 }
@@ -52,7 +52,7 @@ fn off_begin(bytes: &[u8], me: u8, w: BeginWith, garbled: bool) -> u8
     requires { check bytes.now ≡ 0 }
     ensures { result ≡ cond garbled 3 (out_of_turn_after (begin_of tree (record_of bytes.now) me w).number) }
 {
-    let own = record_calls::begin_number(bytes, me, w);
+    let own = numbers::number(record_calls::may_begin(bytes, me, w));
     refuse(numbers::GARBLED, garbled, late(own))
 }
 
@@ -88,11 +88,11 @@ pub fn nowhere_number(a: Ask, list: &[u8]) -> u8
                 either(classes::is_overweight(list), late),
                 numbers::STRANGER,
             );
-            let first = classes::batch_length(list);
+            let first = numbers::number(classes::check_batch(list));
             refuse(first, first != 0, own)
         }
         Act::LoadClasses => {
-            let first = classes::length_number(list);
+            let first = numbers::number(classes::check_length(list));
             refuse(first, first != 0, numbers::STRANGER)
         }
         _ => numbers::STRANGER,

@@ -14,7 +14,7 @@ use numbers::OBJECTS_END;
 pub fn senna_check_image(image: &[u8]) -> u8
     ensures { result ≡ check image.now }
 {
-    image::check(image)
+    numbers::number(image::check(image))
 }
 
 // Makes an image blank. Ruled out: a byte of a buffer of another length altered; holders of 0.
@@ -22,7 +22,7 @@ pub fn senna_blank_image(image: &mut [u8]) -> u8
     ensures value { result ≡ blank_number image.old }
     ensures image_after { image.new ≡ blank image.old }
 {
-    image::blank(image)
+    numbers::number(image::blank(image))
 }
 
 // Takes an image of an older length in. Ruled out: an author unknown at version 0; a byte written where the older image is damaged.
@@ -45,7 +45,7 @@ pub fn senna_station_take_in(old: &[u8], images: &mut [u8]) -> u8
 fn author_number(image: &[u8], object: u8) -> u8
     ensures { result ≡ author_number image.now object }
 {
-    let number = image::check(image);
+    let number = numbers::number(image::check(image));
     if number == numbers::LENGTH {
         return numbers::LENGTH;
     }

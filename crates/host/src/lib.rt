@@ -8,15 +8,14 @@ pub mod replicas;
 pub mod setup;
 pub mod stations;
 
-ghost use Rattle.std.specs.Prelude.{◌≡◌, cond};
+ghost use Rattle.std.specs.Prelude.{◌≡◌, cond, None};
 ghost use Rattle.quorum.specs.declared.Kind.TheVariants.{Read, Write};
-ghost use Rattle.quorum.specs.declared.Choice.TheVariants.{Nothing};
 ghost use Rattle.quorum.specs.Quorum.{is_quorum};
 ghost use Rattle.host.specs.Distances.{distances_of};
 ghost use Rattle.host.specs.Nearest.{answer_of, nearest_answer};
 
 use numbers::{EVERY_NODE, NODES, NODES_END};
-use quorum::{Choice, Kind};
+use quorum::{Kind, Quorum};
 
 // How many bytes thirteen distances take.
 const DISTANCES: usize = 26;
@@ -54,7 +53,7 @@ fn distances_of(bytes: &[u8]) -> [u16; NODES]
 
 // A refused call's answer.
 fn refused(number: u8) -> Chosen
-    ensures { result ≡ answer_of number Nothing }
+    ensures { result ≡ answer_of number None }
 {
     Chosen {
         number,
@@ -79,12 +78,12 @@ fn nearest(kind: Kind, live: u16, distances: &[u8], asker: u8) -> Chosen
     let d = distances_of(distances);
     let choice = quorum::nearest(kind, asker, live, &d);
     match choice {
-        Choice::Quorum(mask, sum) => Chosen {
+        Some(Quorum { mask, sum }) => Chosen {
             number: 0,
             mask,
             sum,
         },
-        Choice::Nothing => refused(numbers::NO_QUORUM),
+        None => refused(numbers::NO_QUORUM),
     }
 }
 

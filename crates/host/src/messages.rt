@@ -26,7 +26,7 @@ pub struct Serials {
 pub fn senna_check_message(message: &[u8]) -> u8
     ensures { result ≡ check_of message.now }
 {
-    wire::check(message)
+    numbers::number(wire::check(message))
 }
 
 // The writers. Each rules out, among others: a buffer altered on a refusal; bytes behind the message altered.

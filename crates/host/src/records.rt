@@ -33,7 +33,7 @@ pub struct Value {
 pub fn senna_check_record(bytes: &[u8]) -> u8
     ensures { result ≡ check bytes.now }
 {
-    record::check(bytes)
+    numbers::number(record::check(bytes))
 }
 
 // Makes a record blank. Ruled out: a byte of a buffer of another length altered; a serial kept.
@@ -41,7 +41,7 @@ pub fn senna_blank_record(bytes: &mut [u8]) -> u8
     ensures value { result ≡ blank_number bytes.old }
     ensures bytes_after { bytes.new ≡ blank_after bytes.old }
 {
-    record::blank(bytes)
+    numbers::number(record::blank(bytes))
 }
 
 // The distances have another length.
@@ -126,7 +126,7 @@ pub fn senna_coordinator_reselect(bytes: &mut [u8], me: u8, live: u16, distances
         return wrong_length();
     }
     let d = distances_of(distances);
-    record_calls::reselect(bytes, me, live, d)
+    Called::from(record_calls::reselect(bytes, me, live, d))
 }
 
 // Opens an object to read it. Ruled out: an object opened on a batch; a damaged record taken.
@@ -172,7 +172,7 @@ pub fn senna_coordinator_abort(bytes: &mut [u8], me: u8) -> Called
     ensures value { result ≡ called_of (λ (c : Coordinator). abort_of c me) bytes.old }
     ensures bytes_after { bytes.new ≡ record_after (λ (c : Coordinator). abort_of c me) bytes.old }
 {
-    record_calls::abort(bytes, me)
+    Called::from(record_calls::abort(bytes, me))
 }
 
 // Delivers a message; answers what it brought about. Ruled out: commit by a majority; 2 for a damaged record and a message of 14 bytes.
@@ -180,7 +180,7 @@ pub fn senna_coordinator_receive(bytes: &mut [u8], me: u8, message: &[u8]) -> Ca
     ensures value { result ≡ received_of me message.now bytes.old }
     ensures bytes_after { bytes.new ≡ record_after (λ (c : Coordinator). receive_of tree c me message.now) bytes.old }
 {
-    record_arrive::receive(bytes, me, message)
+    Called::from(record_arrive::receive(bytes, me, message))
 }
 
 // Answers the value found for a ready object. Ruled out: the new value; a value with its sign lost.
@@ -188,7 +188,7 @@ pub fn senna_coordinator_found(bytes: &mut [u8], me: u8, object: u8) -> Value
     ensures value { result ≡ value_of (called_of (λ (c : Coordinator). found_of tree c me object) bytes.old) }
     ensures bytes_after { bytes.new ≡ record_after (λ (c : Coordinator). found_of tree c me object) bytes.old }
 {
-    let x = record_calls::found(bytes, me, object);
+    let x = Called::from(record_calls::found(bytes, me, object));
     Value {
         number: x.number,
         value: octets::signed(x.answer),

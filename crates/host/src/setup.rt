@@ -10,7 +10,7 @@ use record::Called;
 pub fn senna_check_settings(settings: &[u8]) -> u8
     ensures { result ≡ settings_number settings.now }
 {
-    settings::check(settings)
+    numbers::number(settings::check(settings))
 }
 
 // Makes settings blank: nothing is loaded. Ruled out: a byte of a buffer of another length altered; a table kept.
@@ -18,7 +18,7 @@ pub fn senna_blank_settings(settings: &mut [u8]) -> u8
     ensures value { result ≡ blank_number settings.old }
     ensures settings_after { settings.new ≡ blank_after settings.old }
 {
-    settings::blank(settings)
+    numbers::number(settings::blank(settings))
 }
 
 // Loads a table of packing hours in place of the one before. Ruled out: a faulty table that takes the old one's place; 2 for a table that is too short.
@@ -26,7 +26,7 @@ pub fn senna_load_hours(settings: &mut [u8], list: &[u8]) -> u8
     ensures value { result ≡ load_number settings.old list.now }
     ensures settings_after { settings.new ≡ load_after settings.old list.now }
 {
-    settings::load_hours(settings, list)
+    numbers::number(settings::load_hours(settings, list))
 }
 
 // Loads a table of classes in place of the one before; none waits after it. Ruled out: a table loaded while a transaction is open; tenths that wait still.
@@ -41,5 +41,5 @@ pub fn senna_load_classes(bytes: &[u8], settings: &mut [u8], me: u8, list: &[u8]
 pub fn senna_settings_kind(settings: &[u8]) -> Called
     ensures { result ≡ kind_of settings.now }
 {
-    settings::kind(settings)
+    Called::from(settings::kind(settings))
 }

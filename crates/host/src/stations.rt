@@ -378,7 +378,7 @@ pub fn senna_station_switch(own: &mut [u8], node: u8, up: u8) -> Answer
 pub fn senna_station_waiting(pool: &[u8]) -> usize
     ensures { result ≡ waiting_in pool.now }
 {
-    if pool::check(pool) == 0 {
+    if pool::check(pool).is_ok() {
         pool::count(pool)
     } else {
         0
@@ -400,7 +400,7 @@ fn not_there(number: u8) -> Waiting
 pub fn senna_station_message(pool: &[u8], k: u8) -> Waiting
     ensures { result ≡ waiting_at pool.now k }
 {
-    let number = pool::check(pool);
+    let number = numbers::number(pool::check(pool));
     if number != 0 {
         return not_there(number);
     }

@@ -108,7 +108,7 @@ fn is_valid(old: &[u8], s: Older, image: &[u8]) -> bool
     requires { Fits s × (image.now ≡ taken_in (shape_of s) old.now) }
     ensures { result ≡ valid (shape_of s) old.now }
 {
-    both(counts_ok(old, s), image::check(image) == 0)
+    counts_ok(old, s) && image::check(image).is_ok()
 }
 
 // Takes in `old`, an image of an older length: writes it into `image`, as one of today's. 1 where `old` has no older length or `image` not

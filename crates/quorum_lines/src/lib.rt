@@ -10,7 +10,7 @@ ghost use Rattle.quorum_lines.specs.Reply.{choice_text, column, row, reply, head
 ghost use Rattle.quorum_lines.specs.Output.{next_line, reply_at, after, replies_in, piece, last_in};
 
 use numbers::{EVERY_NODE, NODES, NODES_END};
-use quorum::{Choice, Kind};
+use quorum::{Kind, Quorum};
 
 // No reply is longer.
 pub const LONGEST_ROW: usize = 40;
@@ -169,18 +169,18 @@ fn is_begun(line: Line) -> bool
 }
 
 // The mask and the sum of a chosen quorum, or `- -`.
-fn put_choice(out: &mut [u8], at: usize, choice: Choice) -> usize
+fn put_choice(out: &mut [u8], at: usize, choice: Option<Quorum>) -> usize
     requires { at + 16 ≤ length out.old }
     ensures next { result ≡ at + length (choice_text choice) }
     ensures buffer { out.new ≡ put_at out.old at (choice_text choice) }
     ensures within { length (choice_text choice) ≤ 16 }
 {
     match choice {
-        Choice::Nothing => decimal::append(out, at, b"- -"),
-        Choice::Quorum(mask, sum) => {
-            let a = decimal::put(out, at, mask as u64);
+        None => decimal::append(out, at, b"- -"),
+        Some(quorum) => {
+            let a = decimal::put(out, at, u64::from(quorum.mask));
             let b = decimal::append(out, a, b" ");
-            decimal::put(out, b, sum as u64)
+            decimal::put(out, b, u64::from(quorum.sum))
         }
     }
 }

@@ -2,29 +2,38 @@
 #![tactic(auto)]
 
 ghost use Rattle.std.specs.Prelude.{◌≡◌, length};
-ghost use Rattle.record_due.specs.Call.{record_due, record_due_buffer};
+ghost use Rattle.numbers.specs.Refusal.{first_of};
+ghost use Rattle.numbers.specs.Outcome.{number_of};
+ghost use Rattle.record_due.specs.Call.{due_first, record_due, record_due_buffer};
 
 mod duties;
 
 use letters::Written;
-use numbers::{either, refuse};
+use numbers::{LONGEST_MESSAGE, Refusal};
 use record::{SIZE, check};
 
-// Writes what is due to a node: 1 for either length, 2, then the numbers of `due`.
-// Ruled out: 2 before 1 for a short buffer; a buffer altered where the bytes are no record.
+// Whether what is due can be written into a buffer of a size: refused for either length, and for a damaged record.
+#[tactic(auto, unfolding(crate::specs::Call::due_first))]
+fn may_write(bytes: &[u8], size: usize) -> Result<(), Refusal>
+    ensures { number_of result ≡ first_of (due_first bytes.now size) }
+{
+    if size < LONGEST_MESSAGE {
+        return Err(Refusal::Length);
+    }
+    check(bytes)
+}
+
+// Writes what is due to a node: refused for either length, for a damaged record, then as `due` refuses.
+// Ruled out: 'damaged' before 'length' for a short buffer; a buffer altered where the bytes are no record.
 pub fn write_due(bytes: &[u8], me: u8, node: u8, object: u8, out: &mut [u8]) -> Written
     ensures value { result ≡ record_due bytes.now me node object (length out.old) }
     ensures out_after { out.new ≡ record_due_buffer bytes.now me node object out.old }
 {
-    let checked = check(bytes);
-    let bad = refuse(numbers::DAMAGED, checked == numbers::DAMAGED, 0);
-    let short = either(
-        checked == numbers::LENGTH,
-        out.len() < numbers::LONGEST_MESSAGE,
-    );
-    let number = refuse(numbers::LENGTH, short, bad);
-    if number != 0 {
-        return Written { number, length: 0 };
+    match may_write(bytes, out.len()) {
+        Ok(()) => duties::write(&bytes[..SIZE], me, node, object, out),
+        Err(refusal) => Written {
+            number: u8::from(refusal),
+            length: 0,
+        },
     }
-    duties::write(&bytes[..SIZE], me, node, object, out)
 }

@@ -171,7 +171,7 @@ fn first_yes(serial: u64, place: u64, message: &[u8]) -> bool
 {
     let root = wire::word(message) == 1 && wire::from(message) == 0;
     let fresh = u64::from(wire::serial(message)) == serial && place == 0;
-    wire::check(message) == 0 && wire::kind(message) == wire::VOTE && root && fresh
+    wire::check(message).is_ok() && wire::kind(message) == wire::VOTE && root && fresh
 }
 
 // The owner gets the next place.

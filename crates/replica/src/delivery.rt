@@ -2,6 +2,7 @@
 ghost use Rattle.std.specs.Prelude.{◌≡◌, length};
 ghost use Rattle.numbers.specs.Sizes.{longest_message};
 ghost use Rattle.wire.specs.Decode.{kind_of, decode};
+ghost use Rattle.numbers.specs.Outcome.{number_of};
 ghost use Rattle.replica.specs.Given.{written_as, filled_by, Raisable, Clear};
 ghost use Rattle.replica.specs.Receive.{outcome_wrong_turn, wrong_turn, refusal, step, deliver, received_of, buffer_of, spoken, speaks};
 
@@ -9,7 +10,7 @@ use crate::Received;
 use crate::answer::silence;
 use crate::steps::{ask, fetch, outcome};
 use judge::{AHEAD, is_active, standing};
-use numbers::{both, either};
+use numbers::{LONGEST_MESSAGE, NODES_END, Refusal, both, either};
 
 // A commit needs late or held; an abort anything but ahead.
 #[tactic(auto, unfolding(crate::specs::Receive::outcome_wrong_turn))]
@@ -33,33 +34,23 @@ fn wrong_turn(image: &[u8], message: &[u8]) -> bool
     }
 }
 
-// The number of a delivery, 0 for none.
-#[tactic(auto, unfolding(crate::specs::Receive::refusal, crate::specs::Receive::refusals, wire::specs::Decode::decode))]
-fn refusal(image: &[u8], me: u8, message: &[u8], size: usize) -> u8
-    ensures { result ≡ refusal size image.now me message.now }
+// Whether a message may be delivered, with room of a size for an answer.
+#[tactic(auto, unfolding(crate::specs::Receive::refusal, crate::specs::Receive::refusals))]
+fn may_deliver(image: &[u8], me: u8, message: &[u8], size: usize) -> Result<(), Refusal>
+    ensures { number_of result ≡ refusal size image.now me message.now }
 {
-    let i = image::check(image);
-    let w = wire::check(message);
-    if either(
-        size < numbers::LONGEST_MESSAGE,
-        either(i == numbers::LENGTH, w == numbers::LENGTH),
-    ) {
-        return numbers::LENGTH;
+    if size < LONGEST_MESSAGE || image.len() != image::SIZE || !wire::has_length(message) {
+        return Err(Refusal::Length);
     }
-    if i == numbers::DAMAGED {
-        return numbers::DAMAGED;
-    }
-    if w == numbers::GARBLED {
-        return numbers::GARBLED;
-    }
-    if either(12 < me, wire::to(message) != me) {
-        return numbers::STRANGER;
+    image::check(image)?;
+    wire::check(message)?;
+    if NODES_END <= me || wire::to(message) != me {
+        return Err(Refusal::Stranger);
     }
     if wrong_turn(image, message) {
-        numbers::OUT_OF_TURN
-    } else {
-        0
+        return Err(Refusal::OutOfTurn);
     }
+    Ok(())
 }
 
 // The step of a message's kind.
@@ -85,14 +76,18 @@ pub fn receive(image: &mut [u8], me: u8, message: &[u8], answer: &mut [u8]) -> R
     ensures image { image.new ≡ (deliver (length answer.old) image.old me message.now).image }
     ensures buffer { answer.new ≡ buffer_of answer.old image.old me message.now }
 {
-    let number = refusal(image, me, message, answer.len());
-    if number != 0 {
-        return Received { number, length: 0 };
-    }
-    let w = perform(image, me, message, answer);
-    Received {
-        number: w.number,
-        length: w.length,
+    match may_deliver(image, me, message, answer.len()) {
+        Ok(()) => {
+            let w = perform(image, me, message, answer);
+            Received {
+                number: w.number,
+                length: w.length,
+            }
+        }
+        Err(refusal) => Received {
+            number: u8::from(refusal),
+            length: 0,
+        },
     }
 }
 
@@ -116,6 +111,5 @@ fn speaks(image: &[u8], message: &[u8]) -> bool
 pub fn answers(image: &[u8], me: u8, message: &[u8]) -> bool
     ensures { result ≡ spoken (deliver longest_message image.now me message.now).answer }
 {
-    let number = refusal(image, me, message, numbers::LONGEST_MESSAGE);
-    both(number == 0, speaks(image, message))
+    may_deliver(image, me, message, LONGEST_MESSAGE).is_ok() && speaks(image, message)
 }

@@ -25,7 +25,7 @@ pub fn count(pool: &[u8]) -> u8
 fn there(pool: &[u8], k: u8) -> bool
     ensures { result ≡ there pool.now k }
 {
-    both(pool::check(pool) == 0, k < count(pool))
+    pool::check(pool).is_ok() && k < count(pool)
 }
 
 // The message at a place through its fields, as a line with a label.

@@ -46,7 +46,7 @@ fn settings_number(settings: &[u8], node: u8) -> u8
     }
     let start = settings::SETTINGS * wide(node);
     let end = start + settings::SETTINGS;
-    let number = settings::check(&settings[start..end]);
+    let number = numbers::number(settings::check(&settings[start..end]));
     refuse(numbers::DAMAGED, number != 0, 0)
 }
 
@@ -103,7 +103,8 @@ pub fn load_hours(own: &[u8], settings: &mut [u8], node: u8, list: &[u8]) -> Ans
     ensures settings_after { settings.new ≡ load_settings (lent [] [] [] own.now settings.old) node list.now }
 {
     let lent = lower(own_number(own), settings_number(settings, node));
-    let first = lower(lent, hours::number(list));
+    let table = numbers::number(hours::check_table(list));
+    let first = lower(lent, table);
     if first != 0 {
         return refused(first);
     }

@@ -25,7 +25,8 @@ fn buffers_number(images: usize, records: usize, pool: &[u8], own: &[u8]) -> u8
         either(images != IMAGES, records != RECORDS),
         0,
     );
-    lower(short, lower(pool::check(pool), own_number(own)))
+    let waiting = numbers::number(pool::check(pool));
+    lower(short, lower(waiting, own_number(own)))
 }
 
 // Whether a delivery that is kept has an answer for which there is no room.
@@ -68,14 +69,12 @@ fn at_coordinator(records: &mut [u8], pool: &mut [u8], node: u8, k: u8, kept: bo
     ensures by_index_2 { (I O : List ℕ) → records.new ≡ coordinator_records (all I records.old pool.old O) node k kept }
     ensures by_index_3 { (I O : List ℕ) → pool.new ≡ coordinator_pool (all I records.old pool.old O) node k kept }
 {
-    let s = hand_over(records, pool, node, k);
-    if s.number != 0 {
-        return refused(s.number);
-    }
-    take_out(pool, k, kept);
-    Answer {
-        number: 0,
-        answer: s.answer,
+    match hand_over(records, pool, node, k) {
+        Ok(answer) => {
+            take_out(pool, k, kept);
+            Answer { number: 0, answer }
+        }
+        Err(refusal) => refused(u8::from(refusal)),
     }
 }
 

@@ -3,6 +3,7 @@ ghost use Rattle.std.specs.Prelude.{◌≡◌, cond, List, ◌<◌, ltb, length}
 ghost use Rattle.numbers.specs.Sizes.{nodes, longest_message};
 ghost use Rattle.wire.specs.Decode.{kind_of, to_of, check_of};
 ghost use Rattle.arrivals.specs.Receive.{for_replica};
+ghost use Rattle.record.specs.Call.{told};
 ghost use Rattle.record_arrive.specs.Call.{received_of as calledBy};
 ghost use Rattle.replica.specs.Receive.{received_of, buffer_of, spoken};
 ghost use Rattle.pool.specs.Pool.{check, count, message_at};
@@ -10,8 +11,7 @@ ghost use Rattle.buffers.specs.Buffers.{image_at, record_at, images_size, record
 ghost use Rattle.station.specs.Messages.{handed, images_handed, handed_over, answered_by, leaving};
 
 use crate::wide;
-use numbers::either;
-use record::Called;
+use numbers::{Refusal, either};
 use replica::Received;
 
 // The number of a waiting message: 5 where none waits, 1 or 3 where what waits is no message.
@@ -22,7 +22,7 @@ pub(crate) fn message_number(pool: &[u8], k: u8) -> u8
     if wide(k) < pool::count(pool) {
         let start = pool::place(k);
         let end = start + pool::length(pool, k);
-        wire::check(&pool[start..end])
+        numbers::number(wire::check(&pool[start..end]))
     } else {
         numbers::OUT_OF_TURN
     }
@@ -79,9 +79,9 @@ pub(crate) fn hand(images: &mut [u8], pool: &[u8], node: u8, k: u8, answer: &mut
 }
 
 // Hands it to a coordinator, whose record is lent onward from the middle of the records.
-pub(crate) fn hand_over(records: &mut [u8], pool: &[u8], node: u8, k: u8) -> Called
+pub(crate) fn hand_over(records: &mut [u8], pool: &[u8], node: u8, k: u8) -> Result<u64, Refusal>
     requires { (length records.old ≡ records_size) × (node < nodes) × (check pool.now ≡ 0) × (k < count pool.now) }
-    ensures number { result ≡ calledBy node (message_at pool.now k) (record_at records.old node) }
+    ensures number { told result ≡ calledBy node (message_at pool.now k) (record_at records.old node) }
     ensures records { records.new ≡ handed_over records.old pool.now node k }
 {
     let first = record::SIZE * wide(node);

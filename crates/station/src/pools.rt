@@ -32,7 +32,8 @@ pub fn send(records: &[u8], pool: &mut [u8], own: &[u8], node: u8, to: u8, objec
     ensures value { result ≡ send_told (sending records.now pool.old own.now) node to object }
     ensures pool_after { pool.new ≡ send_pool (sending records.now pool.old own.now) node to object }
 {
-    let number = lower(ends_number(records.len(), own), pool::check(pool));
+    let waiting = numbers::number(pool::check(pool));
+    let number = lower(ends_number(records.len(), own), waiting);
     if number != 0 {
         return refused(number);
     }
@@ -52,7 +53,7 @@ pub fn send(records: &[u8], pool: &mut [u8], own: &[u8], node: u8, to: u8, objec
     }
     let n = wide(w.length);
     if 0 < n {
-        return refused(pool::add(pool, &b[..n]));
+        return refused(numbers::number(pool::add(pool, &b[..n])));
     }
     refused(0)
 }
@@ -62,5 +63,5 @@ pub fn drop(pool: &mut [u8], k: u8) -> Answer
     ensures value { result ≡ drop_told (dropping pool.old) k }
     ensures pool_after { pool.new ≡ drop_pool (dropping pool.old) k }
 {
-    refused(pool::remove(pool, k))
+    refused(numbers::number(pool::remove(pool, k)))
 }

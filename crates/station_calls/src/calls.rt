@@ -62,7 +62,7 @@ pub fn begin(records: &mut [u8], own: &[u8], node: u8, w: BeginWith) -> Answer
     if is_on(records.len(), own, node) {
         let start = record::SIZE * wide(node);
         let end = start + record::SIZE;
-        let c = record_calls::begin(&mut records[start..end], node, w);
+        let c = Called::from(record_calls::begin(&mut records[start..end], node, w));
         return answered(c);
     }
     let number = ends_number(records.len(), own);
@@ -74,7 +74,7 @@ pub fn begin(records: &mut [u8], own: &[u8], node: u8, w: BeginWith) -> Answer
     }
     let start = record::SIZE * wide(node);
     let end = start + record::SIZE;
-    let alone = record_calls::begin_number(&records[start..end], node, w);
+    let alone = numbers::number(record_calls::may_begin(&records[start..end], node, w));
     refused(off_number(alone))
 }
 
@@ -86,7 +86,7 @@ pub fn open_read(records: &mut [u8], own: &[u8], node: u8, object: u8) -> Answer
     if is_on(records.len(), own, node) {
         let start = record::SIZE * wide(node);
         let end = start + record::SIZE;
-        let c = record_calls::open_read(&mut records[start..end], node, object);
+        let c = Called::from(record_calls::open_read(&mut records[start..end], node, object));
         return answered(c);
     }
     let number = ends_number(records.len(), own);
@@ -98,7 +98,7 @@ pub fn open_read(records: &mut [u8], own: &[u8], node: u8, object: u8) -> Answer
     }
     let start = record::SIZE * wide(node);
     let end = start + record::SIZE;
-    let alone = record_calls::open_number(&records[start..end], node, object);
+    let alone = numbers::number(record_calls::may_open(&records[start..end], node, object));
     refused(off_number(alone))
 }
 
@@ -110,7 +110,7 @@ pub fn open_write(records: &mut [u8], own: &[u8], node: u8, object: u8) -> Answe
     if is_on(records.len(), own, node) {
         let start = record::SIZE * wide(node);
         let end = start + record::SIZE;
-        let c = record_calls::open_write(&mut records[start..end], node, object);
+        let c = Called::from(record_calls::open_write(&mut records[start..end], node, object));
         return answered(c);
     }
     let number = ends_number(records.len(), own);
@@ -122,7 +122,7 @@ pub fn open_write(records: &mut [u8], own: &[u8], node: u8, object: u8) -> Answe
     }
     let start = record::SIZE * wide(node);
     let end = start + record::SIZE;
-    let alone = record_calls::open_number(&records[start..end], node, object);
+    let alone = numbers::number(record_calls::may_open(&records[start..end], node, object));
     refused(off_number(alone))
 }
 
@@ -134,7 +134,7 @@ pub fn set_value(records: &mut [u8], own: &[u8], node: u8, object: u8, value: u6
     if is_on(records.len(), own, node) {
         let start = record::SIZE * wide(node);
         let end = start + record::SIZE;
-        let c = record_calls::set_value(&mut records[start..end], node, object, value);
+        let c = Called::from(record_calls::set_value(&mut records[start..end], node, object, value));
         return answered(c);
     }
     let number = ends_number(records.len(), own);
@@ -146,7 +146,7 @@ pub fn set_value(records: &mut [u8], own: &[u8], node: u8, object: u8, value: u6
     }
     let start = record::SIZE * wide(node);
     let end = start + record::SIZE;
-    let alone = record_calls::set_number(&records[start..end], node, object);
+    let alone = numbers::number(record_calls::may_set(&records[start..end], node, object));
     refused(off_number(alone))
 }
 
@@ -158,7 +158,7 @@ pub fn found(records: &mut [u8], own: &[u8], node: u8, object: u8) -> Answer
     if is_on(records.len(), own, node) {
         let start = record::SIZE * wide(node);
         let end = start + record::SIZE;
-        let c = record_calls::found(&mut records[start..end], node, object);
+        let c = Called::from(record_calls::found(&mut records[start..end], node, object));
         return answered(c);
     }
     let number = ends_number(records.len(), own);
@@ -170,7 +170,7 @@ pub fn found(records: &mut [u8], own: &[u8], node: u8, object: u8) -> Answer
     }
     let start = record::SIZE * wide(node);
     let end = start + record::SIZE;
-    let alone = record_calls::found_number(&records[start..end], node, object);
+    let alone = numbers::number(record_calls::may_tell(&records[start..end], node, object));
     refused(off_number(alone))
 }
 
@@ -188,7 +188,7 @@ pub fn reselect(
     if is_on(records.len(), own, node) {
         let start = record::SIZE * wide(node);
         let end = start + record::SIZE;
-        let c = record_calls::reselect(&mut records[start..end], node, live, distances);
+        let c = Called::from(record_calls::reselect(&mut records[start..end], node, live, distances));
         return answered(c);
     }
     let number = ends_number(records.len(), own);
@@ -200,7 +200,7 @@ pub fn reselect(
     }
     let start = record::SIZE * wide(node);
     let end = start + record::SIZE;
-    let alone = record_calls::reselect_number(&records[start..end], node, live, distances);
+    let alone = numbers::number(record_calls::may_reselect(&records[start..end], node, live, distances));
     refused(off_number(alone))
 }
 
@@ -212,7 +212,7 @@ pub fn request_commit(records: &mut [u8], own: &[u8], node: u8) -> Answer
     if is_on(records.len(), own, node) {
         let start = record::SIZE * wide(node);
         let end = start + record::SIZE;
-        let c = record_calls::request_commit(&mut records[start..end], node);
+        let c = Called::from(record_calls::request_commit(&mut records[start..end], node));
         return answered(c);
     }
     let number = ends_number(records.len(), own);
@@ -224,7 +224,7 @@ pub fn request_commit(records: &mut [u8], own: &[u8], node: u8) -> Answer
     }
     let start = record::SIZE * wide(node);
     let end = start + record::SIZE;
-    let alone = record_calls::request_number(&records[start..end], node);
+    let alone = numbers::number(record_calls::may_request(&records[start..end], node));
     refused(off_number(alone))
 }
 
@@ -236,7 +236,7 @@ pub fn abort(records: &mut [u8], own: &[u8], node: u8) -> Answer
     if is_on(records.len(), own, node) {
         let start = record::SIZE * wide(node);
         let end = start + record::SIZE;
-        let c = record_calls::abort(&mut records[start..end], node);
+        let c = Called::from(record_calls::abort(&mut records[start..end], node));
         return answered(c);
     }
     let number = ends_number(records.len(), own);
@@ -248,6 +248,6 @@ pub fn abort(records: &mut [u8], own: &[u8], node: u8) -> Answer
     }
     let start = record::SIZE * wide(node);
     let end = start + record::SIZE;
-    let alone = record_calls::abort_number(&records[start..end], node);
+    let alone = numbers::number(record_calls::may_abort(&records[start..end], node));
     refused(off_number(alone))
 }

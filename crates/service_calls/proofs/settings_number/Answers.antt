@@ -26,7 +26,7 @@ unfolding settings_first
 returns c = let x = c.args in
     let S = x.settings.now in
     let w = c.wide-start.ensures in
-    let e = c.check-number.ensures ∙ ap settings_number (lent_part S _ x.node w) in
+    let e = c.number-number.ensures ∙ c.check.ensures ∙ ap settings_number (lent_part S _ x.node w) in
     simp (
       eq-eqb (length S) all_settings c.if-settings-ne-SETTINGS.false,
       lt-ltb x.node nodes

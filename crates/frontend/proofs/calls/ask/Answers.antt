@@ -25,7 +25,7 @@ pub returns-then-not-adding-clause-value : goal.returns-then-not-adding-clause-v
 returns-then-not-adding-clause-value c = let l = c.args.bytes.now in
     let small : Bytes l = λ j. omega (arith, c.slice_known-1.given j) in
     let w = c.request_commit.ensures in (by_kind l c.args.me c.args.adding false _ _ (c.if-not-adding.true) (
-      w.value ∙ own_told l small c.requires c.args.me [],
+      c.from.ensures ∙ w.value ∙ own_told l small c.requires c.args.me [],
       w.bytes_after ∙ own_left l small c.requires c.args.me [],
     )).0
 
@@ -33,14 +33,14 @@ pub returns-then-not-adding-clause-bytes_after : goal.returns-then-not-adding-cl
 returns-then-not-adding-clause-bytes_after c = let l = c.args.bytes.now in
     let small : Bytes l = λ j. omega (arith, c.slice_known-1.given j) in
     let w = c.request_commit.ensures in (by_kind l c.args.me c.args.adding false _ _ (c.if-not-adding.true) (
-      w.value ∙ own_told l small c.requires c.args.me [],
+      c.from.ensures ∙ w.value ∙ own_told l small c.requires c.args.me [],
       w.bytes_after ∙ own_left l small c.requires c.args.me [],
     )).1
 
 pub returns-then-number-ne0-clause-value : goal.returns-then-number-ne0-clause-value
 returns-then-number-ne0-clause-value c = let l = c.args.bytes.now in
     let small : Bytes l = λ j. omega (arith, c.slice_known-1.given j) in
-    let e = c.request_ahead-number.ensures in
+    let e = (c.number-number.ensures ∙ c.may_request.ensures.number) in
     let h = c.if-number-ne0.true in (by_kind l c.args.me c.args.adding true _ _ (c.if-not-adding.false) (
       c.refused.ensures ∙ refused_told l small c.requires c.args.me [] _ e h,
       refused_kept l small c.requires c.args.me [] _ e h,
@@ -49,7 +49,7 @@ returns-then-number-ne0-clause-value c = let l = c.args.bytes.now in
 pub returns-then-number-ne0-clause-bytes_after : goal.returns-then-number-ne0-clause-bytes_after
 returns-then-number-ne0-clause-bytes_after c = let l = c.args.bytes.now in
     let small : Bytes l = λ j. omega (arith, c.slice_known-1.given j) in
-    let e = c.request_ahead-number.ensures in
+    let e = (c.number-number.ensures ∙ c.may_request.ensures.number) in
     let h = c.if-number-ne0.true in (by_kind l c.args.me c.args.adding true _ _ (c.if-not-adding.false) (
       c.refused.ensures ∙ refused_told l small c.requires c.args.me [] _ e h,
       refused_kept l small c.requires c.args.me [] _ e h,
@@ -58,7 +58,7 @@ returns-then-number-ne0-clause-bytes_after c = let l = c.args.bytes.now in
 pub returns-then-any_past-clause-value : goal.returns-then-any_past-clause-value
 returns-then-any_past-clause-value c = let l = c.args.bytes.now in
     let small : Bytes l = λ j. omega (arith, c.slice_known-1.given j) in
-    let e = sym c.request_ahead-number.ensures ∙ c.if-number-ne0.false in
+    let e = sym (c.number-number.ensures ∙ c.may_request.ensures.number) ∙ c.if-number-ne0.false in
     let p = sym c.any_past.ensures ∙ c.if-any_past.true in (by_kind l c.args.me c.args.adding true _ _ (c.if-not-adding.false) (
       past_told l small c.requires c.args.me [] e p,
       c.abort.ensures.bytes_after ∙ past_left l small c.requires c.args.me [] e p,
@@ -67,7 +67,7 @@ returns-then-any_past-clause-value c = let l = c.args.bytes.now in
 pub returns-then-any_past-clause-bytes_after : goal.returns-then-any_past-clause-bytes_after
 returns-then-any_past-clause-bytes_after c = let l = c.args.bytes.now in
     let small : Bytes l = λ j. omega (arith, c.slice_known-1.given j) in
-    let e = sym c.request_ahead-number.ensures ∙ c.if-number-ne0.false in
+    let e = sym (c.number-number.ensures ∙ c.may_request.ensures.number) ∙ c.if-number-ne0.false in
     let p = sym c.any_past.ensures ∙ c.if-any_past.true in (by_kind l c.args.me c.args.adding true _ _ (c.if-not-adding.false) (
       past_told l small c.requires c.args.me [] e p,
       c.abort.ensures.bytes_after ∙ past_left l small c.requires c.args.me [] e p,
@@ -76,21 +76,21 @@ returns-then-any_past-clause-bytes_after c = let l = c.args.bytes.now in
 pub returns-clause-value : goal.returns-clause-value
 returns-clause-value c = let l = c.args.bytes.now in
     let small : Bytes l = λ j. omega (arith, c.slice_known-1.given j) in
-    let e = sym c.request_ahead-number.ensures ∙ c.if-number-ne0.false in
+    let e = sym (c.number-number.ensures ∙ c.may_request.ensures.number) ∙ c.if-number-ne0.false in
     let p = sym c.any_past.ensures ∙ c.if-any_past.false in
     let sums = c.sum_all.ensures.bytes_after in
     let w = c.request_commit-2.ensures in (by_kind l c.args.me c.args.adding true _ _ (c.if-not-adding.false) (
-      w.value ∙ summed_told l small c.requires c.args.me [] e p _ sums,
+      c.from.ensures ∙ w.value ∙ summed_told l small c.requires c.args.me [] e p _ sums,
       w.bytes_after ∙ summed_left l small c.requires c.args.me [] e p _ sums,
     )).0
 
 pub returns-clause-bytes_after : goal.returns-clause-bytes_after
 returns-clause-bytes_after c = let l = c.args.bytes.now in
     let small : Bytes l = λ j. omega (arith, c.slice_known-1.given j) in
-    let e = sym c.request_ahead-number.ensures ∙ c.if-number-ne0.false in
+    let e = sym (c.number-number.ensures ∙ c.may_request.ensures.number) ∙ c.if-number-ne0.false in
     let p = sym c.any_past.ensures ∙ c.if-any_past.false in
     let sums = c.sum_all.ensures.bytes_after in
     let w = c.request_commit-2.ensures in (by_kind l c.args.me c.args.adding true _ _ (c.if-not-adding.false) (
-      w.value ∙ summed_told l small c.requires c.args.me [] e p _ sums,
+      c.from.ensures ∙ w.value ∙ summed_told l small c.requires c.args.me [] e p _ sums,
       w.bytes_after ∙ summed_left l small c.requires c.args.me [] e p _ sums,
     )).1

@@ -98,7 +98,7 @@ returns-then-is_closed-clause-value c = let x = c.args in
     c.lent_number-number.ensures c.if-number-ne0.false in
     let e = lent_none l s x.me (begin x.w x.day x.minute) z in
     let same = same_bytes l small e.0 in
-    let own = own_number_lem (λ (k : Coordinator). begin_of tree k x.me x.w) l e.0 _ c.begin_number-own.ensures in
+    let own = own_number_lem (λ (k : Coordinator). begin_of tree k x.me x.w) l e.0 _ (c.number-own.ensures ∙ c.may_begin.ensures) in
     let h = shut_number s x.day x.minute c.if-minute-gt-LAST_MINUTE.false (sym c.is_closed.ensures ∙ c.if-is_closed.true) _ _
     (c.refuse.ensures ∙ ap (λ (k : ℕ). cond (not (eqb k 0)) k 13) (sym own)) in
     let d = begin_refuses l s x.me x.w x.day x.minute same z _ h.0 h.1 in c.refused-then-is_closed.ensures ∙ d.told
@@ -113,7 +113,7 @@ returns-then-is_closed-clause-bytes_after c = let x = c.args in
     c.lent_number-number.ensures c.if-number-ne0.false in
     let e = lent_none l s x.me (begin x.w x.day x.minute) z in
     let same = same_bytes l small e.0 in
-    let own = own_number_lem (λ (k : Coordinator). begin_of tree k x.me x.w) l e.0 _ c.begin_number-own.ensures in
+    let own = own_number_lem (λ (k : Coordinator). begin_of tree k x.me x.w) l e.0 _ (c.number-own.ensures ∙ c.may_begin.ensures) in
     let h = shut_number s x.day x.minute c.if-minute-gt-LAST_MINUTE.false (sym c.is_closed.ensures ∙ c.if-is_closed.true) _ _
     (c.refuse.ensures ∙ ap (λ (k : ℕ). cond (not (eqb k 0)) k 13) (sym own)) in
     let d = begin_refuses l s x.me x.w x.day x.minute same z _ h.0 h.1 in d.its_record
@@ -128,7 +128,7 @@ returns-then-is_closed-clause-settings_after c = let x = c.args in
     c.lent_number-number.ensures c.if-number-ne0.false in
     let e = lent_none l s x.me (begin x.w x.day x.minute) z in
     let same = same_bytes l small e.0 in
-    let own = own_number_lem (λ (k : Coordinator). begin_of tree k x.me x.w) l e.0 _ c.begin_number-own.ensures in
+    let own = own_number_lem (λ (k : Coordinator). begin_of tree k x.me x.w) l e.0 _ (c.number-own.ensures ∙ c.may_begin.ensures) in
     let h = shut_number s x.day x.minute c.if-minute-gt-LAST_MINUTE.false (sym c.is_closed.ensures ∙ c.if-is_closed.true) _ _
     (c.refuse.ensures ∙ ap (λ (k : ℕ). cond (not (eqb k 0)) k 13) (sym own)) in
     let d = begin_refuses l s x.me x.w x.day x.minute same z _ h.0 h.1 in d.settings
@@ -154,11 +154,11 @@ returns-then-r-eq0-clause-value c = let x = c.args in
     let same = same_bytes l small e.0 in
     let n = open_number s x.day x.minute c.if-minute-gt-LAST_MINUTE.false
     (sym c.is_closed.ensures ∙ c.if-is_closed.false) _ in
-    let b = c.begin-r.ensures in
+    let b = c.begin.ensures in
     let now-settled : _ ≡ settled_as 0 no_tenths (record_of l) s = c.settle.ensures ∙ ap
     (λ (k : List ℕ). splice 17 211 (0 ∷ (k ++ no_tenths)) s) c.tenths-waits.ensures in
-    let zero = sym (ap (λ (r : Called). r.number) b.value) ∙ c.if-r-eq0.true in
-    let d = begin_goes l s x.me x.w x.day x.minute same z n _ _ _ b.value b.bytes_after (λ q. now-settled, λ q. absurd (q zero)) in d.told
+    let zero = sym (ap (λ (r : Called). r.number) (c.from-r.ensures ∙ b.value)) ∙ c.if-r-eq0.true in
+    let d = begin_goes l s x.me x.w x.day x.minute same z n _ _ _ (c.from-r.ensures ∙ b.value) b.bytes_after (λ q. now-settled, λ q. absurd (q zero)) in d.told
 
 pub returns-then-r-eq0-clause-bytes_after : goal.returns-then-r-eq0-clause-bytes_after
 unfolding list_number settled_as
@@ -172,11 +172,11 @@ returns-then-r-eq0-clause-bytes_after c = let x = c.args in
     let same = same_bytes l small e.0 in
     let n = open_number s x.day x.minute c.if-minute-gt-LAST_MINUTE.false
     (sym c.is_closed.ensures ∙ c.if-is_closed.false) _ in
-    let b = c.begin-r.ensures in
+    let b = c.begin.ensures in
     let now-settled : _ ≡ settled_as 0 no_tenths (record_of l) s = c.settle.ensures ∙ ap
     (λ (k : List ℕ). splice 17 211 (0 ∷ (k ++ no_tenths)) s) c.tenths-waits.ensures in
-    let zero = sym (ap (λ (r : Called). r.number) b.value) ∙ c.if-r-eq0.true in
-    let d = begin_goes l s x.me x.w x.day x.minute same z n _ _ _ b.value b.bytes_after (λ q. now-settled, λ q. absurd (q zero)) in d.its_record
+    let zero = sym (ap (λ (r : Called). r.number) (c.from-r.ensures ∙ b.value)) ∙ c.if-r-eq0.true in
+    let d = begin_goes l s x.me x.w x.day x.minute same z n _ _ _ (c.from-r.ensures ∙ b.value) b.bytes_after (λ q. now-settled, λ q. absurd (q zero)) in d.its_record
 
 pub returns-then-r-eq0-clause-settings_after : goal.returns-then-r-eq0-clause-settings_after
 unfolding list_number settled_as
@@ -190,11 +190,11 @@ returns-then-r-eq0-clause-settings_after c = let x = c.args in
     let same = same_bytes l small e.0 in
     let n = open_number s x.day x.minute c.if-minute-gt-LAST_MINUTE.false
     (sym c.is_closed.ensures ∙ c.if-is_closed.false) _ in
-    let b = c.begin-r.ensures in
+    let b = c.begin.ensures in
     let now-settled : _ ≡ settled_as 0 no_tenths (record_of l) s = c.settle.ensures ∙ ap
     (λ (k : List ℕ). splice 17 211 (0 ∷ (k ++ no_tenths)) s) c.tenths-waits.ensures in
-    let zero = sym (ap (λ (r : Called). r.number) b.value) ∙ c.if-r-eq0.true in
-    let d = begin_goes l s x.me x.w x.day x.minute same z n _ _ _ b.value b.bytes_after (λ q. now-settled, λ q. absurd (q zero)) in d.settings
+    let zero = sym (ap (λ (r : Called). r.number) (c.from-r.ensures ∙ b.value)) ∙ c.if-r-eq0.true in
+    let d = begin_goes l s x.me x.w x.day x.minute same z n _ _ _ (c.from-r.ensures ∙ b.value) b.bytes_after (λ q. now-settled, λ q. absurd (q zero)) in d.settings
 
 pub returns-else-r-eq0-clause-value : goal.returns-else-r-eq0-clause-value
 unfolding list_number
@@ -208,9 +208,9 @@ returns-else-r-eq0-clause-value c = let x = c.args in
     let same = same_bytes l small e.0 in
     let n = open_number s x.day x.minute c.if-minute-gt-LAST_MINUTE.false
     (sym c.is_closed.ensures ∙ c.if-is_closed.false) _ in
-    let b = c.begin-r.ensures in
-    let more : ((begin_of tree (record_of l) x.me x.w).number ≡ 0 → ⊥) = λ q. c.if-r-eq0.false (ap (λ (r : Called). r.number) b.value ∙ q) in
-    let d = begin_goes l s x.me x.w x.day x.minute same z n _ _ _ b.value b.bytes_after (λ q. absurd (more q), λ q. refl) in d.told
+    let b = c.begin.ensures in
+    let more : ((begin_of tree (record_of l) x.me x.w).number ≡ 0 → ⊥) = λ q. c.if-r-eq0.false (ap (λ (r : Called). r.number) (c.from-r.ensures ∙ b.value) ∙ q) in
+    let d = begin_goes l s x.me x.w x.day x.minute same z n _ _ _ (c.from-r.ensures ∙ b.value) b.bytes_after (λ q. absurd (more q), λ q. refl) in d.told
 
 pub returns-else-r-eq0-clause-bytes_after : goal.returns-else-r-eq0-clause-bytes_after
 unfolding list_number
@@ -224,9 +224,9 @@ returns-else-r-eq0-clause-bytes_after c = let x = c.args in
     let same = same_bytes l small e.0 in
     let n = open_number s x.day x.minute c.if-minute-gt-LAST_MINUTE.false
     (sym c.is_closed.ensures ∙ c.if-is_closed.false) _ in
-    let b = c.begin-r.ensures in
-    let more : ((begin_of tree (record_of l) x.me x.w).number ≡ 0 → ⊥) = λ q. c.if-r-eq0.false (ap (λ (r : Called). r.number) b.value ∙ q) in
-    let d = begin_goes l s x.me x.w x.day x.minute same z n _ _ _ b.value b.bytes_after (λ q. absurd (more q), λ q. refl) in d.its_record
+    let b = c.begin.ensures in
+    let more : ((begin_of tree (record_of l) x.me x.w).number ≡ 0 → ⊥) = λ q. c.if-r-eq0.false (ap (λ (r : Called). r.number) (c.from-r.ensures ∙ b.value) ∙ q) in
+    let d = begin_goes l s x.me x.w x.day x.minute same z n _ _ _ (c.from-r.ensures ∙ b.value) b.bytes_after (λ q. absurd (more q), λ q. refl) in d.its_record
 
 pub returns-else-r-eq0-clause-settings_after : goal.returns-else-r-eq0-clause-settings_after
 unfolding list_number
@@ -240,6 +240,6 @@ returns-else-r-eq0-clause-settings_after c = let x = c.args in
     let same = same_bytes l small e.0 in
     let n = open_number s x.day x.minute c.if-minute-gt-LAST_MINUTE.false
     (sym c.is_closed.ensures ∙ c.if-is_closed.false) _ in
-    let b = c.begin-r.ensures in
-    let more : ((begin_of tree (record_of l) x.me x.w).number ≡ 0 → ⊥) = λ q. c.if-r-eq0.false (ap (λ (r : Called). r.number) b.value ∙ q) in
-    let d = begin_goes l s x.me x.w x.day x.minute same z n _ _ _ b.value b.bytes_after (λ q. absurd (more q), λ q. refl) in d.settings
+    let b = c.begin.ensures in
+    let more : ((begin_of tree (record_of l) x.me x.w).number ≡ 0 → ⊥) = λ q. c.if-r-eq0.false (ap (λ (r : Called). r.number) (c.from-r.ensures ∙ b.value) ∙ q) in
+    let d = begin_goes l s x.me x.w x.day x.minute same z n _ _ _ (c.from-r.ensures ∙ b.value) b.bytes_after (λ q. absurd (more q), λ q. refl) in d.settings

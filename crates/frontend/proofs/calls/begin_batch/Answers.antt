@@ -54,7 +54,7 @@ add_all-requires-clause-bytes_value c = let x = c.args in
     let l = x.bytes.now in
     let small : Bytes l = λ j. omega (arith, c.slice_known-1.given j) in
     let h = holds_checked _ _ (held x.me x.w (search rules) (search rules) (λ i. search rules) l small c.requires.0) in
-    let few = few_tallies (classes_in x.settings.now) (sound_parts x.settings.now c.requires.1.0).classes in ap check c.begin-r.ensures.bytes_after ∙ h
+    let few = few_tallies (classes_in x.settings.now) (sound_parts x.settings.now c.requires.1.0).classes in ap check c.begin.ensures.bytes_after ∙ h
 
 pub add_all-requires-clause-n_le_most_open : goal.add_all-requires-clause-n_le_most_open
 unfolding part
@@ -77,9 +77,9 @@ returns-then-r-eq0-clause-value c = let x = c.args in
     let small : Bytes l = λ j. omega (arith, c.slice_known-1.given j) in
     let e = c.requires.0 in
     let fine = (sound_parts s c.requires.1.0).classes in
-    let b = c.begin-r.ensures in
+    let b = c.begin.ensures in
     let B = begin_of tree (record_of l) x.me x.w in
-    let zero : B.number ≡ 0 = sym (ap (λ (r : Called). r.number) b.value) ∙ c.if-r-eq0.true in
+    let zero : B.number ≡ 0 = sym (ap (λ (r : Called). r.number) (c.from-r.ensures ∙ b.value)) ∙ c.if-r-eq0.true in
     let t = c.tenths-waits.ensures in
     let w = tenths (record_of l) s in
     let grams = c.sort-sorted.ensures.grams_value ∙ ap (λ (k : List ℕ). grams_of (classes_in s) k list) t in
@@ -87,7 +87,7 @@ returns-then-r-eq0-clause-value c = let x = c.args in
     let g = batch_goes l s x.me x.w list (same_bytes l small e) zero (held x.me x.w (search rules) (search rules) (λ i. search rules) l small e) fine in
     let a = c.add_all.ensures.bytes_after in
     let m = added_left x.me _ _ _ _ _ _ _ _ _ a b.bytes_after c.count-count.ensures.0 c.tallies-tallies.ensures grams in
-    let p = ap₂ (λ (u v : List ℕ). splice 17 211 (1 ∷ (u ++ v)) s) t left in b.value ∙ g.0
+    let p = ap₂ (λ (u v : List ℕ). splice 17 211 (1 ∷ (u ++ v)) s) t left in (c.from-r.ensures ∙ b.value) ∙ g.0
 
 pub returns-then-r-eq0-clause-bytes_after : goal.returns-then-r-eq0-clause-bytes_after
 unfolding part settled_as
@@ -98,9 +98,9 @@ returns-then-r-eq0-clause-bytes_after c = let x = c.args in
     let small : Bytes l = λ j. omega (arith, c.slice_known-1.given j) in
     let e = c.requires.0 in
     let fine = (sound_parts s c.requires.1.0).classes in
-    let b = c.begin-r.ensures in
+    let b = c.begin.ensures in
     let B = begin_of tree (record_of l) x.me x.w in
-    let zero : B.number ≡ 0 = sym (ap (λ (r : Called). r.number) b.value) ∙ c.if-r-eq0.true in
+    let zero : B.number ≡ 0 = sym (ap (λ (r : Called). r.number) (c.from-r.ensures ∙ b.value)) ∙ c.if-r-eq0.true in
     let t = c.tenths-waits.ensures in
     let w = tenths (record_of l) s in
     let grams = c.sort-sorted.ensures.grams_value ∙ ap (λ (k : List ℕ). grams_of (classes_in s) k list) t in
@@ -119,9 +119,9 @@ returns-then-r-eq0-clause-settings_after c = let x = c.args in
     let small : Bytes l = λ j. omega (arith, c.slice_known-1.given j) in
     let e = c.requires.0 in
     let fine = (sound_parts s c.requires.1.0).classes in
-    let b = c.begin-r.ensures in
+    let b = c.begin.ensures in
     let B = begin_of tree (record_of l) x.me x.w in
-    let zero : B.number ≡ 0 = sym (ap (λ (r : Called). r.number) b.value) ∙ c.if-r-eq0.true in
+    let zero : B.number ≡ 0 = sym (ap (λ (r : Called). r.number) (c.from-r.ensures ∙ b.value)) ∙ c.if-r-eq0.true in
     let t = c.tenths-waits.ensures in
     let w = tenths (record_of l) s in
     let grams = c.sort-sorted.ensures.grams_value ∙ ap (λ (k : List ℕ). grams_of (classes_in s) k list) t in
@@ -136,24 +136,24 @@ returns-else-r-eq0-clause-value c = let x = c.args in
     let l = x.bytes.now in
     let s = x.settings.now in
     let small : Bytes l = λ j. omega (arith, c.slice_known-1.given j) in
-    let b = c.begin-r.ensures in
+    let b = c.begin.ensures in
     let g = batch_stays l s x.me x.w x.list.now (same_bytes l small c.requires.0)
-    (λ q. c.if-r-eq0.false (ap (λ (r : Called). r.number) b.value ∙ q)) in b.value ∙ g.0
+    (λ q. c.if-r-eq0.false (ap (λ (r : Called). r.number) (c.from-r.ensures ∙ b.value) ∙ q)) in (c.from-r.ensures ∙ b.value) ∙ g.0
 
 pub returns-else-r-eq0-clause-bytes_after : goal.returns-else-r-eq0-clause-bytes_after
 returns-else-r-eq0-clause-bytes_after c = let x = c.args in
     let l = x.bytes.now in
     let s = x.settings.now in
     let small : Bytes l = λ j. omega (arith, c.slice_known-1.given j) in
-    let b = c.begin-r.ensures in
+    let b = c.begin.ensures in
     let g = batch_stays l s x.me x.w x.list.now (same_bytes l small c.requires.0)
-    (λ q. c.if-r-eq0.false (ap (λ (r : Called). r.number) b.value ∙ q)) in b.bytes_after ∙ g.1.0
+    (λ q. c.if-r-eq0.false (ap (λ (r : Called). r.number) (c.from-r.ensures ∙ b.value) ∙ q)) in b.bytes_after ∙ g.1.0
 
 pub returns-else-r-eq0-clause-settings_after : goal.returns-else-r-eq0-clause-settings_after
 returns-else-r-eq0-clause-settings_after c = let x = c.args in
     let l = x.bytes.now in
     let s = x.settings.now in
     let small : Bytes l = λ j. omega (arith, c.slice_known-1.given j) in
-    let b = c.begin-r.ensures in
+    let b = c.begin.ensures in
     let g = batch_stays l s x.me x.w x.list.now (same_bytes l small c.requires.0)
-    (λ q. c.if-r-eq0.false (ap (λ (r : Called). r.number) b.value ∙ q)) in g.1.1
+    (λ q. c.if-r-eq0.false (ap (λ (r : Called). r.number) (c.from-r.ensures ∙ b.value) ∙ q)) in g.1.1

@@ -6,4 +6,4 @@ use Rattle.frontend.proofs.calls.lent_number.Goals as goal
 
 pub returns : goal.returns
 unfolding lent_number
-returns c = c.lower.ensures ∙ ap₂ lower c.check.ensures c.check-2.ensures
+returns c = c.number.ensures ∙ c.first_refusal.ensures ∙ ap₂ lower c.check.ensures c.check-2.ensures

@@ -45,7 +45,7 @@ returns-clause-value c = let x = c.args in
     let fine = sym c.lent_number-number.ensures ∙ c.if-number-ne0.false in
     let own = sym c.is_adding.ensures ∙ c.if-is_adding.false in
     let w = c.«open».ensures in
-    w.value ∙ own_edit_told x.bytes.now x.settings.now small fine x.me (writes x.object) own
+    c.from.ensures ∙ w.value ∙ own_edit_told x.bytes.now x.settings.now small fine x.me (writes x.object) own
 
 pub returns-clause-bytes_after : goal.returns-clause-bytes_after
 unfolding edit_of

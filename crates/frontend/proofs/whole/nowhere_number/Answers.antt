@@ -43,7 +43,7 @@ unfolding nowhere call_by
 returns-in-Batch c = let x = c.args in
     let own = c.refuse-own.ensures ∙ ap (λ (b : Bool). cond b 3 4) (c.either.ensures
     ∙ ap (λ (b : Bool). b || ltb last_minute x.a.minute) c.is_overweight.ensures) in
-    let first = c.batch_length-first.ensures in
+    let first = c.number-first.ensures ∙ c.check_batch.ensures in
     by_act x.a x.list.now Batch _ (c.refuse-in-Batch.ensures ∙ ap₂ (λ (n k : ℕ). cond (not (eqb n 0)) n k) first own)
     c.in-Batch.is
 
@@ -51,7 +51,7 @@ pub returns-in-LoadClasses : goal.returns-in-LoadClasses
 unfolding nowhere call_by
 returns-in-LoadClasses c = let x = c.args in
     by_act x.a x.list.now LoadClasses _
-    (c.refuse-in-LoadClasses.ensures ∙ ap (λ (n : ℕ). cond (not (eqb n 0)) n 4) c.length_number-first.ensures) c.in-LoadClasses.is
+    (c.refuse-in-LoadClasses.ensures ∙ ap (λ (n : ℕ). cond (not (eqb n 0)) n 4) (c.number-first-2.ensures ∙ c.check_length.ensures)) c.in-LoadClasses.is
 
 pub returns-in_default : goal.returns-in_default
 returns-in_default c = let x = c.args in

@@ -14,5 +14,5 @@ pub returns : goal.returns
 unfolding called_of
 returns c = let x = c.args in
     let e = eq-eqb (check x.bytes.now) 0 c.requires in
-    let own : _ ≡ (begin_of tree (record_of x.bytes.now) x.me x.w).number = c.begin_number-own.ensures ∙ simp e in
+    let own : _ ≡ (begin_of tree (record_of x.bytes.now) x.me x.w).number = c.number-own.ensures ∙ c.may_begin.ensures ∙ simp e in
     c.refuse.ensures ∙ ap (λ (k : ℕ). cond x.garbled 3 k) (c.late.ensures ∙ ap out_of_turn_after own)

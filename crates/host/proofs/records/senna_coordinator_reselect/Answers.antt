@@ -24,7 +24,7 @@ returns-clause-value c = let x = c.args in
     let e = c.if-distances-ne-DISTANCES.false in
     let s : List ℕ → Coordinator → Step = λ y k. reselect_of tree k x.me x.live y in
     let d = ap s c.distances_of-d.ensures in
-    let w = c.reselect.ensures in w.value ∙ taken_answer x.distances.now x.bytes.now _ _ e d
+    let w = c.reselect.ensures in (c.from.ensures ∙ w.value) ∙ taken_answer x.distances.now x.bytes.now _ _ e d
 
 pub returns-clause-bytes_after : goal.returns-clause-bytes_after
 returns-clause-bytes_after c = let x = c.args in

@@ -8,12 +8,12 @@ use Rattle.host.proofs.stations.senna_station_message.Goals as goal
 
 pub returns-then-number-ne0 : goal.returns-then-number-ne0
 returns-then-number-ne0 c = let x = c.args in
-    let e = c.check-number.ensures in
+    let e = (c.number-number.ensures ∙ c.check.ensures) in
     c.not_there.ensures ∙ ap missing e ∙ sym (look_damaged x.pool.now x.k (λ h. c.if-number-ne0.true (e ∙ h)))
 
 pub returns-then-count-k : goal.returns-then-count-k
 returns-then-count-k c = let x = c.args in
-    let e = sym c.check-number.ensures ∙ c.if-number-ne0.false in
+    let e = sym (c.number-number.ensures ∙ c.check.ensures) ∙ c.if-number-ne0.false in
     let n = c.count.ensures.0 in
     let t = c.if-count-k.true in
     let h : count x.pool.now ≤ x.k = omega arith in
@@ -21,7 +21,7 @@ returns-then-count-k c = let x = c.args in
 
 pub returns : goal.returns
 returns c = let x = c.args in
-    let e = sym c.check-number.ensures ∙ c.if-number-ne0.false in
+    let e = sym (c.number-number.ensures ∙ c.check.ensures) ∙ c.if-number-ne0.false in
     let n = c.count.ensures.0 in
     let t = c.if-count-k.false in
     let h : x.k < count x.pool.now = omega arith in

@@ -10,4 +10,4 @@ unfolding lengths_number
 returns c = c.lower-2.ensures
     ∙ ap₂ lower (c.refuse-short.ensures
     ∙ ap (λ (b : Bool). cond b 1 0) c.either.ensures)
-    (c.lower.ensures ∙ ap₂ lower c.check.ensures c.own_number.ensures)
+    (c.lower.ensures ∙ ap₂ lower (c.number-waiting.ensures ∙ c.check.ensures) c.own_number.ensures)

@@ -36,7 +36,7 @@ returns-then-wide-count c = let x = c.args in
     let t = c.if-wide-count.true in
     let h : x.k < count x.pool.now = omega arith in
     simp (lt-ltb x.k (count x.pool.now) h)
-    (c.check.ensures ∙ ap check_of (message_lent x.pool.now x.k _ _ c.place-start.ensures
+    (c.number.ensures ∙ c.check.ensures ∙ ap check_of (message_lent x.pool.now x.k _ _ c.place-start.ensures
     c.length.ensures))
 
 pub returns-else-wide-count : goal.returns-else-wide-count

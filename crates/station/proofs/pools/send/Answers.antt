@@ -25,7 +25,7 @@ returns-then-number-ne0-clause-value c = let x = c.args in
     let P = x.pool.now in
     let O = x.own.now in
     let e = c.lower-number.ensures ∙ ap₂ lower c.ends_number.ensures
-    c.check.ensures in
+    (c.number-waiting.ensures ∙ c.check.ensures) in
     let h = c.if-number-ne0.true in
     let f = e ∙ send_first_lem R P O x.node (λ z. h (e ∙ z)) in
     let o = step (station_of (sending R P O)) (send x.node x.to x.object) in c.refused.ensures ∙ told_first _ _ o f h
@@ -36,14 +36,14 @@ returns-then-number-ne0-clause-pool_after c = let x = c.args in
     let P = x.pool.now in
     let O = x.own.now in
     let e = c.lower-number.ensures ∙ ap₂ lower c.ends_number.ensures
-    c.check.ensures in
+    (c.number-waiting.ensures ∙ c.check.ensures) in
     let h = c.if-number-ne0.true in
     let f = e ∙ send_first_lem R P O x.node (λ z. h (e ∙ z)) in
     let o = step (station_of (sending R P O)) (send x.node x.to x.object) in pool_first _ _ o P f h
 
 pub write_at-w-requires : goal.write_at-w-requires
 write_at-w-requires c = let x = c.args in
-    let early = ap₂ lower (sym c.ends_number.ensures) (sym c.check.ensures)
+    let early = ap₂ lower (sym c.ends_number.ensures) (sym (c.number-waiting.ensures ∙ c.check.ensures))
     ∙ sym c.lower-number.ensures ∙ c.if-number-ne0.false in
     (ends_long x.records.now x.own.now x.node (lower_none _ _ early).0, search rules)
 
@@ -52,7 +52,7 @@ returns-then-w-eq-DAMAGED-clause-value c = let x = c.args in
     let R = x.records.now in
     let P = x.pool.now in
     let O = x.own.now in
-    let early = ap₂ lower (sym c.ends_number.ensures) (sym c.check.ensures)
+    let early = ap₂ lower (sym c.ends_number.ensures) (sym (c.number-waiting.ensures ∙ c.check.ensures))
     ∙ sym c.lower-number.ensures ∙ c.if-number-ne0.false in
     let d = owed_two R x.node x.to x.object _ c.write_at-w.ensures.value c.if-w-eq-DAMAGED.true in
     let g : send_first (sending R P O) x.node ≡ 2 = send_next R P O x.node early ∙ simp d in
@@ -65,7 +65,7 @@ returns-then-w-eq-DAMAGED-clause-pool_after c = let x = c.args in
     let R = x.records.now in
     let P = x.pool.now in
     let O = x.own.now in
-    let early = ap₂ lower (sym c.ends_number.ensures) (sym c.check.ensures)
+    let early = ap₂ lower (sym c.ends_number.ensures) (sym (c.number-waiting.ensures ∙ c.check.ensures))
     ∙ sym c.lower-number.ensures ∙ c.if-number-ne0.false in
     let d = owed_two R x.node x.to x.object _ c.write_at-w.ensures.value c.if-w-eq-DAMAGED.true in
     let g : send_first (sending R P O) x.node ≡ 2 = send_next R P O x.node early ∙ simp d in
@@ -78,7 +78,7 @@ returns-then-not-has-clause-value c = let x = c.args in
     let R = x.records.now in
     let P = x.pool.now in
     let O = x.own.now in
-    let early = ap₂ lower (sym c.ends_number.ensures) (sym c.check.ensures)
+    let early = ap₂ lower (sym c.ends_number.ensures) (sym (c.number-waiting.ensures ∙ c.check.ensures))
     ∙ sym c.lower-number.ensures ∙ c.if-number-ne0.false in
     let due = owed_due R x.node x.to x.object _ c.write_at-w.ensures.value c.if-w-eq-DAMAGED.false in
     let w = due.1 in
@@ -94,7 +94,7 @@ returns-then-not-has-clause-pool_after c = let x = c.args in
     let R = x.records.now in
     let P = x.pool.now in
     let O = x.own.now in
-    let early = ap₂ lower (sym c.ends_number.ensures) (sym c.check.ensures)
+    let early = ap₂ lower (sym c.ends_number.ensures) (sym (c.number-waiting.ensures ∙ c.check.ensures))
     ∙ sym c.lower-number.ensures ∙ c.if-number-ne0.false in
     let due = owed_due R x.node x.to x.object _ c.write_at-w.ensures.value c.if-w-eq-DAMAGED.false in
     let w = due.1 in
@@ -109,7 +109,7 @@ returns-then-w-ne0-clause-value c = let x = c.args in
     let R = x.records.now in
     let P = x.pool.now in
     let O = x.own.now in
-    let early = ap₂ lower (sym c.ends_number.ensures) (sym c.check.ensures) ∙ sym c.lower-number.ensures
+    let early = ap₂ lower (sym c.ends_number.ensures) (sym (c.number-waiting.ensures ∙ c.check.ensures)) ∙ sym c.lower-number.ensures
     ∙ c.if-number-ne0.false in
     let due = owed_due R x.node x.to x.object _ c.write_at-w.ensures.value c.if-w-eq-DAMAGED.false in
     let w = due.1 in
@@ -125,7 +125,7 @@ returns-then-w-ne0-clause-pool_after c = let x = c.args in
     let R = x.records.now in
     let P = x.pool.now in
     let O = x.own.now in
-    let early = ap₂ lower (sym c.ends_number.ensures) (sym c.check.ensures) ∙ sym c.lower-number.ensures
+    let early = ap₂ lower (sym c.ends_number.ensures) (sym (c.number-waiting.ensures ∙ c.check.ensures)) ∙ sym c.lower-number.ensures
     ∙ c.if-number-ne0.false in
     let due = owed_due R x.node x.to x.object _ c.write_at-w.ensures.value c.if-w-eq-DAMAGED.false in
     let w = due.1 in
@@ -141,7 +141,7 @@ returns-then-count-ge-MOST_WAITING-clause-value c = let x = c.args in
     let R = x.records.now in
     let P = x.pool.now in
     let O = x.own.now in
-    let early = ap₂ lower (sym c.ends_number.ensures) (sym c.check.ensures)
+    let early = ap₂ lower (sym c.ends_number.ensures) (sym (c.number-waiting.ensures ∙ c.check.ensures))
     ∙ sym c.lower-number.ensures ∙ c.if-number-ne0.false in
     let due = owed_due R x.node x.to x.object _ c.write_at-w.ensures.value c.if-w-eq-DAMAGED.false in
     let w = due.1 in
@@ -159,7 +159,7 @@ returns-then-count-ge-MOST_WAITING-clause-pool_after c = let x = c.args in
     let R = x.records.now in
     let P = x.pool.now in
     let O = x.own.now in
-    let early = ap₂ lower (sym c.ends_number.ensures) (sym c.check.ensures)
+    let early = ap₂ lower (sym c.ends_number.ensures) (sym (c.number-waiting.ensures ∙ c.check.ensures))
     ∙ sym c.lower-number.ensures ∙ c.if-number-ne0.false in
     let due = owed_due R x.node x.to x.object _ c.write_at-w.ensures.value c.if-w-eq-DAMAGED.false in
     let w = due.1 in
@@ -194,7 +194,7 @@ returns-then-n-gt0-clause-value c = let x = c.args in
     let R = x.records.now in
     let P = x.pool.now in
     let O = x.own.now in
-    let early = ap₂ lower (sym c.ends_number.ensures) (sym c.check.ensures)
+    let early = ap₂ lower (sym c.ends_number.ensures) (sym (c.number-waiting.ensures ∙ c.check.ensures))
     ∙ sym c.lower-number.ensures ∙ c.if-number-ne0.false in
     let due = owed_due R x.node x.to x.object _ c.write_at-w.ensures.value c.if-w-eq-DAMAGED.false in
     let w = due.1 in
@@ -210,7 +210,7 @@ returns-then-n-gt0-clause-value c = let x = c.args in
     let out = c.write_at-w.ensures.out_after ∙ owed_put R x.node x.to x.object _ due.0 in
     let b = sent_both R P O x.node x.to x.object e _ w h f (let i = c.wide-n.ensures in let g = c.if-n-gt0.true in omega arith) p _ _
     (length-replicate {A = ℕ} longest_message 0) out _ c.wide-n.ensures in
-    c.refused-then-n-gt0.ensures ∙ ap (λ (k : ℕ). answer_with k 0) c.add.ensures.number ∙ b.0
+    c.refused-then-n-gt0.ensures ∙ ap (λ (k : ℕ). answer_with k 0) (c.number.ensures ∙ c.add.ensures.number) ∙ b.0
     ∙ started_told R P O x.node x.to x.object first
 
 pub returns-then-n-gt0-clause-pool_after : goal.returns-then-n-gt0-clause-pool_after
@@ -218,7 +218,7 @@ returns-then-n-gt0-clause-pool_after c = let x = c.args in
     let R = x.records.now in
     let P = x.pool.now in
     let O = x.own.now in
-    let early = ap₂ lower (sym c.ends_number.ensures) (sym c.check.ensures)
+    let early = ap₂ lower (sym c.ends_number.ensures) (sym (c.number-waiting.ensures ∙ c.check.ensures))
     ∙ sym c.lower-number.ensures ∙ c.if-number-ne0.false in
     let due = owed_due R x.node x.to x.object _ c.write_at-w.ensures.value c.if-w-eq-DAMAGED.false in
     let w = due.1 in
@@ -241,7 +241,7 @@ returns-clause-value c = let x = c.args in
     let R = x.records.now in
     let P = x.pool.now in
     let O = x.own.now in
-    let early = ap₂ lower (sym c.ends_number.ensures) (sym c.check.ensures)
+    let early = ap₂ lower (sym c.ends_number.ensures) (sym (c.number-waiting.ensures ∙ c.check.ensures))
     ∙ sym c.lower-number.ensures ∙ c.if-number-ne0.false in
     let due = owed_due R x.node x.to x.object _ c.write_at-w.ensures.value
     c.if-w-eq-DAMAGED.false in
@@ -263,7 +263,7 @@ returns-clause-pool_after c = let x = c.args in
     let R = x.records.now in
     let P = x.pool.now in
     let O = x.own.now in
-    let early = ap₂ lower (sym c.ends_number.ensures) (sym c.check.ensures)
+    let early = ap₂ lower (sym c.ends_number.ensures) (sym (c.number-waiting.ensures ∙ c.check.ensures))
     ∙ sym c.lower-number.ensures ∙ c.if-number-ne0.false in
     let due = owed_due R x.node x.to x.object _ c.write_at-w.ensures.value
     c.if-w-eq-DAMAGED.false in

@@ -27,17 +27,15 @@ pub returns-then-is_on-clause-value : goal.returns-then-is_on-clause-value
 unfolding step
 returns-then-is_on-clause-value c = let x = c.args in
     let t = on_is x.records.now x.own.now x.node (sym c.is_on.ensures ∙ c.if-is_on.true) in
-    let w = c.found-c.ensures in
     let f : Coordinator → Step = λ k. found_of tree k x.node x.object in
-    let i = c.wide-start.ensures in (on_lent x.records.now x.own.now x.node f t _ i _ w.value _ w.bytes_after _ c.answered.ensures).0
+    let i = c.wide-start.ensures in (on_lent x.records.now x.own.now x.node f t _ i _ (c.from-c.ensures ∙ c.found.ensures.value) _ c.found.ensures.bytes_after _ c.answered.ensures).0
 
 pub returns-then-is_on-clause-records_after : goal.returns-then-is_on-clause-records_after
 unfolding step
 returns-then-is_on-clause-records_after c = let x = c.args in
     let t = on_is x.records.now x.own.now x.node (sym c.is_on.ensures ∙ c.if-is_on.true) in
-    let w = c.found-c.ensures in
     let f : Coordinator → Step = λ k. found_of tree k x.node x.object in
-    let i = c.wide-start.ensures in (on_lent x.records.now x.own.now x.node f t _ i _ w.value _ w.bytes_after _ c.answered.ensures).1
+    let i = c.wide-start.ensures in (on_lent x.records.now x.own.now x.node f t _ i _ (c.from-c.ensures ∙ c.found.ensures.value) _ c.found.ensures.bytes_after _ c.answered.ensures).1
 
 pub returns-then-number-ne0-clause-value : goal.returns-then-number-ne0-clause-value
 returns-then-number-ne0-clause-value c = let x = c.args in
@@ -71,8 +69,8 @@ returns-then-node-ge-NODES_END-clause-records_after c = let x = c.args in
     let h : nodes ≤ x.node = omega (arith, above) in (off_stranger x.records.now x.own.now x.node e z (found_of tree k x.node x.object) above
     (step_stranger (found_refusals tree k x.node x.object) _ _ _ (simp (le-ltb x.node nodes h))) _ c.refused-then-node-ge-NODES_END.ensures).1
 
-pub slice_bounds-found_number-end : goal.slice_bounds-found_number-end
-slice_bounds-found_number-end c = let x = c.args in
+pub slice_bounds-may_tell-end : goal.slice_bounds-may_tell-end
+slice_bounds-may_tell-end c = let x = c.args in
     let l = ends_long x.records.now x.own.now x.node
     (sym c.ends_number-number.ensures ∙ c.if-number-ne0.false) in
     let n = c.if-node-ge-NODES_END.false in
@@ -89,7 +87,7 @@ returns-clause-value c = let x = c.args in
     let h : x.node < nodes = omega (arith, c.if-node-ge-NODES_END.false)
     in (off_lent x.records.now x.own.now x.node e z f h (step_not_two (found_refusals tree k x.node x.object) _ _ _ tt) _
     c.wide-start-2.ensures _
-    c.found_number-alone.ensures _ c.off_number.ensures _ c.refused-2.ensures).0
+    (c.number-alone.ensures ∙ c.may_tell.ensures) _ c.off_number.ensures _ c.refused-2.ensures).0
 
 pub returns-clause-records_after : goal.returns-clause-records_after
 unfolding step found_refusals found_of
@@ -101,4 +99,4 @@ returns-clause-records_after c = let x = c.args in
     let h : x.node < nodes = omega (arith, c.if-node-ge-NODES_END.false)
     in (off_lent x.records.now x.own.now x.node e z f h (step_not_two (found_refusals tree k x.node x.object) _ _ _ tt) _
     c.wide-start-2.ensures _
-    c.found_number-alone.ensures _ c.off_number.ensures _ c.refused-2.ensures).1
+    (c.number-alone.ensures ∙ c.may_tell.ensures) _ c.off_number.ensures _ c.refused-2.ensures).1
