@@ -15,7 +15,7 @@ use coordinator::{
     ABORTED, COMMITTED, Coordinator, FINISHED, FINISHING, NOTHING, OPEN, Object, READY, Step,
     VOTING, at_place, awaited_by, idle_with, is_ready, place, refused, with_aborted, with_object,
 };
-use numbers::{MOST_OPEN, NODES, NODES_END, both, either, pick, refuse};
+use numbers::{MOST_OPEN, NODES, NODES_END, refuse};
 use wire::{Entry, Rival};
 
 // What a delivery brought about.
@@ -62,9 +62,9 @@ fn copy_fits(c: Coordinator, m: &[u8]) -> bool
 {
     let e = wire::nth_entry(m, 0);
     let x = at_place(c, e.object);
-    let wanted = both(e.mode == x.mode, !is_ready(x));
-    let here = both(place(c, e.object) < MOST_OPEN, wanted);
-    both(is_answer(c, OPEN, c.contacted, m), here)
+    let open = place(c, e.object) < MOST_OPEN;
+    let wanted = e.mode == x.mode && !is_ready(x);
+    is_answer(c, OPEN, c.contacted, m) && open && wanted
 }
 
 #[tactic(auto, unfolding(crate::specs::Receive::copy_taken))]
@@ -74,7 +74,7 @@ fn take_copy(c: Coordinator, m: &[u8]) -> Step
     if copy_fits(c, m) {
         let e = wire::nth_entry(m, 0);
         let x = copied(at_place(c, e.object), wire::from(m), e);
-        let what = pick(is_ready(x), READY, NOTHING);
+        let what = if is_ready(x) { READY } else { NOTHING };
         bring(what, with_object(c, place(c, e.object), x))
     } else {
         bring(NOTHING, c)
@@ -134,10 +134,8 @@ fn take_yield(c: Coordinator, m: &[u8]) -> Step
     ensures { result ≡ yield_taken c m.now }
 {
     let r = wire::nth_rival(m, 0);
-    if both(
-        either(c.phase == OPEN, c.phase == VOTING),
-        r.serial == c.serial,
-    ) {
+    let asked = c.phase == OPEN || c.phase == VOTING;
+    if asked && r.serial == c.serial {
         bring(ABORTED, with_aborted(c))
     } else {
         bring(NOTHING, c)
@@ -201,14 +199,11 @@ pub fn receive_number(me: u8, m: &[u8]) -> u8
     ensures { (c : Coordinator) → result ≡ first_of (receive_refusals c me m.now) }
 {
     let kind = wire::kind(m);
-    let other = either(
-        kind == wire::FETCH,
-        either(kind == wire::ASK, kind == wire::OUTCOME),
-    );
+    let other = kind == wire::FETCH || kind == wire::ASK || kind == wire::OUTCOME;
     let turn = refuse(numbers::OUT_OF_TURN, other, 0);
     let stranger = refuse(
         numbers::STRANGER,
-        either(!(me < NODES_END), !(wire::to(m) == me)),
+        NODES_END <= me || wire::to(m) != me,
         turn,
     );
     let checked = wire::check(m);

@@ -9,14 +9,14 @@ use crate::Received;
 use crate::answer::silence;
 use crate::steps::{ask, fetch, outcome};
 use judge::{AHEAD, is_active, standing};
-use numbers::{both, either};
+use numbers::both;
 
 // A commit needs late or held; an abort anything but ahead.
 #[tactic(auto, unfolding(crate::specs::Receive::outcome_wrong_turn))]
 fn outcome_wrong_turn(word: u8, s: u8) -> bool
     ensures { result ≡ outcome_wrong_turn word s }
 {
-    let fits = either(s == image::OVER, s == image::HELD);
+    let fits = s == image::OVER || s == image::HELD;
     if word == 1 { !fits } else { s == AHEAD }
 }
 
@@ -40,10 +40,7 @@ fn refusal(image: &[u8], me: u8, message: &[u8], size: usize) -> u8
 {
     let i = image::check(image);
     let w = wire::check(message);
-    if either(
-        size < numbers::LONGEST_MESSAGE,
-        either(i == numbers::LENGTH, w == numbers::LENGTH),
-    ) {
+    if size < numbers::LONGEST_MESSAGE || i == numbers::LENGTH || w == numbers::LENGTH {
         return numbers::LENGTH;
     }
     if i == numbers::DAMAGED {
@@ -52,7 +49,7 @@ fn refusal(image: &[u8], me: u8, message: &[u8], size: usize) -> u8
     if w == numbers::GARBLED {
         return numbers::GARBLED;
     }
-    if either(12 < me, wire::to(message) != me) {
+    if numbers::NODES_END <= me || wire::to(message) != me {
         return numbers::STRANGER;
     }
     if wrong_turn(image, message) {
@@ -105,7 +102,7 @@ fn speaks(image: &[u8], message: &[u8]) -> bool
     let s = standing(image, message);
     match wire::kind(message) {
         1 => active,
-        3 => either(active, either(s == image::HELD, s == image::REFUSED)),
+        3 => active || s == image::HELD || s == image::REFUSED,
         5 => true,
         _ => false,
     }
