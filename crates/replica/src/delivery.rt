@@ -10,14 +10,14 @@ use crate::Received;
 use crate::answer::silence;
 use crate::steps::{ask, fetch, outcome};
 use judge::{AHEAD, is_active, standing};
-use numbers::{LONGEST_MESSAGE, NODES_END, Refusal, both, either};
+use numbers::{LONGEST_MESSAGE, NODES_END, Refusal};
 
 // A commit needs late or held; an abort anything but ahead.
 #[tactic(auto, unfolding(crate::specs::Receive::outcome_wrong_turn))]
 fn outcome_wrong_turn(word: u8, s: u8) -> bool
     ensures { result ≡ outcome_wrong_turn word s }
 {
-    let fits = either(s == image::OVER, s == image::HELD);
+    let fits = s == image::OVER || s == image::HELD;
     if word == 1 { !fits } else { s == AHEAD }
 }
 
@@ -35,7 +35,7 @@ fn wrong_turn(image: &[u8], message: &[u8]) -> bool
 }
 
 // Whether a message may be delivered, with room of a size for an answer.
-#[tactic(auto, unfolding(crate::specs::Receive::refusal, crate::specs::Receive::refusals))]
+#[tactic(auto, unfolding(crate::specs::Receive::refusal, crate::specs::Receive::refusals, wire::specs::Decode::decode))]
 fn may_deliver(image: &[u8], me: u8, message: &[u8], size: usize) -> Result<(), Refusal>
     ensures { number_of result ≡ refusal size image.now me message.now }
 {
@@ -100,7 +100,7 @@ fn speaks(image: &[u8], message: &[u8]) -> bool
     let s = standing(image, message);
     match wire::kind(message) {
         1 => active,
-        3 => either(active, either(s == image::HELD, s == image::REFUSED)),
+        3 => active || s == image::HELD || s == image::REFUSED,
         5 => true,
         _ => false,
     }

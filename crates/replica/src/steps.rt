@@ -40,7 +40,6 @@ pub(crate) fn fetch(image: &mut [u8], me: u8, message: &[u8], answer: &mut [u8])
 }
 
 // A listed ask: a no leaves it refused; a yes holds what it writes and names the rivals. Either way the owner leaves all lists, if it was `listed` before.
-#[tactic(auto, unfolding(wire::specs::Decode::decode, crate::specs::Given::written_as, crate::specs::Given::filled_by, crate::specs::Steps::judged_image, crate::specs::Steps::judged_answer))]
 fn judge(
     image: &mut [u8],
     me: u8,

@@ -24,7 +24,10 @@ returns-then-bound-low c = let l = c.loop-i in
     let g = c.get_u16-bound.ensures in
     let e = items_step (get 2) 2 t (bound_count t - l.i) (1 + 2 * l.i) (omega arith) in
     rise_stop l.low (get 2 t (1 + 2 * l.i)) _ _ _ e
-    (elim c.then-bound-low.branch [ then-bound-low-via-then-bound-low w ↦ λ h. omega (arith, g) | then-bound-low-via-else-bound-low+then-bound-ge-TOO_HEAVY w ↦ λ h. absurd (omega (arith, g)) ])
+    (elim c.then-bound-low.branch [
+      | then-bound-low-via-then-bound-low w ↦ λ h. omega (arith, g)
+      | then-bound-low-via-else-bound-low+then-bound-ge-TOO_HEAVY w ↦ λ h. absurd (omega (arith, g))
+    ])
     l.invariant
 
 pub loop-i-preserved : goal.loop-i-preserved
