@@ -192,7 +192,8 @@ fn ask(bytes: &mut [u8], adding: bool, me: u8) -> Called
         return refused(number);
     }
     if increments::any_past(bytes) {
-        deeds::abort(bytes, me);
+        // A transaction that may be asked for votes may be given up.
+        let _ = deeds::abort(bytes, me);
         return Called {
             number: numbers::USED_UP,
             answer: GIVEN_UP,

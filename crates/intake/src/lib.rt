@@ -98,7 +98,8 @@ fn fill(old: &[u8], s: Older, image: &mut [u8])
     requires { Fits s × (length image.old ≡ image_size shape) }
     ensures { image.new ≡ taken_in (shape_of s) old.now }
 {
-    image::blank(image);
+    // Bytes of an image's length are never refused.
+    let _ = image::blank(image);
     set_copies(old, s, image);
     set_owners(old, s, image);
 }
@@ -108,7 +109,7 @@ fn is_valid(old: &[u8], s: Older, image: &[u8]) -> bool
     requires { Fits s × (image.now ≡ taken_in (shape_of s) old.now) }
     ensures { result ≡ valid (shape_of s) old.now }
 {
-    counts_ok(old, s) && image::check(image).is_ok()
+    both(counts_ok(old, s), image::check(image).is_ok())
 }
 
 // Takes in `old`, an image of an older length: writes it into `image`, as one of today's. 1 where `old` has no older length or `image` not

@@ -178,9 +178,11 @@ fn put_choice(out: &mut [u8], at: usize, choice: Option<Quorum>) -> usize
     match choice {
         None => decimal::append(out, at, b"- -"),
         Some(quorum) => {
-            let a = decimal::put(out, at, u64::from(quorum.mask));
+            let mask = u64::from(quorum.mask);
+            let sum = u64::from(quorum.sum);
+            let a = decimal::put(out, at, mask);
             let b = decimal::append(out, a, b" ");
-            decimal::put(out, b, u64::from(quorum.sum))
+            decimal::put(out, b, sum)
         }
     }
 }

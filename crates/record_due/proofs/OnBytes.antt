@@ -1,5 +1,5 @@
 -- What is due, on bytes: refused, nothing is written; else what is due by value.
-use mathlib.Core.Path.{◌≡◌, refl, ap, ◌∙◌}
+use mathlib.Core.Path.{◌≡◌, refl, sym, ap, ◌∙◌}
 use mathlib.Core.Bool.{Bool, true, false, cond, ◌&&◌, ◌||◌}
 use mathlib.Core.List.{List}
 use Prim.Native.Nat.{ℕ, ◌≤◌}
@@ -65,3 +65,21 @@ due_clear l size e =
     let a = neither_left (eqb (check l) 1) (ltb size longest_message) p.0 in
     let b = neither_right (eqb (check l) 1) (ltb size longest_message) p.0 in
     (clear l (eqb-false (check l) 1 a) (eqb-false (check l) 2 p.1), ltb-false size longest_message b)
+
+-- the number of bytes is 0, 1 or 2
+told_twice : (a b : Bool)
+    → ◌≡◌ {A = ℕ} (cond a (cond b 0 2) 1) (cond (eqb (cond a (cond b 0 2) 1) 1) 1 (cond (eqb (cond a (cond b 0 2) 1) 2) 2 0))
+told_twice true true = refl
+told_twice true false = refl
+told_twice false b = refl
+
+or_none : (b : Bool) → b ≡ (b || false)
+or_none true = refl
+or_none false = refl
+
+pub due_check : (l : List ℕ) (size : ℕ) → ltb size longest_message ≡ false → check l ≡ first_of (due_first l size)
+unfolding check due_first
+due_check l size t =
+    told_twice (eqb (length l) record_size) (given_ok most_open l && meets tree (record_of l))
+    ∙ ap (λ (b : Bool). cond b 1 (cond (eqb (check l) 2) 2 0)) (or_none (eqb (check l) 1))
+    ∙ ap (λ (b : Bool). cond (eqb (check l) 1 || b) 1 (cond (eqb (check l) 2) 2 0)) (sym t)

@@ -15,3 +15,4 @@ pub mod Holders
 pub mod Commits
 pub mod Repeat
 pub mod Told
+pub mod Refused

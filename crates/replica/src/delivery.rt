@@ -35,11 +35,14 @@ fn wrong_turn(image: &[u8], message: &[u8]) -> bool
 }
 
 // Whether a message may be delivered, with room of a size for an answer.
-#[tactic(auto, unfolding(crate::specs::Receive::refusal, crate::specs::Receive::refusals, wire::specs::Decode::decode))]
+#[tactic(auto, using(crate::proofs::Refused::short_image, crate::proofs::Refused::damaged_image, crate::proofs::Refused::garbled_message), unfolding(crate::specs::Receive::refusal, crate::specs::Receive::refusals, wire::specs::Decode::decode))]
 fn may_deliver(image: &[u8], me: u8, message: &[u8], size: usize) -> Result<(), Refusal>
     ensures { number_of result ≡ refusal size image.now me message.now }
 {
-    if size < LONGEST_MESSAGE || image.len() != image::SIZE || !wire::has_length(message) {
+    if size < LONGEST_MESSAGE {
+        return Err(Refusal::Length);
+    }
+    if image.len() != image::SIZE || !wire::has_length(message) {
         return Err(Refusal::Length);
     }
     image::check(image)?;
@@ -111,5 +114,8 @@ fn speaks(image: &[u8], message: &[u8]) -> bool
 pub fn answers(image: &[u8], me: u8, message: &[u8]) -> bool
     ensures { result ≡ spoken (deliver longest_message image.now me message.now).answer }
 {
-    may_deliver(image, me, message, LONGEST_MESSAGE).is_ok() && speaks(image, message)
+    match may_deliver(image, me, message, LONGEST_MESSAGE) {
+        Ok(()) => speaks(image, message),
+        Err(_) => false,
+    }
 }

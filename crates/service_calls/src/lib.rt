@@ -114,7 +114,8 @@ pub fn load_hours(own: &[u8], settings: &mut [u8], node: u8, list: &[u8]) -> Ans
     if mask::has(on(own), node) {
         let start = settings::SETTINGS * wide(node);
         let end = start + settings::SETTINGS;
-        settings::load_hours(&mut settings[start..end], list);
+        // What refuses it was answered above.
+        let _ = settings::load_hours(&mut settings[start..end], list);
         return refused(0);
     }
     refused(numbers::OUT_OF_TURN)

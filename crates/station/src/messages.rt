@@ -97,7 +97,8 @@ pub(crate) fn take_out(pool: &mut [u8], k: u8, kept: bool)
     ensures { pool.new ≡ leaving pool.old k kept }
 {
     if !kept {
-        pool::remove(pool, k);
+        // A message that waits is never refused.
+        let _ = pool::remove(pool, k);
     }
 }
 
@@ -108,6 +109,7 @@ pub(crate) fn exchange(pool: &mut [u8], k: u8, kept: bool, answer: &[u8])
 {
     take_out(pool, k, kept);
     if 0 < answer.len() {
-        pool::add(pool, answer);
+        // Where there is no room, the answer is not kept: a delivery that would need it was refused before.
+        let _ = pool::add(pool, answer);
     }
 }

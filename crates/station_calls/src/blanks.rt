@@ -26,7 +26,8 @@ fn blank_images(images: &mut [u8])
     while n < NODES {
         let start = image::SIZE * n;
         let end = start + image::SIZE;
-        image::blank(&mut images[start..end]);
+        // A part of an image's length is never refused.
+        let _ = image::blank(&mut images[start..end]);
         n += 1;
     }
 }
@@ -40,7 +41,8 @@ fn blank_records(records: &mut [u8])
     while n < NODES {
         let start = record::SIZE * n;
         let end = start + record::SIZE;
-        record::blank(&mut records[start..end]);
+        // A part of a record's length is never refused.
+        let _ = record::blank(&mut records[start..end]);
         n += 1;
     }
 }
@@ -59,7 +61,8 @@ pub fn blank(images: &mut [u8], records: &mut [u8], pool: &mut [u8], own: &mut [
     }
     blank_images(images);
     blank_records(records);
-    pool::blank(pool);
+    // A pool of its length is never refused.
+    let _ = pool::blank(pool);
     octets::put_u16(own, 0, on);
     0
 }
