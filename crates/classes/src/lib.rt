@@ -8,7 +8,7 @@ ghost use Rattle.classes.specs.Classes.{most_bounds, most_classes, too_heavy, bo
 ghost use Rattle.classes.specs.Classes.{strange, rising, unbounded, has, twice, length_number, table_number, no_table, sound, class_of};
 ghost use Rattle.classes.specs.Weights.{weight_count, weights, batch_length, overweight, weighed, count_up, tallies_of, grams_of, left_of};
 
-use numbers::{pick, refuse};
+use numbers::refuse;
 use std::array;
 
 // The bytes in which a node keeps its table.
@@ -53,7 +53,11 @@ pub fn length_number(list: &[u8]) -> u8
     ensures { result ≡ length_number list.now }
 {
     let size = objects_place(list) + 1 + count(list);
-    pick(list.len() == size, 0, numbers::LENGTH)
+    if list.len() == size {
+        0
+    } else {
+        numbers::LENGTH
+    }
 }
 
 // Whether a tally is none.
@@ -175,7 +179,12 @@ fn weight_count(list: &[u8]) -> usize
 pub fn batch_length(list: &[u8]) -> u8
     ensures { result ≡ batch_length list.now }
 {
-    pick(list.len() == 2 + 2 * weight_count(list), 0, numbers::LENGTH)
+    let size = 2 + 2 * weight_count(list);
+    if list.len() == size {
+        0
+    } else {
+        numbers::LENGTH
+    }
 }
 
 // Whether every weight is one.
