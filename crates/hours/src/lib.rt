@@ -6,7 +6,7 @@ ghost use Rattle.wire.specs.Formed.{every};
 ghost use Rattle.hours.specs.Hours.{window_count, dates_place, date_count, windows, dates, window_ok, faulty, table_number, any_of, in_window, closed_by};
 ghost use Rattle.hours.specs.Kept.{kept_size, stored, kept_number, load_number, load_after, closed};
 
-use numbers::{either, refuse};
+use numbers::refuse;
 
 // The bytes in which a node keeps its hours.
 pub const KEPT: usize = 187;
@@ -110,7 +110,7 @@ pub fn check(kept: &[u8]) -> u8
     if kept.len() != KEPT {
         return numbers::LENGTH;
     }
-    let bad = either(1 < octets::get_u8(kept, 0), is_faulty(&kept[1..]));
+    let bad = 1 < octets::get_u8(kept, 0) || is_faulty(&kept[1..]);
     refuse(numbers::DAMAGED, bad, 0)
 }
 
