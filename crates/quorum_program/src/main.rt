@@ -19,6 +19,7 @@ fn answer(
 ) -> io::Result<ControlFlow<Line, Line>> {
     let mut l = line;
     let mut rest = input;
+    // Stays a while: how much of the rest a turn takes is known only behind it.
     while !rest.is_empty() {
         let fed = quorum_lines::feed(l, rest, out);
         if fed.used == 0 {
