@@ -210,7 +210,8 @@ fn reselect_number(c: Coordinator, me: u8, live: u16, chosen: Choice) -> u8
 }
 
 // The contacted nodes after a reselect: the new quorum joins if some object is open already.
-fn contacted_after(count: usize, contacted: u16, quorum: u16) -> u16
+// Ruled out: the new quorum left out though an object is open; a node contacted before left out.
+pub fn contacted_after(count: usize, contacted: u16, quorum: u16) -> u16
     ensures { result ≡ cond (eqb count 0) contacted (joined contacted quorum) }
 {
     if count == 0 {

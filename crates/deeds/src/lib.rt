@@ -1,10 +1,9 @@
 // The host's calls on the bytes of a record whose check passed: each finds its number, and changes the pieces of the record that it must.
 #![tactic(auto)]
 
-ghost use Rattle.std.specs.Prelude.{◌≡◌, cond, ◌≤◌, eqb, length};
+ghost use Rattle.std.specs.Prelude.{◌≡◌, ◌≤◌, length};
 ghost use Rattle.record.specs.Layout.{record_size};
 ghost use Rattle.numbers.specs.Sizes.{most_open};
-ghost use Rattle.mask.specs.Mask.{joined};
 ghost use Rattle.numbers.specs.Refusal.{first_of};
 ghost use Rattle.coordinator.specs.System.{tree};
 ghost use Rattle.coordinator.specs.Calls.{begin_refusals, begin_of, open_refusals, open_of, set_refusals, set_of, found_refusals, found_of};
@@ -22,13 +21,6 @@ use record::{
     CONTACTED, Called, LIVE, OBJECT_SIZE, OBJECTS_PLACE, OUTCOME, PARTICIPANTS, QUORUM, SERIAL,
     TIMESTAMP, refused, taken,
 };
-
-// A mask as an answer.
-fn wide(m: u16) -> u64
-    ensures { result ≡ m }
-{
-    m as u64
-}
 
 // The number of a begin. Ruled out: 5 for a record that is busy; 9 where no quorum was chosen.
 pub fn begin_refusal(bytes: &[u8], me: u8, w: BeginWith, chosen: Choice) -> u8
@@ -69,7 +61,7 @@ pub fn begin(bytes: &mut [u8], me: u8, w: BeginWith) -> Called
     put_front(bytes, serial, w.timestamp, outcome, OPEN, w.live);
     put_distances(bytes, distances);
     put_quorum(bytes, quorum, 0, 0);
-    taken(wide(quorum))
+    taken(u64::from(quorum))
 }
 
 // The number of an open. Ruled out: 0 for an object that is open already; 7 for a ninth one that is open already.
@@ -190,17 +182,6 @@ pub fn reselect_refusal(bytes: &[u8], me: u8, live: u16, chosen: Choice) -> u8
     )
 }
 
-// The contacted nodes after a reselect: the new quorum joins if some object is open already.
-fn contacted_after(count: usize, contacted: u16, quorum: u16) -> u16
-    ensures { result ≡ cond (eqb count 0) contacted (joined contacted quorum) }
-{
-    if count == 0 {
-        contacted
-    } else {
-        mask::join(contacted, quorum)
-    }
-}
-
 // Takes a fresh live mask and distances: they change, and with them the quorum and the contacted nodes. Ruled out: the distances kept as they were;
 // the new quorum not contacted though an object is open.
 // The condition is a plain fact of a record that was checked; only the crates that work on one use it, and each proves it.
@@ -216,11 +197,11 @@ pub fn reselect(bytes: &mut [u8], me: u8, live: u16, distances: [u16; NODES]) ->
     }
     let quorum = mask_of(chosen);
     let n = count(bytes);
-    let contacted = contacted_after(n, octets::get_u16(bytes, CONTACTED), quorum);
+    let contacted = coordinator::contacted_after(n, octets::get_u16(bytes, CONTACTED), quorum);
     octets::put_u16(bytes, LIVE, live);
     put_distances(bytes, distances);
     put_quorum(bytes, quorum, contacted, n);
-    taken(wide(quorum))
+    taken(u64::from(quorum))
 }
 
 // The number of a request to commit: 11, then 8, then 9.
@@ -273,7 +254,7 @@ pub fn request_commit(bytes: &mut [u8], me: u8) -> Called
     let participants = mask::join(mask_of(chosen), contacted);
     turn(bytes, octets::get_u8(bytes, OUTCOME), VOTING);
     octets::put_u16(bytes, PARTICIPANTS, participants);
-    taken(wide(participants))
+    taken(u64::from(participants))
 }
 
 // The number of an abort. Ruled out: 0 while finishing; 5 while voting.

@@ -9,7 +9,7 @@ ghost use Rattle.coordinator.specs.System.{tree};
 ghost use Rattle.arrivals.specs.Receive.{answers, copy_fits, copy_taken, vote_taken, done_taken, yield_taken, delivered, receive_refusals, receive_of};
 ghost use Rattle.record_arrive.specs.Change.{with_rivals, raised_by, yes_taken};
 ghost use Rattle.record.specs.Record.{record_of, bytes_of, check};
-ghost use Rattle.record.specs.Call.{told_by, kept};
+ghost use Rattle.record.specs.Call.{called, told_by, kept};
 
 use coordinator::{ABORTED, COMMITTED, FINISHED, FINISHING, NOTHING, OPEN, READY, VOTING};
 use numbers::{MOST_OPEN, both, either};
@@ -47,11 +47,18 @@ fn copy_fits(bytes: &[u8], m: &[u8]) -> bool
     both(place(bytes, e.object) < MOST_OPEN, wanted)
 }
 
+// A message that is taken: what it brought about.
+fn told(event: u8) -> Called
+    ensures { result ≡ called 0 event }
+{
+    taken(u64::from(event))
+}
+
 // What a copy brought about.
-fn ready_or_not(ready: bool) -> u64
+fn ready_or_not(ready: bool) -> u8
     ensures { result ≡ cond ready 3 0 }
 {
-    if ready { READY as u64 } else { NOTHING as u64 }
+    if ready { READY } else { NOTHING }
 }
 
 // A copy of an open object counts until the object is ready.
@@ -65,9 +72,9 @@ fn take_copy(bytes: &mut [u8], m: &[u8]) -> Called
         let p = place(bytes, e.object);
         let x = arrivals::copied(object_named(bytes, e.object), wire::from(m), e);
         put_object(bytes, OBJECTS_PLACE + OBJECT_SIZE * p, x);
-        return taken(ready_or_not(coordinator::is_ready(x)));
+        return told(ready_or_not(coordinator::is_ready(x)));
     }
-    taken(NOTHING as u64)
+    told(NOTHING)
 }
 
 // The rivals that a message names, each with the highest serial.
@@ -87,8 +94,7 @@ fn raise_rivals(bytes: &mut [u8], m: &[u8])
 fn is_agreed(participants: u16, agreed: u16) -> bool
     ensures { result ≡ within participants agreed }
 {
-    let voted = participants & agreed;
-    voted == participants
+    mask::subset(participants, agreed)
 }
 
 // A yes counts with its rivals, and the last one commits.
@@ -103,9 +109,9 @@ fn take_yes(bytes: &mut [u8], m: &[u8]) -> Called
     octets::put_u16(bytes, YES, agreed);
     if is_agreed(participants, agreed) {
         turn(bytes, COMMITTED, FINISHING);
-        return taken(COMMITTED as u64);
+        return told(COMMITTED);
     }
-    taken(NOTHING as u64)
+    told(NOTHING)
 }
 
 // A no aborts.
@@ -118,11 +124,11 @@ fn take_vote(bytes: &mut [u8], m: &[u8]) -> Called
     if is_answer(bytes, VOTING, participants, m) {
         if wire::word(m) == 0 {
             end_aborted(bytes);
-            return taken(ABORTED as u64);
+            return told(ABORTED);
         }
         return take_yes(bytes, m);
     }
-    taken(NOTHING as u64)
+    told(NOTHING)
 }
 
 // A done: the last one ends the transaction.
@@ -137,12 +143,12 @@ fn take_done(bytes: &mut [u8], m: &[u8]) -> Called
         if mask::subset(nodes, said) {
             let outcome = octets::get_u8(bytes, OUTCOME);
             become_idle(bytes, outcome);
-            return taken(FINISHED as u64);
+            return told(FINISHED);
         }
         octets::put_u16(bytes, DONE, said);
-        return taken(NOTHING as u64);
+        return told(NOTHING);
     }
-    taken(NOTHING as u64)
+    told(NOTHING)
 }
 
 // A yield that names this transaction aborts it while open or voting.
@@ -156,9 +162,9 @@ fn take_yield(bytes: &mut [u8], m: &[u8]) -> Called
     let named = r.serial == octets::get_u32(bytes, SERIAL);
     if both(either(at == OPEN, at == VOTING), named) {
         end_aborted(bytes);
-        return taken(ABORTED as u64);
+        return told(ABORTED);
     }
-    taken(NOTHING as u64)
+    told(NOTHING)
 }
 
 // The kind decides.
@@ -172,7 +178,7 @@ fn deliver(bytes: &mut [u8], m: &[u8]) -> Called
         wire::VOTE => take_vote(bytes, m),
         wire::DONE => take_done(bytes, m),
         wire::YIELD => take_yield(bytes, m),
-        _ => taken(NOTHING as u64),
+        _ => told(NOTHING),
     }
 }
 

@@ -58,7 +58,7 @@ returns-clause-value c = let x = c.args in
     let idle : k.phase ≡ 0 = eqb-true k.phase 0 (not-false _ free.1.0) in
     let small : Bytes l = λ j. omega (arith, c.slice_known-1.given j) in
     let m = c.mask_of-quorum.ensures ∙ ap mask_of c.nearest-chosen.ensures.value in
-    c.taken.ensures ∙ ap (called 0) (c.wide.ensures ∙ m) ∙ told_taken _ q k (begun k x.w q) l z
+    c.taken.ensures ∙ ap (called 0) (c.from.ensures ∙ m) ∙ told_taken _ q k (begun k x.w q) l z
 
 pub returns-clause-bytes_after : goal.returns-clause-bytes_after
 unfolding begin_of begin_refusals record_of

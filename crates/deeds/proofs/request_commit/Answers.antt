@@ -52,7 +52,7 @@ returns-clause-value c = let x = c.args in
     let all = c.join-participants.ensures
     ∙ ap (λ (m : ℕ). joined m c.get_u16-contacted.result) (c.mask_of.ensures ∙ ap mask_of near)
     ∙ ap (joined q) c.get_u16-contacted.ensures in
-    c.taken.ensures ∙ ap (called 0) (c.wide.ensures ∙ all) ∙ told_taken _ p k (requested k p) l z
+    c.taken.ensures ∙ ap (called 0) (c.from.ensures ∙ all) ∙ told_taken _ p k (requested k p) l z
 
 pub returns-clause-bytes_after : goal.returns-clause-bytes_after
 unfolding request_commit_of record_of

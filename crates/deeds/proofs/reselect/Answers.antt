@@ -46,7 +46,7 @@ returns-clause-value c = let x = c.args in
     ∙ c.if-number-ne0.false in
     let small : Bytes l = λ j. omega (arith, c.slice_known-1.given j) in
     let m = c.mask_of-quorum.ensures ∙ ap mask_of c.nearest-chosen.ensures.value in
-    c.taken.ensures ∙ ap (called 0) (c.wide.ensures ∙ m) ∙ told_taken _ q k d l z
+    c.taken.ensures ∙ ap (called 0) (c.from.ensures ∙ m) ∙ told_taken _ q k d l z
 
 pub returns-clause-bytes_after : goal.returns-clause-bytes_after
 unfolding reselect_of record_of

@@ -65,7 +65,7 @@ returns-in_default-clause-value c = let l = c.args.bytes.now in
     let n2 = ne_eqb _ 2 ne.0.0.0.1 in
     let n4 = ne_eqb _ 4 ne.0.0.1 in
     let n6 = ne_eqb _ 6 ne.0.1 in
-    let n7 = ne_eqb _ 7 ne.1 in c.taken.ensures ∙ simp (k, n2, n4, n6, n7)
+    let n7 = ne_eqb _ 7 ne.1 in c.told.ensures ∙ simp (k, n2, n4, n6, n7)
 
 pub returns-in_default-clause-bytes_after : goal.returns-in_default-clause-bytes_after
 unfolding delivered kept

@@ -43,7 +43,7 @@ returns-then-copy_fits-clause-value c = let x = c.args in
     let from = c.from.ensures in
     let named = c.object_named.ensures in
     let entry = c.nth_entry-e.ensures in
-    rw (c.taken.ensures, c.ready_or_not.ensures, c.is_ready.ensures, copied, from, named, entry) (simp t)
+    rw (c.told.ensures, c.ready_or_not.ensures, c.is_ready.ensures, copied, from, named, entry) (simp t)
 
 pub returns-then-copy_fits-clause-bytes_after : goal.returns-then-copy_fits-clause-bytes_after
 unfolding copy_taken kept
@@ -65,7 +65,7 @@ unfolding copy_taken kept
 returns-clause-value c = let x = c.args in
     let l = x.bytes.now in
     let small : Bytes l = λ j. omega (arith, c.slice_known-1.given j) in
-    let t = sym c.copy_fits.ensures ∙ c.if-copy_fits.false in c.taken-2.ensures ∙ simp t
+    let t = sym c.copy_fits.ensures ∙ c.if-copy_fits.false in c.told-2.ensures ∙ simp t
 
 pub returns-clause-bytes_after : goal.returns-clause-bytes_after
 unfolding copy_taken kept

@@ -21,7 +21,7 @@ returns-then-subset-clause-value c = let await = c.awaited_in-nodes.ensures in
     let single = c.single.ensures in
     let from = c.from.ensures in
     let before = c.get_u16.ensures in
-    let all = rw (await, join, single, from, before) at (sym c.subset.ensures ∙ c.if-subset.true) in c.taken.ensures ∙ simp (fits, all)
+    let all = rw (await, join, single, from, before) at (sym c.subset.ensures ∙ c.if-subset.true) in c.told.ensures ∙ simp (fits, all)
 
 pub returns-then-subset-clause-bytes_after : goal.returns-then-subset-clause-bytes_after
 unfolding done_taken with_done kept record_of
@@ -46,7 +46,7 @@ returns-then-is_answer-clause-value c = let x = c.args in
     let from = c.from.ensures in
     let before = c.get_u16.ensures in
     let all = rw (await, join, single, from, before) at (sym c.subset.ensures ∙ c.if-subset.false) in
-    c.taken-then-is_answer.ensures ∙ simp (fits, all)
+    c.told-then-is_answer.ensures ∙ simp (fits, all)
 
 pub returns-then-is_answer-clause-bytes_after : goal.returns-then-is_answer-clause-bytes_after
 unfolding done_taken with_done kept record_of
@@ -68,7 +68,7 @@ unfolding done_taken kept record_of
 returns-clause-value c = let x = c.args in
     let l = x.bytes.now in
     let small : Bytes l = λ j. omega (arith, c.slice_known-1.given j) in
-    let fits = rw c.awaited_in-nodes.ensures at (sym c.is_answer.ensures ∙ c.if-is_answer.false) in c.taken-2.ensures ∙ simp fits
+    let fits = rw c.awaited_in-nodes.ensures at (sym c.is_answer.ensures ∙ c.if-is_answer.false) in c.told-2.ensures ∙ simp fits
 
 pub returns-clause-bytes_after : goal.returns-clause-bytes_after
 unfolding done_taken kept record_of

@@ -13,7 +13,7 @@ use Rattle.record_arrive.proofs.arrive.take_vote.Goals as goal
 pub returns-then-word-eq0-clause-value : goal.returns-then-word-eq0-clause-value
 unfolding vote_taken kept record_of
 returns-then-word-eq0-clause-value c = let fits = rw c.get_u16-participants.ensures at (sym c.is_answer.ensures ∙ c.if-is_answer.true) in
-    let no = eq-eqb _ 0 (sym c.word.ensures ∙ c.if-word-eq0.true) in c.taken.ensures ∙ simp (fits, no)
+    let no = eq-eqb _ 0 (sym c.word.ensures ∙ c.if-word-eq0.true) in c.told.ensures ∙ simp (fits, no)
 
 pub returns-then-word-eq0-clause-bytes_after : goal.returns-then-word-eq0-clause-bytes_after
 unfolding vote_taken kept record_of
@@ -43,7 +43,7 @@ unfolding vote_taken kept record_of
 returns-clause-value c = let x = c.args in
     let l = x.bytes.now in
     let small : Bytes l = λ j. omega (arith, c.slice_known-1.given j) in
-    let fits = rw c.get_u16-participants.ensures at (sym c.is_answer.ensures ∙ c.if-is_answer.false) in c.taken-2.ensures ∙ simp fits
+    let fits = rw c.get_u16-participants.ensures at (sym c.is_answer.ensures ∙ c.if-is_answer.false) in c.told-2.ensures ∙ simp fits
 
 pub returns-clause-bytes_after : goal.returns-clause-bytes_after
 unfolding vote_taken kept record_of

@@ -18,7 +18,7 @@ returns-then-is_agreed-clause-value c = let x = c.args in
     let asked = c.get_u16-participants.ensures in
     let t = rw (join, single, from, said, asked) at (sym c.is_agreed.ensures ∙ c.if-is_agreed.true) in
     let w = yes_commits l small c.requires.0 x.m.now c.raise_rivals.ensures.m_len t in
-    let turned = c.turn.ensures in c.taken.ensures ∙ w.0
+    let turned = c.turn.ensures in c.told.ensures ∙ w.0
 
 pub returns-then-is_agreed-clause-bytes_after : goal.returns-then-is_agreed-clause-bytes_after
 unfolding record_of
@@ -45,7 +45,7 @@ returns-clause-value c = let x = c.args in
     let said = c.get_u16.ensures in
     let asked = c.get_u16-participants.ensures in
     let t = rw (join, single, from, said, asked) at (sym c.is_agreed.ensures ∙ c.if-is_agreed.false) in
-    let w = yes_waits l small c.requires.0 x.m.now c.raise_rivals.ensures.m_len t c.requires.1 in c.taken-2.ensures ∙ w.0
+    let w = yes_waits l small c.requires.0 x.m.now c.raise_rivals.ensures.m_len t c.requires.1 in c.told-2.ensures ∙ w.0
 
 pub returns-clause-bytes_after : goal.returns-clause-bytes_after
 unfolding record_of

@@ -13,7 +13,7 @@ unfolding yield_taken kept record_of
 returns-then-both-clause-value c = let both = sym c.both.ensures ∙ c.if-both.true in
     let serial = c.get_u32.ensures in
     let phase = c.phase-at.ensures in
-    let t = rw (c.either.ensures, serial, phase, c.nth_rival-r.ensures) at both in c.taken.ensures ∙ simp t
+    let t = rw (c.either.ensures, serial, phase, c.nth_rival-r.ensures) at both in c.told.ensures ∙ simp t
 
 pub returns-then-both-clause-bytes_after : goal.returns-then-both-clause-bytes_after
 unfolding yield_taken kept record_of
@@ -30,7 +30,7 @@ returns-clause-value c = let x = c.args in
     let both = sym c.both.ensures ∙ c.if-both.false in
     let serial = c.get_u32.ensures in
     let phase = c.phase-at.ensures in
-    let t = rw (c.either.ensures, serial, phase, c.nth_rival-r.ensures) at both in c.taken-2.ensures ∙ simp t
+    let t = rw (c.either.ensures, serial, phase, c.nth_rival-r.ensures) at both in c.told-2.ensures ∙ simp t
 
 pub returns-clause-bytes_after : goal.returns-clause-bytes_after
 unfolding yield_taken kept record_of
