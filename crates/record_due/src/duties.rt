@@ -1,5 +1,5 @@
 // What is due to a node, found on the bytes of a record and written as a message.
-ghost use Rattle.std.specs.Prelude.{◌≡◌, false, not, ◌&&◌, ◌||◌, ℕ, ◌≤◌, ◌<◌, eqb, ltb, length, get_or};
+ghost use Rattle.std.specs.Prelude.{◌≡◌, false, true, not, ◌&&◌, ◌||◌, ℕ, ◌≤◌, ◌<◌, eqb, ltb, length, get_or};
 ghost use Rattle.record.specs.Layout.{record_size};
 ghost use Rattle.numbers.specs.Sizes.{objects, most_open, longest_message};
 ghost use Rattle.letters.specs.Write.{written_of, buffer_after};
@@ -132,6 +132,7 @@ fn next_open(bytes: &[u8], lo: u8) -> u8
     requires lo_le_objects { lo ≤ objects }
     ensures lower_bound { (lo ≤ result) × (result ≤ objects) }
     ensures by_index { (n : ℕ) → lo ≤ n → n < result → is_open (record_of bytes.now) n ≡ false }
+    ensures found { result < objects → is_open (record_of bytes.now) result ≡ true }
 {
     let n = count(bytes);
     let mut m = OBJECTS_END;
@@ -151,22 +152,17 @@ fn entries_in(bytes: &[u8]) -> Gathered
 {
     let n = count(bytes);
     let mut entries = due::no_entries();
-    let mut k: usize = 0;
     let mut lo: u8 = 0;
-    // Stays a while: a turn that meets no open object goes on from the next number and leaves k.
-    while k < n {
+    for k in 0..n {
         let m = next_open(bytes, lo);
         if OBJECTS_END <= m {
             return Gathered { entries, count: k };
         }
         let p = place(bytes, m);
+        entries[k] = due::entry_for(object_at(bytes, p));
         lo = m + 1;
-        if p < MOST_OPEN {
-            entries[k] = due::entry_for(object_at(bytes, p));
-            k += 1;
-        }
     }
-    Gathered { entries, count: k }
+    Gathered { entries, count: n }
 }
 
 // An ask to a node.

@@ -3,7 +3,7 @@ use mathlib.Core.Path.{◌≡◌, subst}
 use native.Mathlib.Omega.{arith}
 use Rattle.record.specs.Record.{record_of}
 use Rattle.record.proofs.Stored.{readable}
-use Rattle.record_due.proofs.Gather.{Past, shut_between}
+use Rattle.record_due.proofs.Gather.{Past, Stands, shut_between, stands_open}
 use Rattle.record_due.proofs.duties.next_open.Goals as goal
 
 pub overflow_mul-x : goal.overflow_mul-x
@@ -22,4 +22,10 @@ pub returns-clause-by_index : goal.returns-clause-by_index
 returns-clause-by_index c = let x = c.args in
     let k = c.loop-i in
     let last : k.i ≡ (record_of x.bytes.now).count = omega (arith, c.count-n.ensures) in
-    shut_between x.bytes.now x.lo k.m (subst (Past x.bytes.now x.lo k.m) last k.invariant.1.1)
+    shut_between x.bytes.now x.lo k.m (subst (Past x.bytes.now x.lo k.m) last k.invariant.1.1.0)
+
+pub returns-clause-found : goal.returns-clause-found
+returns-clause-found c = let x = c.args in
+    let k = c.loop-i in
+    let last : k.i ≡ (record_of x.bytes.now).count = omega (arith, c.count-n.ensures) in
+    stands_open x.bytes.now c.requires.bytes_value k.m (subst (Stands x.bytes.now k.m) last k.invariant.1.1.1)
