@@ -1,7 +1,5 @@
 -- `telling::objects`: what the objects from place i on tell is what is left to tell.
 use mathlib.Core.Path.{◌≡◌}
-use Prim.Native.Nat.{◌-◌, ◌≤◌}
-use lib.ListN.{length}
 use Rattle.record.specs.Record.{record_of}
 use Rattle.telling.proofs.Turns.{told_from}
 use Rattle.telling.proofs.objects.Given as goal

@@ -6,14 +6,11 @@ use native.Mathlib.Omega.{arith}
 use native.Mathlib.Numerals.{add-one}
 use lib.ListN.{length}
 use borrow.Author.Tests.{eq-eqb}
-use Rattle.numbers.specs.Sizes.{nodes}
 use Rattle.parts.specs.Parts.{part, splice}
 use Rattle.parts.proofs.Laws.{lent, length_part}
 use Rattle.image.specs.Layout.{shape, image_size}
 use Rattle.image.specs.Blank.{blank_as, blank}
-use Rattle.image.proofs.Blanks.{length_blank}
 use Rattle.station_calls.specs.Calls.{each_part, images_blank}
-use Rattle.station_calls.proofs.Parted.{part_length}
 use Rattle.station_calls.proofs.blanks.blank_images.Goals as goal
 
 made : (l : List ℕ) → length l ≡ image_size shape → blank l ≡ blank_as shape
@@ -23,9 +20,6 @@ made l e = simp (eq-eqb (length l) (image_size shape) e)
 pub loop-n-init : goal.loop-n-init
 unfolding each_part
 loop-n-init c = refl
-
-pub slice_bounds-blank-end : goal.slice_bounds-blank-end
-slice_bounds-blank-end c = let l = c.loop-n.auto.images ∙ c.requires in let t = c.loop-n-test.true in omega arith
 
 pub loop-n-preserved : goal.loop-n-preserved
 unfolding each_part
@@ -42,8 +36,3 @@ loop-n-preserved c = let l = c.loop-n in
     (made (part (image_size shape) (image_size shape * n) l.images) q) in
     b ∙ ap (splice (image_size shape) (image_size shape * n) (blank_as shape)) l.invariant
     ∙ ap (λ (j : ℕ). images_blank j c.args.images.now) (sym (add-one n))
-
-pub returns : goal.returns
-returns c = let l = c.loop-n in
-    let e : l.n ≡ nodes = omega arith in
-    l.invariant ∙ ap (λ (j : ℕ). images_blank j c.args.images.now) e

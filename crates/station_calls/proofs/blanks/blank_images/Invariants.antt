@@ -1,9 +1,5 @@
 -- `station_calls::blanks::blank_images`: the images passed are blank.
 use mathlib.Core.Path.{◌≡◌}
-use Prim.Native.Nat.{◌-◌, ◌≤◌}
-use lib.ListN.{length}
-use Rattle.buffers.specs.Buffers.{images_size}
-use Rattle.numbers.specs.Sizes.{nodes}
 use Rattle.station_calls.specs.Calls.{images_blank}
 use Rattle.station_calls.proofs.blanks.blank_images.Given as goal
 

@@ -7,16 +7,12 @@ use native.Mathlib.Numerals.{add-one}
 use lib.ListN.{length}
 use borrow.Author.Tests.{eq-eqb}
 use Rattle.record.specs.Layout.{record_size}
-use Rattle.numbers.specs.Sizes.{nodes}
 use Rattle.parts.specs.Parts.{part, splice}
 use Rattle.parts.proofs.Laws.{lent, length_part}
 use Rattle.coordinator.specs.State.{blank_record}
 use Rattle.record.specs.Record.{bytes_of}
 use Rattle.record.specs.Call.{blank_after}
-use Rattle.record.proofs.Kept.{blank_checked}
-use Rattle.record.proofs.OnBytes.{checked_length}
 use Rattle.station_calls.specs.Calls.{each_part, records_blank}
-use Rattle.station_calls.proofs.Parted.{part_length}
 use Rattle.station_calls.proofs.blanks.blank_records.Goals as goal
 
 made : (l : List ℕ) → length l ≡ record_size → blank_after l ≡ bytes_of blank_record
@@ -26,9 +22,6 @@ made l e = simp (eq-eqb (length l) record_size e)
 pub loop-n-init : goal.loop-n-init
 unfolding each_part
 loop-n-init c = refl
-
-pub slice_bounds-blank-end : goal.slice_bounds-blank-end
-slice_bounds-blank-end c = let l = c.loop-n.auto.records ∙ c.requires in let t = c.loop-n-test.true in omega arith
 
 pub loop-n-preserved : goal.loop-n-preserved
 unfolding each_part
@@ -42,8 +35,3 @@ loop-n-preserved c = let l = c.loop-n in
     ∙ ap (λ (m : List ℕ). splice record_size (record_size * n) m l.records) (made (part record_size (record_size * n) l.records) q) in
     b ∙ ap (splice record_size (record_size * n) (bytes_of blank_record)) l.invariant
     ∙ ap (λ (j : ℕ). records_blank j c.args.records.now) (sym (add-one n))
-
-pub returns : goal.returns
-returns c = let l = c.loop-n in
-    let e : l.n ≡ nodes = omega arith in
-    l.invariant ∙ ap (λ (j : ℕ). records_blank j c.args.records.now) e
