@@ -10,7 +10,6 @@ ghost use Rattle.classes.specs.Classes.{strange, rising, unbounded, has, twice, 
 ghost use Rattle.classes.specs.Weights.{weight_count, weights, batch_length, overweight, weighed, count_up, tallies_of, grams_of, left_of};
 
 use numbers::Refusal;
-use numbers::refuse;
 use std::array;
 
 // The bytes in which a node keeps its table.

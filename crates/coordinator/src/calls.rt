@@ -252,7 +252,8 @@ fn may_reselect(
 }
 
 // The contacted nodes after a reselect: the new quorum joins if some object is open already.
-fn contacted_after(count: usize, contacted: u16, quorum: u16) -> u16
+// Ruled out: the new quorum left out though an object is open; a node contacted before left out.
+pub fn contacted_after(count: usize, contacted: u16, quorum: u16) -> u16
     ensures { result ≡ cond (eqb count 0) contacted (joined contacted quorum) }
 {
     if count == 0 {

@@ -7,8 +7,8 @@ mod common;
 mod objects;
 
 pub use calls::{
-    abort, awaited_by, begin, blank, found, open_read, open_write, request_commit, reselect,
-    set_value, with_aborted, with_object,
+    abort, awaited_by, begin, blank, contacted_after, found, open_read, open_write, request_commit,
+    reselect, set_value, with_aborted, with_object,
 };
 pub use common::idle_with;
 use numbers::{MOST_OPEN, NODES};

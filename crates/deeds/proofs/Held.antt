@@ -19,7 +19,7 @@ use Rattle.clauses.proofs.Facts.{Meets}
 use Rattle.clauses.proofs.Fits.{AllBelow, Fits}
 use Rattle.record.specs.Record.{record_of, bytes_of, check}
 use Rattle.record.specs.Call.{kept}
-use Rattle.record.proofs.RoundTrip.{record_bytes, bytes_small}
+use Rattle.record.proofs.RoundTrip.{record_bytes}
 use Rattle.record.proofs.Kept.{Keeps, checked_meets, checked_fits, same_bytes, bytes_checked}
 use Rattle.deeds.proofs.Number.{step_number}
 use Rattle.deeds.proofs.Kept.{begin_kept, open_kept, set_kept, request_kept, abort_kept}
@@ -37,9 +37,6 @@ checked_holds l b e = record { bytes = sym (same_bytes l b e); meets = checked_m
 module _ (l : List ℕ) (c : Coordinator) (h : Holds l c) where
   pub holds_checked : check l ≡ 0
   holds_checked = ap check h.bytes ∙ bytes_checked c h.meets h.fits
-
-  pub holds_small : Bytes l
-  holds_small = subst Bytes (sym h.bytes) (bytes_small c h.fits)
 
   pub holds_read : record_of l ≡ c
   holds_read = ap record_of h.bytes ∙ record_bytes c h.fits

@@ -212,17 +212,6 @@ pub fn may_reselect(
     chosen.ok_or(Refusal::NoQuorum)
 }
 
-// The contacted nodes after a reselect: the new quorum joins if some object is open already.
-fn contacted_after(count: usize, contacted: u16, quorum: u16) -> u16
-    ensures { result ≡ cond (eqb count 0) contacted (joined contacted quorum) }
-{
-    if count == 0 {
-        contacted
-    } else {
-        mask::join(contacted, quorum)
-    }
-}
-
 // Takes a fresh live mask and distances: they change, and with them the quorum and the contacted nodes. Ruled out: the distances kept as they were;
 // the new quorum not contacted though an object is open.
 // The condition is a plain fact of a record that was checked; only the crates that work on one use it, and each proves it.
@@ -240,7 +229,7 @@ pub fn reselect(
     let chosen = quorum::nearest(Kind::Read, me, live, &distances);
     let quorum = may_reselect(bytes, me, live, chosen)?.mask;
     let n = count(bytes);
-    let contacted = contacted_after(n, octets::get_u16(bytes, CONTACTED), quorum);
+    let contacted = coordinator::contacted_after(n, octets::get_u16(bytes, CONTACTED), quorum);
     octets::put_u16(bytes, LIVE, live);
     put_distances(bytes, distances);
     put_quorum(bytes, quorum, contacted, n);

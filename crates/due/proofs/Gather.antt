@@ -1,14 +1,14 @@
 -- A loop over the places marks where each object stands, and a loop over the objects gathers the entries into an array and a count.
 use mathlib.Core.Path.{◌≡◌, refl, sym, ap, subst, ◌∙◌}
-use mathlib.Core.Bool.{Bool, true, false, cond, ◌&&◌}
+use mathlib.Core.Bool.{Bool, true, false, ◌&&◌}
 use mathlib.Core.List.{List, [], ◌∷◌, ◌++◌}
-use Prim.Native.Nat.{ℕ, ◌+◌, ◌-◌, ◌<◌, ◌≤◌}
+use Prim.Native.Nat.{ℕ, ◌+◌, ◌<◌}
 use native.Mathlib.Numerals.{add-one}
 use native.Mathlib.Omega.{arith}
-use lib.Dec.{eqb, ltb}
-use borrow.Author.Tests.{eqb-true, eqb-false, ne_eqb, ltb-true, ltb-false}
+use lib.Dec.{ltb}
+use borrow.Author.Tests.{ltb-true}
 use lib.ListN.{length, get_or, drop, set, replicate, length-append, get_or-replicate}
-use lib.Seq.{take-suc-set, get_or-set_same, get_or-set_other}
+use lib.Seq.{take-suc-set}
 use Rattle.numbers.specs.Sizes.{objects as objectsEnd, most_open}
 use Rattle.wire.specs.declared.Entry.{Entry}
 use Rattle.letters.specs.Write.{first_entries}
@@ -16,8 +16,7 @@ use Rattle.letters.proofs.Sending.{entries_take}
 use Rattle.coordinator.specs.declared.Object.{Object}
 use Rattle.coordinator.specs.declared.Coordinator.{Coordinator}
 use Rattle.coordinator.specs.State.{no_object, across, here_else, place_in, place_of, object_at, is_open}
-use Rattle.coordinator.proofs.Across.{across_turn, across_start}
-use Rattle.clauses.proofs.Parts.{on_cond}
+use Rattle.coordinator.proofs.Across.{across_start}
 use Rattle.due.specs.declared.Gathered.{Gathered}
 use Rattle.due.specs.Gather.{Lists}
 use Rattle.due.specs.Due.{entry_for, with_next, entries_below}
@@ -71,33 +70,6 @@ pub marks_whole : (places : List ℕ) (objects : List Object) (count : ℕ) → 
     → (n : ℕ) → n < objectsEnd → get_or places n 0 ≡ place_in objects count n
 unfolding place_in
 marks_whole places objects count m n h = m n h
-
--- an object below the count that is there is marked, another is not looked for
-put_test : (a : Bool) (o n : ℕ) → (a && ltb o objectsEnd) ≡ true → (a && eqb o n) ≡ eqb o n
-put_test true o n t = refl
-put_test false o n t = absurd (let z : ◌≡◌ {A = ℕ} 0 1 = cc in let w : ⊥ = omega arith in w)
-
-keep_test : (a : Bool) (o n : ℕ) → n < objectsEnd → (a && ltb o objectsEnd) ≡ false → (a && eqb o n) ≡ false
-keep_test true o n h t = ne_eqb o n (λ e. omega (arith, ltb-false o objectsEnd t))
-keep_test false o n h t = refl
-
-module _ (places : List ℕ) (objects : List Object) (count i o : ℕ) (h : 0 < i) (k : i ≤ length objects)
-    (same : o ≡ (get_or objects (i - 1) no_object).object) (m : Marks places objects count i) where
-  abbrev found : ℕ → Bool → ℕ
-  found n t = cond t (i - 1) (across (here_else n count) most_open i (drop i objects))
-
-  turn : (n : ℕ) → across (here_else n count) most_open (i - 1) (drop (i - 1) objects) ≡ found n (ltb (i - 1) count && eqb o n)
-  turn n = across_turn (here_else n count) most_open objects i h k ∙ ap (λ (j : ℕ). found n (ltb (i - 1) count && eqb j n)) (sym same)
-
-  pub marks_put : o < length places → (ltb (i - 1) count && ltb o objectsEnd) ≡ true → Marks (set places o (i - 1)) objects count (i - 1)
-  marks_put l t n b =
-      on_cond (λ (p : ℕ). get_or (set places o (i - 1)) n 0 ≡ p) (eqb o n) (i - 1) (across (here_else n count) most_open i (drop i objects))
-      (λ e. ap (λ (j : ℕ). get_or (set places o (i - 1)) j 0) (sym (eqb-true o n e)) ∙ get_or-set_same places o (i - 1) 0 l)
-      (λ e. get_or-set_other places o n (i - 1) 0 (λ z. eqb-false o n e (sym z)) ∙ m n b)
-      ∙ sym (turn n ∙ ap (found n) (put_test (ltb (i - 1) count) o n t))
-
-  pub marks_keep : (ltb (i - 1) count && ltb o objectsEnd) ≡ false → Marks places objects count (i - 1)
-  marks_keep t n b = m n b ∙ sym (turn n ∙ ap (found n) (keep_test (ltb (i - 1) count) o n b t))
 
 -- ---- the entries of the objects below n, for every record with these objects at these places
 abbrev pub Gathers : List Object → List ℕ → List Entry → ℕ → ℕ → Type 0

@@ -40,7 +40,7 @@ fn voting_due(c: Coordinator, node: u8) -> u8
 pub fn rival_of(rivals: [u32; NODES], node: u8) -> u32
     ensures { result ≡ get_or rivals node 0 }
 {
-    let i = node as usize;
+    let i = usize::from(node);
     if i < NODES { rivals[i] } else { 0 }
 }
 

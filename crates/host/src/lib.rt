@@ -42,13 +42,7 @@ pub struct Author {
 fn distances_of(bytes: &[u8]) -> [u16; NODES]
     ensures { result ≡ distances_of bytes.now }
 {
-    let mut d = [0u16; NODES];
-    let mut i = 0;
-    while i < NODES {
-        d[i] = octets::get_u16(bytes, 2 * i);
-        i += 1;
-    }
-    d
+    std::array::from_fn(|i| octets::get_u16(bytes, 2 * i))
 }
 
 // A refused call's answer.
@@ -91,7 +85,7 @@ fn nearest(kind: Kind, live: u16, distances: &[u8], asker: u8) -> Chosen
 fn is_quorum(kind: Kind, mask: u16) -> u8
     ensures { result ≡ cond (is_quorum kind mask) 1 0 }
 {
-    if quorum::is_quorum(kind, mask) { 1 } else { 0 }
+    u8::from(quorum::is_quorum(kind, mask))
 }
 
 // Whether the set contains a read quorum: 1 or 0. Ruled out: 'yes' to two leaves of one hall; 'no' to the root alone.

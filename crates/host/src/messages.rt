@@ -71,7 +71,15 @@ pub fn senna_write_ask(
     ensures out_after { out.new ≡ buffer_after (ask_of to owner serial stamp entries.entry entries.count) out.old }
 {
     let list = entries.entry;
-    letters::write_ask(out, to, owner, serial, stamp, list, entries.count as usize)
+    letters::write_ask(
+        out,
+        to,
+        owner,
+        serial,
+        stamp,
+        list,
+        usize::from(entries.count),
+    )
 }
 
 pub fn senna_write_vote(
@@ -110,7 +118,7 @@ pub fn senna_write_outcome(
         serial,
         stamp,
         list,
-        entries.count as usize,
+        usize::from(entries.count),
         word,
     )
 }

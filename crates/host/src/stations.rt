@@ -404,7 +404,7 @@ pub fn senna_station_message(pool: &[u8], k: u8) -> Waiting
     if number != 0 {
         return not_there(number);
     }
-    if pool::count(pool) <= k as usize {
+    if pool::count(pool) <= usize::from(k) {
         return not_there(numbers::OUT_OF_TURN);
     }
     Waiting {

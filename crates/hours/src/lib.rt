@@ -8,7 +8,6 @@ ghost use Rattle.numbers.specs.Outcome.{number_of};
 ghost use Rattle.hours.specs.Kept.{kept_size, stored, kept_number, load_number, load_after, closed};
 
 use numbers::Refusal;
-use numbers::refuse;
 
 // The bytes in which a node keeps its hours.
 pub const KEPT: usize = 187;

@@ -13,6 +13,21 @@ use Rattle.std.specs.Fn.{Called}
 use Rattle.wire.specs.Decode.{items_from}
 use Rattle.wire.proofs.Accepted.{length_items}
 
+-- ---- what a closure gave that leaves itself as it was
+module _ {F A : Type 0} (g : Mut F (ℕ × Unit {0}) A) (f : F) (h : ℕ → A)
+    (gives : (i : ℕ) (y : A) (q : F) → Called g f (i, tt) y q → (q ≡ f) × (y ≡ h i)) (d : A) (a : List A) where
+  each_made : (n i j : ℕ) → IsFromFnResultFrom g f a i n → j < n → get_or a (i + j) d ≡ h (i + j)
+  each_made zero i j r k = absurd (let z : ⊥ = omega arith in z)
+  each_made (suc n) i zero (q, y, e, c, r) k = let z : i + 0 ≡ i = omega arith in rw z (e.1 d ∙ (gives i y q c).1)
+  each_made (suc n) i (suc j) (q, y, e, c, r) k =
+      let z : i + 1 + j ≡ i + suc j = omega arith in
+      let s : IsFromFnResultFrom g f a (i + 1) n = subst (λ (p : F). IsFromFnResultFrom g p a (i + 1) n) (gives i y q c).0 r in
+      rw z at (each_made n (i + 1) j s (omega arith))
+
+  pub made_at : (n j : ℕ) → IsFromFnResult g f a n → j < n → get_or a j d ≡ h j
+  made_at n j r k = let z : 0 + j ≡ j = omega arith in rw z at (each_made n 0 j r.each k)
+
+-- ---- items
 module _ {A : Type 0} (at : List ℕ → ℕ → A) (size : ℕ) (l : List ℕ) (d : A) where
   pub get_d_items : (n i j : ℕ) → j < n → get_or (items_from at size n l i) j d ≡ at l (i + size * j)
   unfolding items_from
@@ -33,16 +48,7 @@ module _ {A : Type 0} (at : List ℕ → ℕ → A) (size : ℕ) (l : List ℕ) 
   one_more a i base v h f e =
       below_more _ i (λ j k. get_or-set_other a i j v d (λ q. omega arith) ∙ f j k) (get_or-set_same a i v d h ∙ e)
 
-  -- what a closure gave that leaves itself as it was
-  module _ {F : Type 0} (g : Mut F (ℕ × Unit {0}) A) (f : F) (base : ℕ)
-      (gives : (i : ℕ) (y : A) (q : F) → Called g f (i, tt) y q → (q ≡ f) × (y ≡ at l (base + size * i))) (a : List A) where
-    each_made : (n i j : ℕ) → IsFromFnResultFrom g f a i n → j < n → get_or a (i + j) d ≡ at l (base + size * (i + j))
-    each_made zero i j r h = absurd (let z : ⊥ = omega arith in z)
-    each_made (suc n) i zero (q, y, e, c, r) h = let k : i + 0 ≡ i = omega arith in rw k (e.1 d ∙ (gives i y q c).1)
-    each_made (suc n) i (suc j) (q, y, e, c, r) h =
-        let k : i + 1 + j ≡ i + suc j = omega arith in
-        let s : IsFromFnResultFrom g f a (i + 1) n = subst (λ (p : F). IsFromFnResultFrom g p a (i + 1) n) (gives i y q c).0 r in
-        rw k at (each_made n (i + 1) j s (omega arith))
-
-    pub items_made : (n : ℕ) → IsFromFnResult g f a n → a ≡ items_from at size n l base
-    items_made n r = items_all n base a r.long (λ j h. let k : 0 + j ≡ j = omega arith in rw k at (each_made n 0 j r.each h))
+  pub items_made : {F : Type 0} (g : Mut F (ℕ × Unit {0}) A) (f : F) (n base : ℕ) (a : List A)
+      → ((i : ℕ) (y : A) (q : F) → Called g f (i, tt) y q → (q ≡ f) × (y ≡ at l (base + size * i)))
+      → IsFromFnResult g f a n → a ≡ items_from at size n l base
+  items_made g f n base a gives r = items_all n base a r.long (λ j h. made_at g f (λ (i : ℕ). at l (base + size * i)) gives d a n j r h)

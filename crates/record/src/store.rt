@@ -20,13 +20,6 @@ use crate::{
 use coordinator::{ABORTED, Coordinator, FINISHING, Object};
 use numbers::{MOST_OPEN, NODES, Refusal};
 
-// 1 for yes, 0 for no.
-fn bit(b: bool) -> u8
-    ensures { result ≡ cond b 1 0 }
-{
-    if b { 1 } else { 0 }
-}
-
 // The low byte of a count.
 fn low(n: usize) -> u8
     ensures { result ≡ n % 256 }
@@ -45,7 +38,7 @@ pub fn put_object(bytes: &mut [u8], at: usize, x: Object)
     octets::put_u16(bytes, at + CAME_IN, x.came);
     octets::put_u32(bytes, at + VERSION_IN, x.version);
     octets::put_u64(bytes, at + VALUE_IN, x.value);
-    octets::put_u8(bytes, at + GIVEN_IN, bit(x.given));
+    octets::put_u8(bytes, at + GIVEN_IN, u8::from(x.given));
     octets::put_u64(bytes, at + NEW_IN, x.new);
 }
 

@@ -69,7 +69,7 @@ fn nth(bytes: &[u8], i: u8) -> Object
 {
     let c = shown(bytes);
     let objects = c.objects;
-    coordinator::at_index(objects, i as usize)
+    coordinator::at_index(objects, usize::from(i))
 }
 
 // Its number, its mode and whether it is ready. Each rules out, among others: the object opened after it; an answer other than 0 past the count.

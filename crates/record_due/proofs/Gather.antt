@@ -6,7 +6,7 @@ use Prim.Native.Nat.{ℕ, zero, suc, ◌+◌, ◌*◌, ◌-◌, ◌≤◌, ◌<�
 use native.Mathlib.Omega.{arith}
 use lib.Dec.{ltb}
 use lib.ListN.{length, get_or, set, length-append}
-use borrow.Author.Tests.{ltb-true, lt-ltb, le-ltb}
+use borrow.Author.Tests.{ltb-false, ltb-true, lt-ltb}
 use Rattle.numbers.specs.Sizes.{objects as objectsEnd, most_open}
 use Rattle.wire.specs.declared.Entry.{Entry}
 use Rattle.coordinator.specs.declared.Object.{Object}
@@ -14,7 +14,7 @@ use Rattle.coordinator.specs.declared.Coordinator.{Coordinator}
 use Rattle.coordinator.specs.System.{tree}
 use Rattle.coordinator.specs.State.{no_object, place_of, object_at, is_open}
 use Rattle.clauses.proofs.Parts.{by_test, on_cond}
-use Rattle.clauses.proofs.Places.{at, place_open}
+use Rattle.clauses.proofs.Places.{at, place_open, place_shut}
 use Rattle.due.specs.declared.Gathered.{Gathered}
 use Rattle.due.specs.Gather.{Lists}
 use Rattle.due.specs.Due.{entry_for, lists_next, with_next, entries_below, entries_of}
@@ -33,7 +33,25 @@ stands_at : (l : List ℕ) (j : ℕ) → j < most_open → (at (record_of l).obj
 unfolding record_of objects_of object_of
 stands_at l j h = ap (λ (x : Object). x.object) (get_d_items object_of 25 l no_object most_open 43 j h)
 
--- so none is open there
+-- m stands at one of the first i places, if it is a number of an object
+abbrev pub Stands : List ℕ → ℕ → ℕ → Type 0
+Stands l m i = m < objectsEnd → (j : ℕ) × ((j < i) × (get_or l (43 + 25 * j) 0 ≡ m))
+
+-- so it is open
+pub stands_open : (l : List ℕ) → check l ≡ 0 → (m : ℕ) → Stands l m (record_of l).count → m < objectsEnd → is_open (record_of l) m ≡ true
+stands_open l e m s h =
+    let c = checked_meets l e in
+    let n = (record_of l).count in
+    let w = s h in
+    let eight : length (record_of l).objects ≡ most_open = c.sizes.objects_8 in
+    let few : n ≤ most_open = c.objects.eight_at_most in
+    let j : ℕ = w.0 in
+    let b : j < n = w.1.0 in
+    let y : (at (record_of l).objects j).object ≡ m = stands_at l j (omega arith) ∙ w.1.1 in
+    by_test (is_open (record_of l) m ≡ true) (is_open (record_of l) m) (λ o. o)
+    (λ o. absurd (place_shut (record_of l).objects n m (ltb-false (place_of (record_of l) m) most_open o) (omega arith) j b (omega arith) y))
+
+-- none is open between
 pub shut_between : (l : List ℕ) (lo m : ℕ) → Past l lo m (record_of l).count → (n : ℕ) → lo ≤ n → n < m → is_open (record_of l) n ≡ false
 shut_between l lo m p n a b =
     by_test (is_open (record_of l) n ≡ false) (is_open (record_of l) n)
@@ -95,7 +113,7 @@ module _ (c : Coordinator) (entries : List Entry) (k lo m : ℕ) (h : lo ≤ m) 
   here : Lists (gathered entries k) (entries_below c m)
   here = subst (Lists (gathered entries k)) (quiet_to c lo m h f) l
 
-  -- the next object is open, or it is not
+  -- the next object is open
   pub gather_open : (p : ℕ) (e : Entry) → length entries ≡ most_open → k < most_open → p ≡ place_of c m → p < most_open
       → e ≡ entry_for (get_or c.objects p no_object)
       → Lists (gathered (set entries k e) (k + 1)) (entries_below c (m + 1))
@@ -108,12 +126,6 @@ module _ (c : Coordinator) (entries : List Entry) (k lo m : ℕ) (h : lo ≤ m) 
       subst (Lists r) (sym (gather.below_more c m))
       (gather.next_taken c m (gathered entries k) r es here t
       (subst (λ (y : Entry). Lists r (es ++ (y ∷ []))) x (gather.one_more (gathered entries k) e es full small here)))
-
-  pub gather_shut : (p : ℕ) → p ≡ place_of c m → most_open ≤ p → Lists (gathered entries k) (entries_below c (m + 1))
-  gather_shut p at past =
-      let o : is_open c m ≡ false = le-ltb (place_of c m) most_open (let z : most_open ≤ place_of c m = omega arith in z) in
-      subst (Lists (gathered entries k)) (sym (gather.below_more c m))
-      (gather.next_left c m (gathered entries k) (gathered entries k) (entries_below c m) here (simp o))
 
   -- no more objects
   pub gather_end : objectsEnd ≤ m → m ≤ objectsEnd → Lists (gathered entries k) (entries_of c)

@@ -1,5 +1,5 @@
 // What is due to a node, found on the bytes of a record and written as a message.
-ghost use Rattle.std.specs.Prelude.{◌≡◌, false, not, ◌&&◌, ◌||◌, ℕ, ◌≤◌, ◌<◌, eqb, ltb, length, get_or};
+ghost use Rattle.std.specs.Prelude.{◌≡◌, false, true, not, ◌&&◌, ◌||◌, ℕ, ◌≤◌, ◌<◌, eqb, ltb, length, get_or, MatchOption};
 ghost use Rattle.record.specs.Layout.{record_size};
 ghost use Rattle.numbers.specs.Sizes.{objects, most_open, longest_message};
 ghost use Rattle.letters.specs.Write.{written_of, buffer_after};
@@ -126,12 +126,13 @@ fn due_in(bytes: &[u8], me: u8, node: u8, object: u8) -> Duty
     }
 }
 
-// The least number of an open object from `lo` on; 128 where there is none.
-fn next_open(bytes: &[u8], lo: u8) -> u8
+// The least number of an open object from `lo` on, if there is one.
+fn next_open(bytes: &[u8], lo: u8) -> Option<u8>
     requires bytes_value { check bytes.now ≡ 0 }
     requires lo_le_objects { lo ≤ objects }
-    ensures lower_bound { (lo ≤ result) × (result ≤ objects) }
-    ensures by_index { (n : ℕ) → lo ≤ n → n < result → is_open (record_of bytes.now) n ≡ false }
+    ensures { MatchOption result
+        ((n : ℕ) → lo ≤ n → n < objects → is_open (record_of bytes.now) n ≡ false)
+        (λ m. (lo ≤ m) × ((m < objects) × (((n : ℕ) → lo ≤ n → n < m → is_open (record_of bytes.now) n ≡ false) × (is_open (record_of bytes.now) m ≡ true)))) }
 {
     let n = count(bytes);
     let mut m = OBJECTS_END;
@@ -141,7 +142,7 @@ fn next_open(bytes: &[u8], lo: u8) -> u8
             m = x;
         }
     }
-    m
+    if m < OBJECTS_END { Some(m) } else { None }
 }
 
 // The entries of an ask or a commit, ascending by object: the next open object again and again.
@@ -151,22 +152,16 @@ fn entries_in(bytes: &[u8]) -> Gathered
 {
     let n = count(bytes);
     let mut entries = due::no_entries();
-    let mut k: usize = 0;
     let mut lo: u8 = 0;
-    // Stays a while: a turn that meets no open object goes on from the next number and leaves k.
-    while k < n {
-        let m = next_open(bytes, lo);
-        if OBJECTS_END <= m {
+    for k in 0..n {
+        let Some(m) = next_open(bytes, lo) else {
             return Gathered { entries, count: k };
-        }
+        };
         let p = place(bytes, m);
+        entries[k] = due::entry_for(object_at(bytes, p));
         lo = m + 1;
-        if p < MOST_OPEN {
-            entries[k] = due::entry_for(object_at(bytes, p));
-            k += 1;
-        }
     }
-    Gathered { entries, count: k }
+    Gathered { entries, count: n }
 }
 
 // An ask to a node.

@@ -1,23 +1,20 @@
 -- The maker of a blank station: what its number tells, and that what it leaves is blank.
 use mathlib.Core.Path.{◌≡◌, refl, sym, ap, subst, ◌∙◌}
-use mathlib.Core.Bool.{Bool, true, false, cond, ◌||◌}
-use mathlib.Core.Logic.{◌⊎◌, inl, inr}
+use mathlib.Core.Bool.{Bool, true, false, ◌||◌}
 use mathlib.Core.List.{List}
-use Prim.Native.Nat.{ℕ, ◌*◌, ◌<◌, ◌≤◌, ◌^◌}
+use Prim.Native.Nat.{ℕ, ◌<◌, ◌≤◌}
 use native.Mathlib.Omega.{arith}
-use lib.Dec.{eqb, ltb}
+use lib.Dec.{ltb}
 use lib.ListN.{length}
-use borrow.Author.Tests.{eq-eqb, ne_eqb, lt-ltb, le-ltb, ltb-true, ltb-false}
+use borrow.Author.Tests.{eq-eqb, ne_eqb, le-ltb, ltb-true, ltb-false}
 use Rattle.record.specs.Layout.{record_size}
 use Rattle.numbers.specs.Sizes.{nodes, every_node}
-use Rattle.octets.specs.Octets.{get, put}
+use Rattle.octets.specs.Octets.{put}
 use Rattle.octets.proofs.Laws.{get_put, length_put}
-use Rattle.parts.specs.Parts.{part}
 use Rattle.image.specs.Layout.{shape, image_size}
 use Rattle.image.specs.Blank.{blank_as}
 use Rattle.image.proofs.Blanks.{length_blank}
 use Rattle.replica.proofs.Delivered.{past, or_neither}
-use Rattle.coordinator.specs.declared.Coordinator.{Coordinator}
 use Rattle.coordinator.specs.System.{tree}
 use Rattle.coordinator.specs.State.{blank_record}
 use Rattle.clauses.proofs.Fits.{blank_fits}
@@ -29,8 +26,8 @@ use Rattle.pool.specs.Change.{blank, blank_after as pool_after}
 use Rattle.pool.proofs.Laws.{waiting_blank, check_blank}
 use Rattle.steps.specs.Station.{blank_own, blank_station}
 use Rattle.buffers.specs.Buffers.{Buffers, wrong, image_at, image_in, record_at, record_in, own_number, own_size}
-use Rattle.buffers.specs.Buffers.{own_damaged, on_of, station_of, all, Whole, Blank, images_size, records_size}
-use Rattle.station_calls.specs.Calls.{each_part, images_blank, records_blank, blank_number, blank_after}
+use Rattle.buffers.specs.Buffers.{on_of, station_of, all, Whole, Blank, images_size, records_size}
+use Rattle.station_calls.specs.Calls.{images_blank, records_blank, blank_number, blank_after}
 use Rattle.buffers.proofs.First.{long}
 use Rattle.pool.specs.Pool.{pool_size}
 use Rattle.station_calls.proofs.Parted.{each_length, each_part_lem}

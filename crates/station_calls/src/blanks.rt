@@ -22,13 +22,11 @@ fn blank_images(images: &mut [u8])
     requires { length images.old ≡ images_size }
     ensures { images.new ≡ images_blank nodes images.old }
 {
-    let mut n = 0;
-    while n < NODES {
+    for n in 0..NODES {
         let start = image::SIZE * n;
         let end = start + image::SIZE;
         // A part of an image's length is never refused.
         let _ = image::blank(&mut images[start..end]);
-        n += 1;
     }
 }
 
@@ -37,13 +35,11 @@ fn blank_records(records: &mut [u8])
     requires { length records.old ≡ records_size }
     ensures { records.new ≡ records_blank nodes records.old }
 {
-    let mut n = 0;
-    while n < NODES {
+    for n in 0..NODES {
         let start = record::SIZE * n;
         let end = start + record::SIZE;
         // A part of a record's length is never refused.
         let _ = record::blank(&mut records[start..end]);
-        n += 1;
     }
 }
 

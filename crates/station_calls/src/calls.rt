@@ -10,13 +10,6 @@ use coordinator::BeginWith;
 use numbers::{EVERY_NODE, NODES, NODES_END, either};
 use record::Called;
 
-// A byte as a count.
-fn wide(x: u8) -> usize
-    ensures { result ≡ x }
-{
-    x as usize
-}
-
 // Whether the buffers have their lengths, the mask names nodes alone, and the node is on: then the call works on the bytes of its record.
 fn is_on(records: usize, own: &[u8], node: u8) -> bool
     ensures { result ≡ is_on records own.now node }
@@ -60,7 +53,7 @@ pub fn begin(records: &mut [u8], own: &[u8], node: u8, w: BeginWith) -> Answer
     ensures records_after { records.new ≡ host_records (ends records.old own.now) node (begin node w) }
 {
     if is_on(records.len(), own, node) {
-        let start = record::SIZE * wide(node);
+        let start = record::SIZE * usize::from(node);
         let end = start + record::SIZE;
         let c = Called::from(record_calls::begin(&mut records[start..end], node, w));
         return answered(c);
@@ -72,7 +65,7 @@ pub fn begin(records: &mut [u8], own: &[u8], node: u8, w: BeginWith) -> Answer
     if NODES_END <= node {
         return refused(numbers::STRANGER);
     }
-    let start = record::SIZE * wide(node);
+    let start = record::SIZE * usize::from(node);
     let end = start + record::SIZE;
     let alone = numbers::number(record_calls::may_begin(&records[start..end], node, w));
     refused(off_number(alone))
@@ -84,7 +77,7 @@ pub fn open_read(records: &mut [u8], own: &[u8], node: u8, object: u8) -> Answer
     ensures records_after { records.new ≡ host_records (ends records.old own.now) node (open_read node object) }
 {
     if is_on(records.len(), own, node) {
-        let start = record::SIZE * wide(node);
+        let start = record::SIZE * usize::from(node);
         let end = start + record::SIZE;
         let c = Called::from(record_calls::open_read(&mut records[start..end], node, object));
         return answered(c);
@@ -96,7 +89,7 @@ pub fn open_read(records: &mut [u8], own: &[u8], node: u8, object: u8) -> Answer
     if NODES_END <= node {
         return refused(numbers::STRANGER);
     }
-    let start = record::SIZE * wide(node);
+    let start = record::SIZE * usize::from(node);
     let end = start + record::SIZE;
     let alone = numbers::number(record_calls::may_open(&records[start..end], node, object));
     refused(off_number(alone))
@@ -108,7 +101,7 @@ pub fn open_write(records: &mut [u8], own: &[u8], node: u8, object: u8) -> Answe
     ensures records_after { records.new ≡ host_records (ends records.old own.now) node (open_write node object) }
 {
     if is_on(records.len(), own, node) {
-        let start = record::SIZE * wide(node);
+        let start = record::SIZE * usize::from(node);
         let end = start + record::SIZE;
         let c = Called::from(record_calls::open_write(&mut records[start..end], node, object));
         return answered(c);
@@ -120,7 +113,7 @@ pub fn open_write(records: &mut [u8], own: &[u8], node: u8, object: u8) -> Answe
     if NODES_END <= node {
         return refused(numbers::STRANGER);
     }
-    let start = record::SIZE * wide(node);
+    let start = record::SIZE * usize::from(node);
     let end = start + record::SIZE;
     let alone = numbers::number(record_calls::may_open(&records[start..end], node, object));
     refused(off_number(alone))
@@ -132,7 +125,7 @@ pub fn set_value(records: &mut [u8], own: &[u8], node: u8, object: u8, value: u6
     ensures records_after { records.new ≡ host_records (ends records.old own.now) node (set_value node object value) }
 {
     if is_on(records.len(), own, node) {
-        let start = record::SIZE * wide(node);
+        let start = record::SIZE * usize::from(node);
         let end = start + record::SIZE;
         let c = Called::from(record_calls::set_value(&mut records[start..end], node, object, value));
         return answered(c);
@@ -144,7 +137,7 @@ pub fn set_value(records: &mut [u8], own: &[u8], node: u8, object: u8, value: u6
     if NODES_END <= node {
         return refused(numbers::STRANGER);
     }
-    let start = record::SIZE * wide(node);
+    let start = record::SIZE * usize::from(node);
     let end = start + record::SIZE;
     let alone = numbers::number(record_calls::may_set(&records[start..end], node, object));
     refused(off_number(alone))
@@ -156,7 +149,7 @@ pub fn found(records: &mut [u8], own: &[u8], node: u8, object: u8) -> Answer
     ensures records_after { records.new ≡ host_records (ends records.old own.now) node (found node object) }
 {
     if is_on(records.len(), own, node) {
-        let start = record::SIZE * wide(node);
+        let start = record::SIZE * usize::from(node);
         let end = start + record::SIZE;
         let c = Called::from(record_calls::found(&mut records[start..end], node, object));
         return answered(c);
@@ -168,7 +161,7 @@ pub fn found(records: &mut [u8], own: &[u8], node: u8, object: u8) -> Answer
     if NODES_END <= node {
         return refused(numbers::STRANGER);
     }
-    let start = record::SIZE * wide(node);
+    let start = record::SIZE * usize::from(node);
     let end = start + record::SIZE;
     let alone = numbers::number(record_calls::may_tell(&records[start..end], node, object));
     refused(off_number(alone))
@@ -186,7 +179,7 @@ pub fn reselect(
     ensures records_after { records.new ≡ host_records (ends records.old own.now) node (reselect node live distances) }
 {
     if is_on(records.len(), own, node) {
-        let start = record::SIZE * wide(node);
+        let start = record::SIZE * usize::from(node);
         let end = start + record::SIZE;
         let c = Called::from(record_calls::reselect(&mut records[start..end], node, live, distances));
         return answered(c);
@@ -198,7 +191,7 @@ pub fn reselect(
     if NODES_END <= node {
         return refused(numbers::STRANGER);
     }
-    let start = record::SIZE * wide(node);
+    let start = record::SIZE * usize::from(node);
     let end = start + record::SIZE;
     let alone = numbers::number(record_calls::may_reselect(&records[start..end], node, live, distances));
     refused(off_number(alone))
@@ -210,7 +203,7 @@ pub fn request_commit(records: &mut [u8], own: &[u8], node: u8) -> Answer
     ensures records_after { records.new ≡ host_records (ends records.old own.now) node (request_commit node) }
 {
     if is_on(records.len(), own, node) {
-        let start = record::SIZE * wide(node);
+        let start = record::SIZE * usize::from(node);
         let end = start + record::SIZE;
         let c = Called::from(record_calls::request_commit(&mut records[start..end], node));
         return answered(c);
@@ -222,7 +215,7 @@ pub fn request_commit(records: &mut [u8], own: &[u8], node: u8) -> Answer
     if NODES_END <= node {
         return refused(numbers::STRANGER);
     }
-    let start = record::SIZE * wide(node);
+    let start = record::SIZE * usize::from(node);
     let end = start + record::SIZE;
     let alone = numbers::number(record_calls::may_request(&records[start..end], node));
     refused(off_number(alone))
@@ -234,7 +227,7 @@ pub fn abort(records: &mut [u8], own: &[u8], node: u8) -> Answer
     ensures records_after { records.new ≡ host_records (ends records.old own.now) node (abort node) }
 {
     if is_on(records.len(), own, node) {
-        let start = record::SIZE * wide(node);
+        let start = record::SIZE * usize::from(node);
         let end = start + record::SIZE;
         let c = Called::from(record_calls::abort(&mut records[start..end], node));
         return answered(c);
@@ -246,7 +239,7 @@ pub fn abort(records: &mut [u8], own: &[u8], node: u8) -> Answer
     if NODES_END <= node {
         return refused(numbers::STRANGER);
     }
-    let start = record::SIZE * wide(node);
+    let start = record::SIZE * usize::from(node);
     let end = start + record::SIZE;
     let alone = numbers::number(record_calls::may_abort(&records[start..end], node));
     refused(off_number(alone))

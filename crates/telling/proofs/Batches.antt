@@ -1,13 +1,13 @@
 -- A batch's deeds, and those of a request on it, tell what the record has after them. Each of a batch's calls is taken, and leaves its object as it was
 -- given; of the sums those of written objects are taken, and each leaves its new value.
-use mathlib.Core.Path.{◌≡◌, refl, sym, ap, ap₂, subst, ◌∙◌}
-use mathlib.Core.Logic.{◌⊎◌, inl, inr, ⊎_elim}
+use mathlib.Core.Path.{◌≡◌, refl, sym, ap, ◌∙◌}
+use mathlib.Core.Logic.{⊎_elim}
 use mathlib.Core.Bool.{Bool, true, false, cond}
 use mathlib.Core.List.{List, [], ◌∷◌, ◌++◌}
 use Prim.Native.Nat.{ℕ, zero, suc, ◌<◌, ◌≤◌}
 use native.Mathlib.Omega.{arith}
 use lib.Dec.{eqb}
-use lib.ListN.{length, get_or, take}
+use lib.ListN.{length, take}
 use lib.Seq.{take-suc, take-length}
 use borrow.Author.Tests.{eqb-true, eqb-false, eq-eqb, ne_eqb}
 use Rattle.numbers.specs.Sizes.{nodes, objects, most_open}
@@ -16,16 +16,15 @@ use Rattle.coordinator.specs.declared.Coordinator.{Coordinator}
 use Rattle.coordinator.specs.declared.BeginWith.{BeginWith}
 use Rattle.coordinator.specs.System.{System}
 use Rattle.coordinator.specs.State.{open_phase, no_object}
-use Rattle.coordinator.specs.Calls.{open_of, set_of, renewed, request_commit_refusals, requested, request_commit_of, begin_of}
+use Rattle.coordinator.specs.Calls.{set_of, renewed, request_commit_refusals, requested, request_commit_of, begin_of}
 use Rattle.clauses.proofs.Parts.{by_test}
 use Rattle.clauses.proofs.Places.{at}
 use Rattle.clauses.proofs.Facts.{Meets}
 use Rattle.clauses.proofs.Quorums.{Quorums}
 use Rattle.clauses.proofs.Cases.{step_keeps}
 use Rattle.replay.specs.Sheet.{begun_after, opened_after, valued_after}
-use Rattle.increments.specs.Sums.{sum64}
-use Rattle.increments.specs.Deeds.{Deed, begins, edits, writes, values, asks, edit_of, deed_of, ran, Amount, adding, in_use, summing}
-use Rattle.increments.proofs.Deeds.{adding_append, ran_adding, adding_last, summing_last}
+use Rattle.increments.specs.Deeds.{begins, edits, values, asks, edit_of, deed_of, ran, Amount, adding, in_use, summing}
+use Rattle.increments.proofs.Deeds.{adding_append, adding_last, summing_last}
 use Rattle.increments.proofs.Added.{amount_at, as_added, adds_open, adds_set, added_count, added_object, added_meets}
 use Rattle.increments.proofs.Summed.{sums_to, sum_of, sums_partly, set_number, set_refused}
 use Rattle.increments.proofs.Laws.{summed_new}

@@ -1,12 +1,12 @@
 -- THE LAW: after any call of a front end, the sheet kept over the machine's steps of the longer list is what was kept before with what the call tells: of an
 -- accepted one, its begin, its object or its new value; of a batch, and of votes asked for on one, what its record has after the call.
-use mathlib.Core.Path.{◌≡◌, refl, sym, ap, ap₂, subst, ◌∙◌}
+use mathlib.Core.Path.{◌≡◌, refl, sym, ap, subst, ◌∙◌}
 use mathlib.Core.Bool.{Bool, true, false, cond}
 use mathlib.Core.List.{List, [], ◌∷◌, ◌++◌}
-use Prim.Native.Nat.{ℕ, ◌<◌, ◌≤◌}
+use Prim.Native.Nat.{ℕ, ◌<◌}
 use native.Mathlib.Omega.{arith}
 use lib.Dec.{eqb, ltb}
-use lib.ListN.{length, get_or}
+use lib.ListN.{length}
 use borrow.Author.Tests.{eqb-true, eqb-false, ltb-true, eq-eqb, ne_eqb}
 use Rattle.numbers.specs.Sizes.{nodes}
 use Rattle.mask.specs.Mask.{contains}
@@ -19,8 +19,8 @@ use Rattle.coordinator.specs.declared.Coordinator.{Coordinator}
 use Rattle.coordinator.specs.declared.BeginWith.{BeginWith}
 use Rattle.coordinator.specs.System.{System}
 use Rattle.coordinator.specs.Calls.{begin_of, request_commit_refusals, request_commit_of, abort_of}
-use Rattle.replay.specs.Sheet.{begun_after, opened_after, valued_after}
-use Rattle.increments.specs.Deeds.{Edit, reads, writes, values, Deed, begins, edits, asks, aborts, edit_of, deed_of, ran, adding, in_use, summing}
+use Rattle.replay.specs.Sheet.{begun_after}
+use Rattle.increments.specs.Deeds.{Deed, begins, edits, asks, aborts, edit_of, deed_of, ran, adding, in_use, summing}
 use Rattle.increments.proofs.Deeds.{ran_adding}
 use Rattle.settings.specs.Settings.{classes_in, adds, tenths, settings_number}
 use Rattle.settings.proofs.Sound.{sound_parts}

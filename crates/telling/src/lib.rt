@@ -2,7 +2,7 @@
 // read from its node's record after the step.
 #![tactic(auto)]
 
-ghost use Rattle.std.specs.Prelude.{◌≡◌, cond, ◌<◌, min, length};
+ghost use Rattle.std.specs.Prelude.{◌≡◌, cond, ◌<◌, length};
 ghost use Rattle.numbers.specs.Sizes.{nodes};
 ghost use Rattle.replay.specs.Sheet.{opened_after};
 ghost use Rattle.record.specs.Record.{record_of};
@@ -15,19 +15,6 @@ use coordinator::Object;
 use numbers::{MOST_OPEN, NODES_END};
 use orders::Kind;
 use record::look::{count, object_at};
-
-// The lower of two; a byte as a count.
-fn least(a: usize, b: usize) -> usize
-    ensures { result ≡ min a b }
-{
-    if a < b { a } else { b }
-}
-
-fn wide(x: u8) -> usize
-    ensures { result ≡ x }
-{
-    x as usize
-}
 
 // That an object was opened to write, if so.
 fn mark(sheet: &mut [u64], node: u8, object: u8, opens: bool)
@@ -53,12 +40,10 @@ fn object(sheet: &mut [u64], node: u8, x: Object, opens: bool)
 fn objects(sheet: &mut [u64], node: u8, bytes: &[u8], opens: bool)
     ensures { sheet.new ≡ objects_told opens node (in_use (record_of bytes.now)) sheet.old }
 {
-    let n = least(count(bytes), MOST_OPEN);
-    let mut i = 0;
-    while i < n {
+    let n = count(bytes).min(MOST_OPEN);
+    for i in 0..n {
         let x = object_at(bytes, i);
         object(sheet, node, x, opens);
-        i += 1;
     }
 }
 
@@ -68,12 +53,12 @@ fn tell_node(records: &[u8], settings: &[u8], sheet: &mut [u64], kind: Kind, nod
     ensures { sheet.new
         ≡ told_of kind (record_of (record_at records.now node)) (settings_at settings.now node) node sheet.old }
 {
-    let start = record::SIZE * wide(node);
+    let start = record::SIZE * usize::from(node);
     let end = start + record::SIZE;
     match kind {
         Kind::Batch => objects(sheet, node, &records[start..end], true),
         Kind::RequestCommit => {
-            let at = settings::SETTINGS * wide(node) + settings::KIND;
+            let at = settings::SETTINGS * usize::from(node) + settings::KIND;
             if octets::get_u8(settings, at) != settings::OWN {
                 objects(sheet, node, &records[start..end], false);
             }

@@ -33,7 +33,7 @@ is_adding l w n k e f = ap (λ (j : ℕ). not (eqb j 0)) (kind_at l n ∙ ap (λ
 pub returns-in-Batch : goal.returns-in-Batch
 unfolding told_of
 returns-in-Batch c = let a = c.args in
-    let e = node_record a.records.now _ a.node c.wide-start.ensures in
+    let e = node_record a.records.now _ a.node c.from-start.ensures in
     simp c.in-Batch.is
     (c.objects.ensures
     ∙ ap (λ (l : List ℕ). objects_told true a.node (in_use (record_of l)) a.sheet.now) e)
@@ -41,9 +41,9 @@ returns-in-Batch c = let a = c.args in
 pub returns-then-get_u8-ne-OWN : goal.returns-then-get_u8-ne-OWN
 unfolding told_of
 returns-then-get_u8-ne-OWN c = let a = c.args in
-    let e = node_record a.records.now _ a.node c.wide-start.ensures in
+    let e = node_record a.records.now _ a.node c.from-start.ensures in
     let k : adds (settings_at a.settings.now a.node) ≡ true =
-    is_adding a.settings.now _ a.node _ c.wide.ensures c.get_u8.ensures
+    is_adding a.settings.now _ a.node _ c.from.ensures c.get_u8.ensures
     ∙ ap not (ne_eqb _ _ c.if-get_u8-ne-OWN.true) in
     simp (c.in-RequestCommit.is, k)
     (c.objects-then-get_u8-ne-OWN.ensures
@@ -53,7 +53,7 @@ pub returns-else-get_u8-ne-OWN : goal.returns-else-get_u8-ne-OWN
 unfolding told_of
 returns-else-get_u8-ne-OWN c = let a = c.args in
     let k : adds (settings_at a.settings.now a.node) ≡ false =
-    is_adding a.settings.now _ a.node _ c.wide.ensures c.get_u8.ensures
+    is_adding a.settings.now _ a.node _ c.from.ensures c.get_u8.ensures
     ∙ ap not (eq-eqb _ _ c.if-get_u8-ne-OWN.false) in
     simp (c.in-RequestCommit.is, k)
 

@@ -11,19 +11,19 @@ returns-then-number-ne0 c = let x = c.args in
     let e = (c.number-number.ensures ∙ c.check.ensures) in
     c.not_there.ensures ∙ ap missing e ∙ sym (look_damaged x.pool.now x.k (λ h. c.if-number-ne0.true (e ∙ h)))
 
-pub returns-then-count-k : goal.returns-then-count-k
-returns-then-count-k c = let x = c.args in
+pub returns-then-count-from : goal.returns-then-count-from
+returns-then-count-from c = let x = c.args in
     let e = sym (c.number-number.ensures ∙ c.check.ensures) ∙ c.if-number-ne0.false in
     let n = c.count.ensures.0 in
-    let t = c.if-count-k.true in
+    let t = c.if-count-from.true in
     let h : count x.pool.now ≤ x.k = omega arith in
-    c.not_there-then-count-k.ensures ∙ sym (look_none x.pool.now x.k e h)
+    c.not_there-then-count-from.ensures ∙ sym (look_none x.pool.now x.k e h)
 
 pub returns : goal.returns
 returns c = let x = c.args in
     let e = sym (c.number-number.ensures ∙ c.check.ensures) ∙ c.if-number-ne0.false in
     let n = c.count.ensures.0 in
-    let t = c.if-count-k.false in
+    let t = c.if-count-from.false in
     let h : x.k < count x.pool.now = omega arith in
     let p = c.place.ensures in
     let q = c.length.ensures in

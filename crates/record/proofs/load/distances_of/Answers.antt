@@ -8,4 +8,4 @@ use Rattle.record.proofs.load.distances_of.Goals as goal
 
 pub returns : goal.returns
 unfolding distances_of
-returns c = items_made (get 2) 2 c.args.bytes.now 0 _ _ 12 (λ i y q k. search rules) c.from_fn.result nodes c.from_fn.ensures.items
+returns c = items_made (get 2) 2 c.args.bytes.now 0 _ _ nodes 12 c.from_fn.result (λ i y q k. search rules) c.from_fn.ensures.items

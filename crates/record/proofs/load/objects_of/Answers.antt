@@ -8,4 +8,4 @@ use Rattle.record.proofs.load.objects_of.Goals as goal
 
 pub returns : goal.returns
 unfolding objects_of
-returns c = items_made object_of 25 c.args.bytes.now no_object _ _ 43 (λ i y q k. search rules) c.from_fn.result most_open c.from_fn.ensures.items
+returns c = items_made object_of 25 c.args.bytes.now no_object _ _ most_open 43 c.from_fn.result (λ i y q k. search rules) c.from_fn.ensures.items

@@ -8,4 +8,4 @@ use Rattle.record.proofs.load.rivals_of.Goals as goal
 
 pub returns : goal.returns
 unfolding rivals_of
-returns c = items_made (get 4) 4 c.args.bytes.now 0 _ _ 249 (λ i y q k. search rules) c.from_fn.result nodes c.from_fn.ensures.items
+returns c = items_made (get 4) 4 c.args.bytes.now 0 _ _ nodes 249 c.from_fn.result (λ i y q k. search rules) c.from_fn.ensures.items

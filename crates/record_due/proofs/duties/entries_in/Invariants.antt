@@ -1,5 +1,5 @@
 -- `record_due::duties::entries_in`: what is gathered so far are the entries of the objects below `lo`.
-use Prim.Native.Nat.{◌-◌, ◌≤◌}
+use Prim.Native.Nat.{◌≤◌}
 use mathlib.Core.Path.{◌≡◌}
 use lib.ListN.{length}
 use Rattle.numbers.specs.Sizes.{objects, most_open}
@@ -11,6 +11,3 @@ use Rattle.record_due.proofs.duties.entries_in.Given as goal
 
 abbrev pub invariant-loop-k : goal.invariant-loop-k
 invariant-loop-k l = (length l.entries ≡ most_open) × ((l.lo ≤ objects) × Lists (gathered l.entries l.k) (entries_below (record_of l.bytes) l.lo))
-
-abbrev pub decreases-loop-k : goal.decreases-loop-k
-decreases-loop-k l = objects - l.lo

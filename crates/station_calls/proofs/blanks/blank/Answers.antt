@@ -1,6 +1,5 @@
 -- `station_calls::blanks::blank`: refused, or each buffer made blank.
 use mathlib.Core.Path.{sym, ap, ◌∙◌}
-use Rattle.pool.specs.Change.{blank}
 use Rattle.buffers.specs.Buffers.{Buffers, all}
 use Rattle.station_calls.proofs.Blanking.{blank_sized, blank_refused, blank_taken, pool_made}
 use Rattle.station_calls.proofs.blanks.blank.Goals as goal

@@ -1,14 +1,7 @@
 -- `station_calls::blanks::blank_images`: the images passed are blank.
 use mathlib.Core.Path.{◌≡◌}
-use Prim.Native.Nat.{◌-◌, ◌≤◌}
-use lib.ListN.{length}
-use Rattle.buffers.specs.Buffers.{images_size}
-use Rattle.numbers.specs.Sizes.{nodes}
 use Rattle.station_calls.specs.Calls.{images_blank}
 use Rattle.station_calls.proofs.blanks.blank_images.Given as goal
 
 abbrev pub invariant-loop-n : goal.invariant-loop-n
-invariant-loop-n l = (l.n ≤ nodes) × (length l.images ≡ images_size) × (l.images ≡ images_blank l.n l.initial.images)
-
-abbrev pub decreases-loop-n : goal.decreases-loop-n
-decreases-loop-n l = nodes - l.n
+invariant-loop-n l = l.images ≡ images_blank l.n l.initial.images

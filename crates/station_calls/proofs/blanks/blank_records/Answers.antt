@@ -7,16 +7,12 @@ use native.Mathlib.Numerals.{add-one}
 use lib.ListN.{length}
 use borrow.Author.Tests.{eq-eqb}
 use Rattle.record.specs.Layout.{record_size}
-use Rattle.numbers.specs.Sizes.{nodes}
 use Rattle.parts.specs.Parts.{part, splice}
 use Rattle.parts.proofs.Laws.{lent, length_part}
 use Rattle.coordinator.specs.State.{blank_record}
 use Rattle.record.specs.Record.{bytes_of}
 use Rattle.record.specs.Call.{blank_after}
-use Rattle.record.proofs.Kept.{blank_checked}
-use Rattle.record.proofs.OnBytes.{checked_length}
 use Rattle.station_calls.specs.Calls.{each_part, records_blank}
-use Rattle.station_calls.proofs.Parted.{part_length}
 use Rattle.station_calls.proofs.blanks.blank_records.Goals as goal
 
 made : (l : List ℕ) → length l ≡ record_size → blank_after l ≡ bytes_of blank_record
@@ -25,31 +21,17 @@ made l e = simp (eq-eqb (length l) record_size e)
 
 pub loop-n-init : goal.loop-n-init
 unfolding each_part
-loop-n-init c = (omega arith, c.requires, refl)
-
-pub slice_bounds-blank-end : goal.slice_bounds-blank-end
-slice_bounds-blank-end c = let l = c.loop-n.invariant.1 in let t = c.loop-n-test.true in omega arith
+loop-n-init c = refl
 
 pub loop-n-preserved : goal.loop-n-preserved
 unfolding each_part
 loop-n-preserved c = let l = c.loop-n in
     let n = l.n in
     let t = c.loop-n-test.true in
-    let k = l.invariant.1 in
+    let k = l.auto.records ∙ c.requires in
     let e : record_size * n + record_size - record_size * n ≡ record_size = omega arith in
     let q : length (part record_size (record_size * n) l.records) ≡ record_size = length_part record_size (record_size * n) l.records (omega arith) in
     let b = lent blank_after record_size (record_size * n) (record_size * n + record_size - record_size * n) l.records _ e c.blank.ensures.bytes_after
-    ∙ ap (λ (m : List ℕ). splice record_size (record_size * n) m l.records) (made (part record_size (record_size * n) l.records) q) in (
-      omega arith,
-      ap length b ∙ part_length record_size nodes l.records (bytes_of blank_record) (checked_length (bytes_of blank_record) blank_checked) k n t,
-      b ∙ ap (splice record_size (record_size * n) (bytes_of blank_record)) l.invariant.2
-          ∙ ap (λ (j : ℕ). records_blank j c.args.records.now) (sym (add-one n)),
-    )
-
-pub shape_of-records : goal.shape_of-records
-shape_of-records c = let l = c.loop-n.invariant.1 in let p = c.requires in omega arith
-
-pub returns : goal.returns
-returns c = let l = c.loop-n in
-    let e : l.n ≡ nodes = let a = l.invariant.0 in let t = c.loop-n-test.false in omega arith in
-    l.invariant.2 ∙ ap (λ (j : ℕ). records_blank j c.args.records.now) e
+    ∙ ap (λ (m : List ℕ). splice record_size (record_size * n) m l.records) (made (part record_size (record_size * n) l.records) q) in
+    b ∙ ap (splice record_size (record_size * n) (bytes_of blank_record)) l.invariant
+    ∙ ap (λ (j : ℕ). records_blank j c.args.records.now) (sym (add-one n))

@@ -1,14 +1,7 @@
 -- `station_calls::blanks::blank_records`: the records passed are blank.
 use mathlib.Core.Path.{◌≡◌}
-use Prim.Native.Nat.{◌-◌, ◌≤◌}
-use lib.ListN.{length}
-use Rattle.buffers.specs.Buffers.{records_size}
-use Rattle.numbers.specs.Sizes.{nodes}
 use Rattle.station_calls.specs.Calls.{records_blank}
 use Rattle.station_calls.proofs.blanks.blank_records.Given as goal
 
 abbrev pub invariant-loop-n : goal.invariant-loop-n
-invariant-loop-n l = (l.n ≤ nodes) × (length l.records ≡ records_size) × (l.records ≡ records_blank l.n l.initial.records)
-
-abbrev pub decreases-loop-n : goal.decreases-loop-n
-decreases-loop-n l = nodes - l.n
+invariant-loop-n l = l.records ≡ records_blank l.n l.initial.records

@@ -20,7 +20,7 @@ slice_bounds-found-end c = let x = c.args in
     let t = on_is x.records.now x.own.now x.node (sym c.is_on.ensures ∙ c.if-is_on.true) in
     let l = t.records_long in
     let n = t.node in
-    let w = c.wide-start.ensures in
+    let w = c.from-start.ensures in
     omega arith
 
 pub returns-then-is_on-clause-value : goal.returns-then-is_on-clause-value
@@ -28,14 +28,14 @@ unfolding step
 returns-then-is_on-clause-value c = let x = c.args in
     let t = on_is x.records.now x.own.now x.node (sym c.is_on.ensures ∙ c.if-is_on.true) in
     let f : Coordinator → Step = λ k. found_of tree k x.node x.object in
-    let i = c.wide-start.ensures in (on_lent x.records.now x.own.now x.node f t _ i _ (c.from-c.ensures ∙ c.found.ensures.value) _ c.found.ensures.bytes_after _ c.answered.ensures).0
+    let i = c.from-start.ensures in (on_lent x.records.now x.own.now x.node f t _ i _ (c.from-c.ensures ∙ c.found.ensures.value) _ c.found.ensures.bytes_after _ c.answered.ensures).0
 
 pub returns-then-is_on-clause-records_after : goal.returns-then-is_on-clause-records_after
 unfolding step
 returns-then-is_on-clause-records_after c = let x = c.args in
     let t = on_is x.records.now x.own.now x.node (sym c.is_on.ensures ∙ c.if-is_on.true) in
     let f : Coordinator → Step = λ k. found_of tree k x.node x.object in
-    let i = c.wide-start.ensures in (on_lent x.records.now x.own.now x.node f t _ i _ (c.from-c.ensures ∙ c.found.ensures.value) _ c.found.ensures.bytes_after _ c.answered.ensures).1
+    let i = c.from-start.ensures in (on_lent x.records.now x.own.now x.node f t _ i _ (c.from-c.ensures ∙ c.found.ensures.value) _ c.found.ensures.bytes_after _ c.answered.ensures).1
 
 pub returns-then-number-ne0-clause-value : goal.returns-then-number-ne0-clause-value
 returns-then-number-ne0-clause-value c = let x = c.args in
@@ -74,7 +74,7 @@ slice_bounds-may_tell-end c = let x = c.args in
     let l = ends_long x.records.now x.own.now x.node
     (sym c.ends_number-number.ensures ∙ c.if-number-ne0.false) in
     let n = c.if-node-ge-NODES_END.false in
-    let w = c.wide-start-2.ensures in
+    let w = c.from-start-2.ensures in
     omega arith
 
 pub returns-clause-value : goal.returns-clause-value
@@ -86,7 +86,7 @@ returns-clause-value c = let x = c.args in
     let f : Coordinator → Step = λ k. found_of tree k x.node x.object in
     let h : x.node < nodes = omega (arith, c.if-node-ge-NODES_END.false)
     in (off_lent x.records.now x.own.now x.node e z f h (step_not_two (found_refusals tree k x.node x.object) _ _ _ tt) _
-    c.wide-start-2.ensures _
+    c.from-start-2.ensures _
     (c.number-alone.ensures ∙ c.may_tell.ensures) _ c.off_number.ensures _ c.refused-2.ensures).0
 
 pub returns-clause-records_after : goal.returns-clause-records_after
@@ -98,5 +98,5 @@ returns-clause-records_after c = let x = c.args in
     let f : Coordinator → Step = λ k. found_of tree k x.node x.object in
     let h : x.node < nodes = omega (arith, c.if-node-ge-NODES_END.false)
     in (off_lent x.records.now x.own.now x.node e z f h (step_not_two (found_refusals tree k x.node x.object) _ _ _ tt) _
-    c.wide-start-2.ensures _
+    c.from-start-2.ensures _
     (c.number-alone.ensures ∙ c.may_tell.ensures) _ c.off_number.ensures _ c.refused-2.ensures).1
