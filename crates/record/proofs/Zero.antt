@@ -4,12 +4,12 @@ use mathlib.Core.Bool.{Bool, true, false, ◌&&◌}
 use mathlib.Core.List.{List, [], ◌∷◌}
 use Prim.Native.Nat.{ℕ, zero, suc, ◌+◌, ◌*◌, ◌-◌, ◌<◌, ◌≤◌}
 use native.Mathlib.Nat.{mul-suc}
+use native.Mathlib.Numerals.{add-one}
 use native.Mathlib.Omega.{arith}
 use lib.Dec.{T, eqb, eqb→eq}
 use borrow.Author.Tests.{eqb-false}
-use lib.ListN.{length, get_or, take, drop, length-take}
-use lib.Seq.{get_or-take, get_or-drop}
-use Rattle.std.specs.List.{fold}
+use lib.ListN.{length, get_or, take, drop, length-take, drop_of_length-le}
+use lib.Seq.{get_or-take, get_or-drop, drop-cons}
 use Rattle.mask.proofs.Tests.{same_test, and_both, and_left, and_right, compared}
 use Rattle.octets.specs.Octets.{get}
 use Rattle.wire.specs.Decode.{items_from}
@@ -24,13 +24,18 @@ pub last_true : (a : Bool) → (a && true) ≡ a
 last_true true = refl
 last_true false = refl
 
--- ---- all bytes tested at once
-pub zeros_folded : (ok : Bool) (l : List ℕ) → fold (λ (t : Bool) (x : ℕ). t && eqb x 0) ok l ≡ (ok && zeros l)
+-- ---- a loop over the bytes: one turn, and the end
+regroup : (a b c : Bool) → ((a && b) && c) ≡ (a && (b && c))
+regroup true b c = refl
+regroup false b c = refl
+
+pub zeros_next : (ok : Bool) (l : List ℕ) (i : ℕ) → i < length l → ((ok && eqb (get_or l i 0) 0) && zeros (drop (i + 1) l)) ≡ (ok && zeros (drop i l))
 unfolding zeros
-zeros_folded true [] = refl
-zeros_folded false [] = refl
-zeros_folded true (x ∷ l) = zeros_folded (eqb x 0) l
-zeros_folded false (x ∷ l) = zeros_folded false l
+zeros_next ok l i h = rw (add-one, drop-cons l i 0) (regroup ok (eqb (get_or l i 0) 0) (zeros (drop (suc i) l)))
+
+pub zeros_end : (ok : Bool) (l : List ℕ) (i : ℕ) → length l ≤ i → (ok && zeros (drop i l)) ≡ zeros l → ok ≡ zeros l
+unfolding zeros
+zeros_end ok l i h e = sym (last_true ok) ∙ (rw (drop_of_length-le l h) at e)
 
 -- ---- the bytes from a up to b are 0
 abbrev pub Zero : List ℕ → ℕ → ℕ → Type 0

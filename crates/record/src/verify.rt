@@ -40,7 +40,11 @@ fn implied(a: bool, b: bool) -> bool
 fn are_zero(bytes: &[u8]) -> bool
     ensures { result ≡ zeros bytes.now }
 {
-    bytes.iter().fold(true, |ok, x| ok & (*x == 0))
+    let mut ok = true;
+    for x in bytes {
+        ok &= *x == 0;
+    }
+    ok
 }
 
 // The phase, the outcome, the serial and the timestamp.

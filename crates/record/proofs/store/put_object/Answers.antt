@@ -1,7 +1,6 @@
 -- `record::store::put_object`: the stores, one after the other.
 use mathlib.Core.Path.{◌≡◌, refl}
 use mathlib.Core.Bool.{Bool, true, false, cond}
-use Prim.Native.Nat.{ℕ}
 use mir.Val.{bool_byte}
 use Rattle.record.proofs.Stores.{object_stores}
 use Rattle.record.proofs.store.put_object.Goals as goal

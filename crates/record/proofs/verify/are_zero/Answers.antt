@@ -1,12 +1,16 @@
--- `record::verify::are_zero`: the fold over the bytes.
-use Rattle.std.proofs.Common.{true, ◌&&◌, eqb, ◌∙◌, rules, tests}
-use Rattle.std.proofs.lemmas.Iterator.{YieldsList-from_slice}
-use Rattle.std.proofs.lemmas.Iterator.Consumers.{fold_from_yields_List}
-use Rattle.record.proofs.Zero.{zeros_folded}
+-- `record::verify::are_zero`: what was passed is 0, and what is left is to be.
+use mathlib.Core.Path.{refl, ◌∙◌}
+use native.Mathlib.Omega.{arith}
+use Rattle.record.proofs.Zero.{zeros_next, zeros_end}
 use Rattle.record.proofs.verify.are_zero.Goals as goal
 
+pub loop-x-init : goal.loop-x-init
+loop-x-init c = refl
+
+pub loop-x-preserved : goal.loop-x-preserved
+loop-x-preserved c = let p = c.loop-x in
+    zeros_next p.ok c.args.bytes.now p.x-index (omega arith) ∙ p.invariant
+
 pub returns : goal.returns
-returns c =
-    let l = c.args.bytes.now in
-    fold_from_yields_List _ (λ ok x. ok && eqb x 0) true _ c.fold.ensures.ran (YieldsList-from_slice l (cc)) (λ a x b q k. search (rules, tests))
-    ∙ zeros_folded true l
+returns c = let p = c.loop-x in
+    zeros_end p.ok c.args.bytes.now p.x-index (omega arith) p.invariant
