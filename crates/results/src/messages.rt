@@ -22,6 +22,7 @@ pub fn count(pool: &[u8]) -> u8
 }
 
 // Whether a message waits at a place.
+#[tactic(auto, unfolding(crate::specs::Told::there))]
 fn there(pool: &[u8], k: u8) -> bool
     ensures { result ≡ there pool.now k }
 {
