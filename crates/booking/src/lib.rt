@@ -52,7 +52,12 @@ pub fn set_value(c: &mut Coordinator, me: u8, object: u8, value: u64) -> Result<
 
 // Takes a fresh live mask and distances (document 01: look again); answers the chosen read quorum.
 // Ruled out: a new quorum that is not contacted though an object is open; the old quorum forgotten where there is no new one.
-pub fn reselect(c: &mut Coordinator, me: u8, live: u16, distances: [u16; NODES]) -> Result<u64, Refusal>
+pub fn reselect(
+    c: &mut Coordinator,
+    me: u8,
+    live: u16,
+    distances: [u16; NODES],
+) -> Result<u64, Refusal>
     ensures { Does (reselect_of tree c.old me live distances) result c.new }
 {
     let taken = coordinator::reselect(*c, me, live, distances)?;

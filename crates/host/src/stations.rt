@@ -375,6 +375,7 @@ pub fn senna_station_switch(own: &mut [u8], node: u8, up: u8) -> Answer
 }
 
 // How many messages wait; 0 for bytes that are no pool. Ruled out: one more than wait; the count byte of a damaged pool.
+#[tactic(auto, unfolding(crate::specs::Stations::waiting_in))]
 pub fn senna_station_waiting(pool: &[u8]) -> usize
     ensures { result ≡ waiting_in pool.now }
 {

@@ -11,7 +11,7 @@ use lib.ListN.{length, get_or, length-append}
 use lib.Seq.{get_or-append-add}
 use borrow.Author.Tests.{eq-eqb, ne_eqb, eqb-true, eqb-false, lt-ltb, le-ltb, ltb-true}
 use Rattle.wire.specs.Decode.{owner_of}
-use Rattle.coordinator.specs.declared.Step.{Step as Host}
+use Rattle.coordinator.specs.Step.{Step as Host}
 use Rattle.coordinator.specs.State.{committed}
 use Rattle.coordinator.specs.Calls.{no_node}
 use Rattle.mask.specs.Mask.{contains, only, joined, minus}

@@ -9,7 +9,7 @@ use lib.Dec.{eqb}
 use borrow.Author.Tests.{eqb-true, eqb-false, eq-eqb, ne_eqb}
 use Rattle.mask.specs.Mask.{contains}
 use Rattle.coordinator.specs.declared.Coordinator.{Coordinator}
-use Rattle.coordinator.specs.declared.Step.{Step as Made}
+use Rattle.coordinator.specs.Step.{Step as Made}
 use Rattle.coordinator.specs.State.{step_of}
 use Rattle.coordinator.specs.Calls.{begin_of, open_of, set_of, request_commit_of, abort_of}
 use Rattle.increments.specs.Deeds.{reads, writes, values, Deed, begins, edits, asks, aborts, edit_of, deed_of, ran}

@@ -127,7 +127,12 @@ pub fn set_value(records: &mut [u8], own: &[u8], node: u8, object: u8, value: u6
     if is_on(records.len(), own, node) {
         let start = record::SIZE * usize::from(node);
         let end = start + record::SIZE;
-        let c = Called::from(record_calls::set_value(&mut records[start..end], node, object, value));
+        let c = Called::from(record_calls::set_value(
+            &mut records[start..end],
+            node,
+            object,
+            value,
+        ));
         return answered(c);
     }
     let number = ends_number(records.len(), own);
@@ -181,7 +186,12 @@ pub fn reselect(
     if is_on(records.len(), own, node) {
         let start = record::SIZE * usize::from(node);
         let end = start + record::SIZE;
-        let c = Called::from(record_calls::reselect(&mut records[start..end], node, live, distances));
+        let c = Called::from(record_calls::reselect(
+            &mut records[start..end],
+            node,
+            live,
+            distances,
+        ));
         return answered(c);
     }
     let number = ends_number(records.len(), own);
@@ -193,7 +203,12 @@ pub fn reselect(
     }
     let start = record::SIZE * usize::from(node);
     let end = start + record::SIZE;
-    let alone = numbers::number(record_calls::may_reselect(&records[start..end], node, live, distances));
+    let alone = numbers::number(record_calls::may_reselect(
+        &records[start..end],
+        node,
+        live,
+        distances,
+    ));
     refused(off_number(alone))
 }
 

@@ -1,4 +1,5 @@
 -- `host::images::author_number`: the list of refusals, in order.
+use mathlib.Core.Path.{◌∙◌}
 use borrow.Author.Tests.{eq-eqb, ne_eqb, lt-ltb, le-ltb}
 use Rattle.host.specs.Images.{author_number}
 use Rattle.host.proofs.images.author_number.Goals as goal
