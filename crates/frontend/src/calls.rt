@@ -6,6 +6,7 @@ ghost use Rattle.coordinator.specs.System.{tree};
 ghost use Rattle.coordinator.specs.Calls.{no_node};
 ghost use Rattle.increments.specs.Deeds.{reads, writes, values};
 ghost use Rattle.record.specs.Record.{record_of, check};
+ghost use Rattle.record.specs.Call.{called};
 ghost use Rattle.settings.specs.Settings.{settings_number};
 ghost use Rattle.frontend.specs.Plan.{begin, batch, edit, request, load_classes, out_of_turn_after, front_told, front_record, front_settings};
 ghost use Rattle.frontend.specs.Plan.{told_by, left_by, batch_here, request_by, lent_number};
@@ -14,9 +15,23 @@ use classes::MOST_CLASSES;
 use coordinator::{BeginWith, IDLE};
 use hours::LAST_MINUTE;
 use numbers::{NODES_END, either, first_refusal, lower, refuse};
+use record::Called;
 use record::look::phase;
-use record::{Called, refused, taken};
 use settings::{BATCH, CLASSES, KIND, OWN, SETTINGS, is_adding, is_closed, settle, tenths};
+
+// A call that is refused, by its number. Ruled out: an answer beside a number.
+pub(crate) fn refused(number: u8) -> Called
+    ensures { result ≡ called number 0 }
+{
+    Called { number, answer: 0 }
+}
+
+// A call that is taken. Ruled out: a number other than 0; the answer left out.
+pub(crate) fn taken(answer: u64) -> Called
+    ensures { result ≡ called 0 answer }
+{
+    Called { number: 0, answer }
+}
 
 // The number of a record and its settings: 1 another length of either, 2 either damaged.
 pub(crate) fn lent_number(bytes: &[u8], settings: &[u8]) -> u8

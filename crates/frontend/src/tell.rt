@@ -2,8 +2,8 @@
 ghost use Rattle.std.specs.Prelude.{◌≡◌};
 ghost use Rattle.frontend.specs.Tell.{waiting_of};
 
-use crate::calls::lent_number;
-use record::{Called, refused, taken};
+use crate::calls::{lent_number, refused, taken};
+use record::Called;
 use settings::{CLASSES, KIND, tenths};
 
 // A byte as an answer; a class as a place.

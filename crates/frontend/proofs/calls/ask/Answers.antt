@@ -80,7 +80,7 @@ returns-clause-value c = let l = c.args.bytes.now in
     let p = sym c.any_past.ensures ∙ c.if-any_past.false in
     let sums = c.sum_all.ensures.bytes_after in
     let w = c.request_commit-2.ensures in (by_kind l c.args.me c.args.adding true _ _ (c.if-not-adding.false) (
-      c.from.ensures ∙ w.value ∙ summed_told l small c.requires c.args.me [] e p _ sums,
+      c.from-2.ensures ∙ w.value ∙ summed_told l small c.requires c.args.me [] e p _ sums,
       w.bytes_after ∙ summed_left l small c.requires c.args.me [] e p _ sums,
     )).0
 
@@ -91,6 +91,6 @@ returns-clause-bytes_after c = let l = c.args.bytes.now in
     let p = sym c.any_past.ensures ∙ c.if-any_past.false in
     let sums = c.sum_all.ensures.bytes_after in
     let w = c.request_commit-2.ensures in (by_kind l c.args.me c.args.adding true _ _ (c.if-not-adding.false) (
-      c.from.ensures ∙ w.value ∙ summed_told l small c.requires c.args.me [] e p _ sums,
+      c.from-2.ensures ∙ w.value ∙ summed_told l small c.requires c.args.me [] e p _ sums,
       w.bytes_after ∙ summed_left l small c.requires c.args.me [] e p _ sums,
     )).1

@@ -186,7 +186,7 @@ returns-then-is_closed-clause-value c = let x = c.args in
     let n = neither x.list.now x.minute _ _ c.either.ensures c.is_overweight.ensures
     c.if-either.false in
     let e = (first_fine l s a _ f c.if-number-ne0.false).0 in
-    let own = own_number_lem (λ (k : Coordinator). begin_of tree k x.me x.w) l e _ (c.number-ahead.ensures ∙ c.may_begin-2.ensures) in
+    let own = own_number_lem (λ (k : Coordinator). begin_of tree k x.me x.w) l e _ (c.number-ahead.ensures ∙ c.may_begin-then-is_closed.ensures) in
     let h = shut_batch l s x.me x.w x.day x.minute x.list.now same z n.0 n.1
     (sym c.is_none.ensures ∙ c.if-is_none.false)
     (sym c.is_closed.ensures ∙ c.if-is_closed.true) _ (c.refuse.ensures ∙ ap (λ (k : ℕ). cond (not (eqb k 0)) k 13) (sym own)) in
@@ -206,7 +206,7 @@ returns-then-is_closed-clause-bytes_after c = let x = c.args in
     let n = neither x.list.now x.minute _ _ c.either.ensures c.is_overweight.ensures
     c.if-either.false in
     let e = (first_fine l s a _ f c.if-number-ne0.false).0 in
-    let own = own_number_lem (λ (k : Coordinator). begin_of tree k x.me x.w) l e _ (c.number-ahead.ensures ∙ c.may_begin-2.ensures) in
+    let own = own_number_lem (λ (k : Coordinator). begin_of tree k x.me x.w) l e _ (c.number-ahead.ensures ∙ c.may_begin-then-is_closed.ensures) in
     let h = shut_batch l s x.me x.w x.day x.minute x.list.now same z n.0 n.1
     (sym c.is_none.ensures ∙ c.if-is_none.false)
     (sym c.is_closed.ensures ∙ c.if-is_closed.true) _ (c.refuse.ensures ∙ ap (λ (k : ℕ). cond (not (eqb k 0)) k 13) (sym own)) in
@@ -226,7 +226,7 @@ returns-then-is_closed-clause-settings_after c = let x = c.args in
     let n = neither x.list.now x.minute _ _ c.either.ensures c.is_overweight.ensures
     c.if-either.false in
     let e = (first_fine l s a _ f c.if-number-ne0.false).0 in
-    let own = own_number_lem (λ (k : Coordinator). begin_of tree k x.me x.w) l e _ (c.number-ahead.ensures ∙ c.may_begin-2.ensures) in
+    let own = own_number_lem (λ (k : Coordinator). begin_of tree k x.me x.w) l e _ (c.number-ahead.ensures ∙ c.may_begin-then-is_closed.ensures) in
     let h = shut_batch l s x.me x.w x.day x.minute x.list.now same z n.0 n.1
     (sym c.is_none.ensures ∙ c.if-is_none.false)
     (sym c.is_closed.ensures ∙ c.if-is_closed.true) _ (c.refuse.ensures ∙ ap (λ (k : ℕ). cond (not (eqb k 0)) k 13) (sym own)) in

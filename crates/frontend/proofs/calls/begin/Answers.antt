@@ -136,8 +136,8 @@ returns-then-is_closed-clause-settings_after c = let x = c.args in
 pub tenths-waits-requires : goal.tenths-waits-requires
 tenths-waits-requires c = (lent_fine _ _ _ c.lent_number-number.ensures c.if-number-ne0.false).1
 
-pub begin-r-requires : goal.begin-r-requires
-begin-r-requires c = (lent_fine _ _ _ c.lent_number-number.ensures c.if-number-ne0.false).0
+pub begin-requires : goal.begin-requires
+begin-requires c = (lent_fine _ _ _ c.lent_number-number.ensures c.if-number-ne0.false).0
 
 pub settle-requires : goal.settle-requires
 settle-requires c = (lent_fine _ _ _ c.lent_number-number.ensures c.if-number-ne0.false).1
@@ -158,7 +158,8 @@ returns-then-r-eq0-clause-value c = let x = c.args in
     let now-settled : _ ≡ settled_as 0 no_tenths (record_of l) s = c.settle.ensures ∙ ap
     (λ (k : List ℕ). splice 17 211 (0 ∷ (k ++ no_tenths)) s) c.tenths-waits.ensures in
     let zero = sym (ap (λ (r : Called). r.number) (c.from-r.ensures ∙ b.value)) ∙ c.if-r-eq0.true in
-    let d = begin_goes l s x.me x.w x.day x.minute same z n _ _ _ (c.from-r.ensures ∙ b.value) b.bytes_after (λ q. now-settled, λ q. absurd (q zero)) in d.told
+    let d = begin_goes l s x.me x.w x.day x.minute same z n _ _ _ (c.from-r.ensures ∙ b.value) b.bytes_after
+    (λ q. now-settled, λ q. absurd (q zero)) in d.told
 
 pub returns-then-r-eq0-clause-bytes_after : goal.returns-then-r-eq0-clause-bytes_after
 unfolding list_number settled_as
@@ -176,7 +177,8 @@ returns-then-r-eq0-clause-bytes_after c = let x = c.args in
     let now-settled : _ ≡ settled_as 0 no_tenths (record_of l) s = c.settle.ensures ∙ ap
     (λ (k : List ℕ). splice 17 211 (0 ∷ (k ++ no_tenths)) s) c.tenths-waits.ensures in
     let zero = sym (ap (λ (r : Called). r.number) (c.from-r.ensures ∙ b.value)) ∙ c.if-r-eq0.true in
-    let d = begin_goes l s x.me x.w x.day x.minute same z n _ _ _ (c.from-r.ensures ∙ b.value) b.bytes_after (λ q. now-settled, λ q. absurd (q zero)) in d.its_record
+    let d = begin_goes l s x.me x.w x.day x.minute same z n _ _ _ (c.from-r.ensures ∙ b.value) b.bytes_after
+    (λ q. now-settled, λ q. absurd (q zero)) in d.its_record
 
 pub returns-then-r-eq0-clause-settings_after : goal.returns-then-r-eq0-clause-settings_after
 unfolding list_number settled_as
@@ -194,7 +196,8 @@ returns-then-r-eq0-clause-settings_after c = let x = c.args in
     let now-settled : _ ≡ settled_as 0 no_tenths (record_of l) s = c.settle.ensures ∙ ap
     (λ (k : List ℕ). splice 17 211 (0 ∷ (k ++ no_tenths)) s) c.tenths-waits.ensures in
     let zero = sym (ap (λ (r : Called). r.number) (c.from-r.ensures ∙ b.value)) ∙ c.if-r-eq0.true in
-    let d = begin_goes l s x.me x.w x.day x.minute same z n _ _ _ (c.from-r.ensures ∙ b.value) b.bytes_after (λ q. now-settled, λ q. absurd (q zero)) in d.settings
+    let d = begin_goes l s x.me x.w x.day x.minute same z n _ _ _ (c.from-r.ensures ∙ b.value) b.bytes_after
+    (λ q. now-settled, λ q. absurd (q zero)) in d.settings
 
 pub returns-else-r-eq0-clause-value : goal.returns-else-r-eq0-clause-value
 unfolding list_number
@@ -209,7 +212,8 @@ returns-else-r-eq0-clause-value c = let x = c.args in
     let n = open_number s x.day x.minute c.if-minute-gt-LAST_MINUTE.false
     (sym c.is_closed.ensures ∙ c.if-is_closed.false) _ in
     let b = c.begin.ensures in
-    let more : ((begin_of tree (record_of l) x.me x.w).number ≡ 0 → ⊥) = λ q. c.if-r-eq0.false (ap (λ (r : Called). r.number) (c.from-r.ensures ∙ b.value) ∙ q) in
+    let more : ((begin_of tree (record_of l) x.me x.w).number ≡ 0 → ⊥) =
+    λ q. c.if-r-eq0.false (ap (λ (r : Called). r.number) (c.from-r.ensures ∙ b.value) ∙ q) in
     let d = begin_goes l s x.me x.w x.day x.minute same z n _ _ _ (c.from-r.ensures ∙ b.value) b.bytes_after (λ q. absurd (more q), λ q. refl) in d.told
 
 pub returns-else-r-eq0-clause-bytes_after : goal.returns-else-r-eq0-clause-bytes_after
@@ -225,7 +229,8 @@ returns-else-r-eq0-clause-bytes_after c = let x = c.args in
     let n = open_number s x.day x.minute c.if-minute-gt-LAST_MINUTE.false
     (sym c.is_closed.ensures ∙ c.if-is_closed.false) _ in
     let b = c.begin.ensures in
-    let more : ((begin_of tree (record_of l) x.me x.w).number ≡ 0 → ⊥) = λ q. c.if-r-eq0.false (ap (λ (r : Called). r.number) (c.from-r.ensures ∙ b.value) ∙ q) in
+    let more : ((begin_of tree (record_of l) x.me x.w).number ≡ 0 → ⊥) =
+    λ q. c.if-r-eq0.false (ap (λ (r : Called). r.number) (c.from-r.ensures ∙ b.value) ∙ q) in
     let d = begin_goes l s x.me x.w x.day x.minute same z n _ _ _ (c.from-r.ensures ∙ b.value) b.bytes_after (λ q. absurd (more q), λ q. refl) in d.its_record
 
 pub returns-else-r-eq0-clause-settings_after : goal.returns-else-r-eq0-clause-settings_after
@@ -241,5 +246,6 @@ returns-else-r-eq0-clause-settings_after c = let x = c.args in
     let n = open_number s x.day x.minute c.if-minute-gt-LAST_MINUTE.false
     (sym c.is_closed.ensures ∙ c.if-is_closed.false) _ in
     let b = c.begin.ensures in
-    let more : ((begin_of tree (record_of l) x.me x.w).number ≡ 0 → ⊥) = λ q. c.if-r-eq0.false (ap (λ (r : Called). r.number) (c.from-r.ensures ∙ b.value) ∙ q) in
+    let more : ((begin_of tree (record_of l) x.me x.w).number ≡ 0 → ⊥) =
+    λ q. c.if-r-eq0.false (ap (λ (r : Called). r.number) (c.from-r.ensures ∙ b.value) ∙ q) in
     let d = begin_goes l s x.me x.w x.day x.minute same z n _ _ _ (c.from-r.ensures ∙ b.value) b.bytes_after (λ q. absurd (more q), λ q. refl) in d.settings

@@ -28,11 +28,13 @@ no_list LoadClasses a l h = absurd (miss rest 6 tt h)
 
 pub returns-in-Batch : goal.returns-in-Batch
 unfolding list_number call_by
-returns-in-Batch c = λ a. c.number.ensures ∙ c.check_batch.ensures ∙ ap (λ (k : Act). list_number (call_by k a c.args.list.now)) (sym c.in-Batch.is)
+returns-in-Batch c = λ a. c.number.ensures ∙ c.check_batch.ensures
+    ∙ ap (λ (k : Act). list_number (call_by k a c.args.list.now)) (sym c.in-Batch.is)
 
 pub returns-in-LoadClasses : goal.returns-in-LoadClasses
 unfolding list_number call_by
-returns-in-LoadClasses c = λ a. c.number-2.ensures ∙ c.check_length.ensures ∙ ap (λ (k : Act). list_number (call_by k a c.args.list.now)) (sym c.in-LoadClasses.is)
+returns-in-LoadClasses c = λ a. c.number-in-LoadClasses.ensures ∙ c.check_length.ensures
+    ∙ ap (λ (k : Act). list_number (call_by k a c.args.list.now)) (sym c.in-LoadClasses.is)
 
 pub returns-in_default : goal.returns-in_default
 returns-in_default c = λ a. no_list c.args.act a c.args.list.now (opened c.in_default.in_default-own.keys3)

@@ -50,8 +50,9 @@ returns-in-Batch c = let x = c.args in
 pub returns-in-LoadClasses : goal.returns-in-LoadClasses
 unfolding nowhere call_by
 returns-in-LoadClasses c = let x = c.args in
-    by_act x.a x.list.now LoadClasses _
-    (c.refuse-in-LoadClasses.ensures ∙ ap (λ (n : ℕ). cond (not (eqb n 0)) n 4) (c.number-first-2.ensures ∙ c.check_length.ensures)) c.in-LoadClasses.is
+    let first = c.number-first-in-LoadClasses.ensures ∙ c.check_length.ensures in
+    by_act x.a x.list.now LoadClasses _ (c.refuse-in-LoadClasses.ensures ∙ ap (λ (n : ℕ). cond (not (eqb n 0)) n 4) first)
+    c.in-LoadClasses.is
 
 pub returns-in_default : goal.returns-in_default
 returns-in_default c = let x = c.args in
