@@ -19,7 +19,7 @@ use Rattle.replica.specs.Receive.{deliver}
 use Rattle.replica.proofs.Delivered.{either_way}
 use Rattle.coordinator.specs.declared.Coordinator.{Coordinator}
 use Rattle.coordinator.specs.declared.BeginWith.{BeginWith}
-use Rattle.coordinator.specs.declared.Step.{Step as Made}
+use Rattle.coordinator.specs.Step.{Step as Made}
 use Rattle.coordinator.specs.System.{System}
 use Rattle.coordinator.specs.State.{idle_phase, open_phase, finishing_phase, committed, aborted, idle_after, step_of}
 use Rattle.coordinator.specs.Calls.{no_node, begin_refusals, begun, begin_of, open_refusals, opened, open_of, set_refusals, with_new, set_of, found_of}

@@ -11,7 +11,7 @@ use borrow.Author.Tests.{eqb-true}
 use Rattle.mask.specs.Mask.{contains, joined}
 use Rattle.quorum.specs.Nearest.{mask_of}
 use Rattle.coordinator.specs.declared.Coordinator.{Coordinator}
-use Rattle.coordinator.specs.declared.Step.{Step as Made}
+use Rattle.coordinator.specs.Step.{Step as Made}
 use Rattle.coordinator.specs.System.{System}
 use Rattle.coordinator.specs.State.{open_phase}
 use Rattle.coordinator.specs.Calls.{open_refusals, opened, open_of, set_refusals, with_new, set_of, request_commit_refusals, requested, request_commit_of}

@@ -18,7 +18,7 @@ use Rattle.wire.specs.Formed.{every}
 use Rattle.replica.proofs.Delivered.{either_way}
 use Rattle.coordinator.specs.declared.Object.{Object}
 use Rattle.coordinator.specs.declared.Coordinator.{Coordinator}
-use Rattle.coordinator.specs.declared.Step.{Step as Made}
+use Rattle.coordinator.specs.Step.{Step as Made}
 use Rattle.coordinator.specs.System.{System}
 use Rattle.coordinator.specs.State.{idle_phase, open_phase, no_object, place_of, object_at, is_open, step_of}
 use Rattle.coordinator.specs.Calls.{no_node, set_refusals, set_of, request_commit_refusals, request_commit_of}

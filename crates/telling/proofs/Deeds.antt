@@ -8,7 +8,7 @@ use lib.Dec.{eqb}
 use borrow.Author.Tests.{eqb-true}
 use Rattle.mask.specs.Mask.{contains}
 use Rattle.coordinator.specs.declared.Coordinator.{Coordinator}
-use Rattle.coordinator.specs.declared.Step.{Step as Made}
+use Rattle.coordinator.specs.Step.{Step as Made}
 use Rattle.coordinator.specs.System.{System}
 use Rattle.coordinator.specs.Calls.{begin_of, open_of, set_of, request_commit_of, abort_of}
 use Rattle.replay.specs.Sheet.{begun_after, opened_after, valued_after}
