@@ -1,6 +1,7 @@
 // A node's own transaction (document 01: the booking record), changed in place: the host's calls and a delivery on a record that is lent. Each is
 // the coordinator's step by value, with the record before it taken out and the record after it put back. A call that is refused
-// leaves the record as before. Document 01 asks for the step in this form; a call from C works on the record's bytes instead, in `record_calls` and `record_arrive`.
+// leaves the record as before. Document 01 asks for the step in this form; a call from C works on the record's bytes instead, in `record_calls` and
+// `record_arrive`.
 #![tactic(auto)]
 
 ghost use Rattle.coordinator.specs.System.{tree};

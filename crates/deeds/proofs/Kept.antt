@@ -20,6 +20,7 @@ use Rattle.clauses.proofs.Fits.{AllBelow, Fits}
 use Rattle.clauses.proofs.Fits.{begin_fits, open_fits, set_fits, reselect_fits, request_fits, abort_fits}
 use Rattle.record.specs.Record.{record_of, bytes_of, check}
 use Rattle.record.specs.Call.{kept, record_after}
+use Rattle.record.proofs.Stored.{readable}
 use Rattle.record.proofs.Kept.{same_bytes, Keeps}
 
 module _ (me : ℕ) where
@@ -59,3 +60,6 @@ found_bytes me object l b =
     on_cond (λ (x : List ℕ). x ≡ l) (eqb (found_of tree (record_of l) me object).number 0) (bytes_of (found_of tree (record_of l) me object).coordinator) l
     (λ z. ap bytes_of (found_leaves tree (record_of l) me object) ∙ same_bytes l b (eqb-true (check l) 0 t)) (λ z. refl))
     (λ t. refl)
+
+-- what a checked record has: its length, and few objects
+pub ruleset few = (readable)

@@ -101,7 +101,7 @@ pub fn may_open(bytes: &[u8], me: u8, object: u8) -> Result<(), Refusal>
 
 // Opens an object in a mode: one object more, and the present read quorum contacted. Ruled out: an object opened twice; another object altered.
 // The condition is a plain fact of a record that was checked; only the crates that work on one use it, and each proves it.
-#[tactic(auto, using(record::proofs::Stored::readable), unfolding(coordinator::specs::Calls::open_of, coordinator::specs::State::step_of, record::specs::Call::kept))]
+#[tactic(auto, using(crate::proofs::Kept::few), unfolding(coordinator::specs::Calls::open_of, coordinator::specs::State::step_of, record::specs::Call::kept))]
 pub fn open(bytes: &mut [u8], me: u8, object: u8, mode: u8) -> Result<u64, Refusal>
     requires { check bytes.old ≡ 0 }
     ensures value { told result ≡ told_by (open_of (record_of bytes.old) me object mode) }
@@ -143,7 +143,7 @@ pub fn may_set(bytes: &[u8], me: u8, object: u8) -> Result<(), Refusal>
 
 // Gives a written object its new value. Ruled out: the value found overwritten; an object that is only read given one.
 // The condition is a plain fact of a record that was checked; only the crates that work on one use it, and each proves it.
-#[tactic(auto, using(record::proofs::Stored::readable), unfolding(coordinator::specs::Calls::set_of, coordinator::specs::Calls::with_new, coordinator::specs::State::step_of, record::specs::Call::kept))]
+#[tactic(auto, using(crate::proofs::Kept::few), unfolding(coordinator::specs::Calls::set_of, coordinator::specs::State::step_of, record::specs::Call::kept))]
 pub fn set_value(bytes: &mut [u8], me: u8, object: u8, value: u64) -> Result<u64, Refusal>
     requires { check bytes.old ≡ 0 }
     ensures value { told result ≡ told_by (set_of (record_of bytes.old) me object value) }
@@ -182,7 +182,7 @@ pub fn may_tell(bytes: &[u8], me: u8, object: u8) -> Result<(), Refusal>
 
 // Answers the value found for a ready object. Ruled out: the new value; number 0 for an object that is not ready.
 // The condition is a plain fact of a record that was checked; only the crates that work on one use it, and each proves it.
-#[tactic(auto, using(record::proofs::Stored::readable), unfolding(coordinator::specs::Calls::found_of, coordinator::specs::State::step_of))]
+#[tactic(auto, using(crate::proofs::Kept::few), unfolding(coordinator::specs::Calls::found_of, coordinator::specs::State::step_of))]
 pub fn found(bytes: &[u8], me: u8, object: u8) -> Result<u64, Refusal>
     requires { check bytes.now ≡ 0 }
     ensures { told result ≡ told_by (found_of tree (record_of bytes.now) me object) }
@@ -272,7 +272,7 @@ fn write_quorum(bytes: &[u8], me: u8) -> Option<Quorum>
 // The write quorum that a request to commit would ask for votes, or why it would ask none; no byte is altered. Ruled out: 8 before 11; a request taken
 // with an object that is not ready.
 // The condition is a plain fact of a record that was checked; only the crates that work on one use it, and each proves it.
-#[tactic(auto, using(record::proofs::Stored::readable), unfolding(coordinator::specs::Calls::request_commit_of, coordinator::specs::State::step_of))]
+#[tactic(auto, using(crate::proofs::Kept::few), unfolding(coordinator::specs::Calls::request_commit_of, coordinator::specs::State::step_of))]
 pub fn may_request(bytes: &[u8], me: u8) -> Result<Quorum, Refusal>
     requires { check bytes.now ≡ 0 }
     ensures number { number_of result ≡ (request_commit_of tree (record_of bytes.now) me).number }
@@ -283,7 +283,7 @@ pub fn may_request(bytes: &[u8], me: u8) -> Result<Quorum, Refusal>
 
 // Asks for votes: the phase and the participants alone change. Ruled out: the participants without a contacted node; a phase that stays open.
 // The condition is a plain fact of a record that was checked; only the crates that work on one use it, and each proves it.
-#[tactic(auto, unfolding(coordinator::specs::Calls::request_commit_of, coordinator::specs::Calls::requested, coordinator::specs::State::step_of, record::specs::Call::kept))]
+#[tactic(auto, unfolding(coordinator::specs::Calls::request_commit_of, coordinator::specs::State::step_of, record::specs::Call::kept))]
 pub fn request_commit(bytes: &mut [u8], me: u8) -> Result<u64, Refusal>
     requires { check bytes.old ≡ 0 }
     ensures value { told result ≡ told_by (request_commit_of tree (record_of bytes.old) me) }

@@ -130,7 +130,8 @@ fn store(kept: &mut [u8], list: &[u8])
     parts::lay(&mut kept[1..], list);
 }
 
-// Loads a table in place of the one before; refused for another length of either, and for a faulty table. Ruled out: a faulty table that takes the old one's place; a table
+// Loads a table in place of the one before; refused for another length of either, and for a faulty table. Ruled out: a faulty table that takes the
+// old one's place; a table
 // whose last date is lost.
 #[tactic(auto, unfolding(crate::specs::Kept::load_number, crate::specs::Kept::load_after))]
 pub fn load(kept: &mut [u8], list: &[u8]) -> Result<(), Refusal>

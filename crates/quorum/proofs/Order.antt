@@ -59,9 +59,11 @@ lighter_assoc None y z = refl
 lighter_assoc (Some x) None z = refl
 lighter_assoc (Some x) (Some y) None = lighter_nothing _
 lighter_assoc (Some x) (Some y) (Some z) =
-    assoc_by lighter_of (Some x) (Some y) (Some z) (lighter x.mask x.sum y.mask y.sum) (lighter y.mask y.sum z.mask z.sum) (lighter x.mask x.sum z.mask z.sum) refl refl refl
+    assoc_by lighter_of (Some x) (Some y) (Some z) (lighter x.mask x.sum y.mask y.sum) (lighter y.mask y.sum z.mask z.sum) (lighter x.mask x.sum
+      z.mask z.sum) refl refl refl
     (light_trans x.mask x.sum y.mask y.sum z.mask z.sum)
-    (λ a b. not_T (lighter x.mask x.sum z.mask z.sum) (λ w. T_not (lighter x.mask x.sum y.mask y.sum) a (light_trans x.mask x.sum z.mask z.sum y.mask y.sum w (light_total y.mask y.sum z.mask z.sum b))))
+    (λ a b. not_T (lighter x.mask x.sum z.mask z.sum) (λ w. T_not (lighter x.mask x.sum y.mask y.sum) a (light_trans x.mask x.sum z.mask z.sum y.mask
+      y.sum w (light_total y.mask y.sum z.mask z.sum b))))
 
 -- ---- the join of two sets that share nothing: masks and weights add
 pub both_nothing : (x : Choice) → both_of x None ≡ None
@@ -92,7 +94,8 @@ both_lighter (Some x) None z = refl
 both_lighter (Some x) (Some y) None = refl
 both_lighter (Some x) (Some y) (Some z) =
     cond_ap (both_of (Some x)) (lighter y.mask y.sum z.mask z.sum) (Some y) (Some z)
-    ∙ ap (λ (b : Bool). cond b (quorum_with (x.mask + y.mask) (x.sum + y.sum)) (quorum_with (x.mask + z.mask) (x.sum + z.sum))) (sym (lighter_shift x.mask x.sum y.mask y.sum z.mask z.sum))
+    ∙ ap (λ (b : Bool). cond b (quorum_with (x.mask + y.mask) (x.sum + y.sum)) (quorum_with (x.mask + z.mask) (x.sum + z.sum))) (sym (lighter_shift
+      x.mask x.sum y.mask y.sum z.mask z.sum))
 
 pub lighter_both : (x y z : Choice) → both_of (lighter_of x y) z ≡ lighter_of (both_of x z) (both_of y z)
 lighter_both x y z = both_comm (lighter_of x y) z ∙ both_lighter z x y ∙ ap₂ lighter_of (both_comm z x) (both_comm z y)
@@ -113,10 +116,12 @@ lighter_right m s n t h = by (lighter m s n t) h
     by false h = refl
 
 -- the same of keys: a weight times 2 ^ 24, and a mask below that
-pub by_key : (m s n t : ℕ) → m < 16777216 → n < 16777216 → 16777216 * s + m ≤ 16777216 * t + n → lighter_of (quorum_with m s) (quorum_with n t) ≡ quorum_with m s
+pub by_key : (m s n t : ℕ) → m < 16777216 → n < 16777216 → 16777216 * s + m ≤ 16777216 * t + n → lighter_of (quorum_with m s) (quorum_with n t) ≡
+    quorum_with m s
 by_key m s n t u v h =
     compared (lighter_of (quorum_with m s) (quorum_with n t) ≡ quorum_with m s) s t (λ e. lighter_left m s n t (by_weight m s n t e))
     (λ e. lighter_left m s n t (by_mask m s n t e (omega arith))) (λ e. absurd (omega arith))
 
-pub not_by_key : (m s n t : ℕ) → m < 16777216 → n < 16777216 → 16777216 * t + n < 16777216 * s + m → lighter_of (quorum_with m s) (quorum_with n t) ≡ quorum_with n t
+pub not_by_key : (m s n t : ℕ) → m < 16777216 → n < 16777216 → 16777216 * t + n < 16777216 * s + m → lighter_of (quorum_with m s) (quorum_with n t) ≡
+    quorum_with n t
 not_by_key m s n t u v h = lighter_right m s n t (lighter_cases ⊥ m s n t (λ a. omega arith) (λ a b. omega arith))

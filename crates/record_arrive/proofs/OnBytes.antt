@@ -13,6 +13,7 @@ use Rattle.coordinator.specs.Calls.{no_node}
 use Rattle.arrivals.specs.Receive.{for_replica, receive_refusals, receive_of}
 use Rattle.record.specs.Record.{check}
 use Rattle.record.specs.Call.{called, called_of, kept, record_after}
+use Rattle.record.proofs.OnBytes.{all_of, checked_length}
 use Rattle.record_arrive.specs.Call.{received_of}
 
 module _ (me : ℕ) (m l : List ℕ) where
@@ -46,3 +47,6 @@ pub number_length : (c : Coordinator) (me : ℕ) (m : List ℕ) (n : ℕ) → n 
 unfolding receive_refusals
 number_length c me m n e =
     one_first (eqb (check_of m) 1) (eqb (check_of m) 3) (no_node me || not (eqb (to_of m) me)) (for_replica (kind_of m)) n e
+
+-- a checked record is handed on as a part that is all of it
+pub ruleset whole = (all_of, checked_length)

@@ -1,1 +1,2 @@
--- A call's number found ahead.
+-- What is handed on of a checked record (Whole).
+pub mod Whole

@@ -12,7 +12,7 @@ use quorum::{Kind, Quorum};
 use record::check;
 
 // Whether a transaction may begin, or why not. Ruled out: 5 for a damaged record; 9 where no quorum is live.
-#[tactic(auto, using(record::proofs::Stored::readable), unfolding(record::specs::Call::called_of, coordinator::specs::Calls::begin_of, coordinator::specs::State::step_of))]
+#[tactic(auto, unfolding(record::specs::Call::called_of, coordinator::specs::Calls::begin_of, coordinator::specs::State::step_of))]
 pub fn may_begin(bytes: &[u8], me: u8, w: BeginWith) -> Result<Quorum, Refusal>
     ensures { number_of result ≡ (called_of (λ (c : Coordinator). begin_of tree c me w) bytes.now).number }
 {
@@ -23,7 +23,7 @@ pub fn may_begin(bytes: &[u8], me: u8, w: BeginWith) -> Result<Quorum, Refusal>
 }
 
 // Whether an object may be opened, the same in either mode. Ruled out: one that is open already taken; 7 for a ninth one that is open already.
-#[tactic(auto, using(record::proofs::Stored::readable), unfolding(record::specs::Call::called_of, coordinator::specs::Calls::open_of, coordinator::specs::State::step_of))]
+#[tactic(auto, unfolding(record::specs::Call::called_of, coordinator::specs::Calls::open_of, coordinator::specs::State::step_of))]
 pub fn may_open(bytes: &[u8], me: u8, object: u8) -> Result<(), Refusal>
     ensures { (mode : ℕ) → number_of result ≡ (called_of (λ (c : Coordinator). open_of c me object mode) bytes.now).number }
 {
@@ -32,7 +32,7 @@ pub fn may_open(bytes: &[u8], me: u8, object: u8) -> Result<(), Refusal>
 }
 
 // Whether an object may be given a value, the same for every value. Ruled out: one that is only read taken; 6 before 5.
-#[tactic(auto, using(record::proofs::Stored::readable), unfolding(record::specs::Call::called_of, coordinator::specs::Calls::set_of, coordinator::specs::State::step_of))]
+#[tactic(auto, unfolding(record::specs::Call::called_of, coordinator::specs::Calls::set_of, coordinator::specs::State::step_of))]
 pub fn may_set(bytes: &[u8], me: u8, object: u8) -> Result<(), Refusal>
     ensures { (value : ℕ) → number_of result ≡ (called_of (λ (c : Coordinator). set_of c me object value) bytes.now).number }
 {
@@ -41,7 +41,7 @@ pub fn may_set(bytes: &[u8], me: u8, object: u8) -> Result<(), Refusal>
 }
 
 // Whether the value found for an object may be told. Ruled out: 11 for an object that is ready; 11 for one that is not open.
-#[tactic(auto, using(record::proofs::Stored::readable), unfolding(record::specs::Call::called_of, coordinator::specs::Calls::found_of, coordinator::specs::State::step_of))]
+#[tactic(auto, unfolding(record::specs::Call::called_of, coordinator::specs::Calls::found_of, coordinator::specs::State::step_of))]
 pub fn may_tell(bytes: &[u8], me: u8, object: u8) -> Result<(), Refusal>
     ensures { number_of result ≡ (called_of (λ (c : Coordinator). found_of tree c me object) bytes.now).number }
 {
@@ -50,7 +50,7 @@ pub fn may_tell(bytes: &[u8], me: u8, object: u8) -> Result<(), Refusal>
 }
 
 // Whether the read quorum may be chosen anew. Ruled out: taken where the live nodes have none; 4 for a mask of nodes alone.
-#[tactic(auto, using(record::proofs::Stored::readable), unfolding(record::specs::Call::called_of, coordinator::specs::Calls::reselect_of, coordinator::specs::State::step_of))]
+#[tactic(auto, unfolding(record::specs::Call::called_of, coordinator::specs::Calls::reselect_of, coordinator::specs::State::step_of))]
 pub fn may_reselect(
     bytes: &[u8],
     me: u8,
@@ -65,7 +65,7 @@ pub fn may_reselect(
 }
 
 // Whether votes may be asked for. Ruled out: 8 before 11; taken with an object that is not ready.
-#[tactic(auto, using(record::proofs::Stored::readable), unfolding(record::specs::Call::called_of, coordinator::specs::Calls::request_commit_of, coordinator::specs::State::step_of))]
+#[tactic(auto, unfolding(record::specs::Call::called_of, coordinator::specs::Calls::request_commit_of, coordinator::specs::State::step_of))]
 pub fn may_request(bytes: &[u8], me: u8) -> Result<Quorum, Refusal>
     ensures { number_of result ≡ (called_of (λ (c : Coordinator). request_commit_of tree c me) bytes.now).number }
 {
@@ -74,7 +74,7 @@ pub fn may_request(bytes: &[u8], me: u8) -> Result<Quorum, Refusal>
 }
 
 // Whether the transaction may be given up. Ruled out: taken while finishing; 5 while voting.
-#[tactic(auto, using(record::proofs::Stored::readable), unfolding(record::specs::Call::called_of, coordinator::specs::Calls::abort_of, coordinator::specs::State::step_of))]
+#[tactic(auto, unfolding(record::specs::Call::called_of, coordinator::specs::Calls::abort_of, coordinator::specs::State::step_of))]
 pub fn may_abort(bytes: &[u8], me: u8) -> Result<(), Refusal>
     ensures { number_of result ≡ (called_of (λ (c : Coordinator). abort_of c me) bytes.now).number }
 {

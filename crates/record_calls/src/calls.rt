@@ -11,7 +11,7 @@ use numbers::{NODES, Refusal};
 use record::{SIZE, check};
 
 // Begins a transaction; answers the chosen read quorum. Ruled out: the record written back at a refusal; a serial that does not rise.
-#[tactic(auto, using(record::proofs::OnBytes::all_of, record::proofs::OnBytes::checked_length), unfolding(record::specs::Call::called_of, record::specs::Call::record_after))]
+#[tactic(auto, using(crate::proofs::Whole::whole), unfolding(record::specs::Call::called_of, record::specs::Call::record_after))]
 pub fn begin(bytes: &mut [u8], me: u8, w: BeginWith) -> Result<u64, Refusal>
     ensures value { told result ≡ called_of (λ (c : Coordinator). begin_of tree c me w) bytes.old }
     ensures bytes_after { bytes.new ≡ record_after (λ (c : Coordinator). begin_of tree c me w) bytes.old }
@@ -21,7 +21,7 @@ pub fn begin(bytes: &mut [u8], me: u8, w: BeginWith) -> Result<u64, Refusal>
 }
 
 // Opens an object, to read it or to write it. Ruled out: a read opened as a write; a byte of another object altered.
-#[tactic(auto, using(record::proofs::OnBytes::all_of, record::proofs::OnBytes::checked_length), unfolding(record::specs::Call::called_of, record::specs::Call::record_after))]
+#[tactic(auto, using(crate::proofs::Whole::whole), unfolding(record::specs::Call::called_of, record::specs::Call::record_after))]
 pub fn open_read(bytes: &mut [u8], me: u8, object: u8) -> Result<u64, Refusal>
     ensures value { told result ≡ called_of (λ (c : Coordinator). open_of c me object 0) bytes.old }
     ensures bytes_after { bytes.new ≡ record_after (λ (c : Coordinator). open_of c me object 0) bytes.old }
@@ -31,7 +31,7 @@ pub fn open_read(bytes: &mut [u8], me: u8, object: u8) -> Result<u64, Refusal>
 }
 
 // Ruled out: it is opened to be read; a ninth object taken.
-#[tactic(auto, using(record::proofs::OnBytes::all_of, record::proofs::OnBytes::checked_length), unfolding(record::specs::Call::called_of, record::specs::Call::record_after))]
+#[tactic(auto, using(crate::proofs::Whole::whole), unfolding(record::specs::Call::called_of, record::specs::Call::record_after))]
 pub fn open_write(bytes: &mut [u8], me: u8, object: u8) -> Result<u64, Refusal>
     ensures value { told result ≡ called_of (λ (c : Coordinator). open_of c me object 1) bytes.old }
     ensures bytes_after { bytes.new ≡ record_after (λ (c : Coordinator). open_of c me object 1) bytes.old }
@@ -41,7 +41,7 @@ pub fn open_write(bytes: &mut [u8], me: u8, object: u8) -> Result<u64, Refusal>
 }
 
 // Gives a written object its new value. Ruled out: the value found overwritten; a damaged record taken.
-#[tactic(auto, using(record::proofs::OnBytes::all_of, record::proofs::OnBytes::checked_length), unfolding(record::specs::Call::called_of, record::specs::Call::record_after))]
+#[tactic(auto, using(crate::proofs::Whole::whole), unfolding(record::specs::Call::called_of, record::specs::Call::record_after))]
 pub fn set_value(bytes: &mut [u8], me: u8, object: u8, value: u64) -> Result<u64, Refusal>
     ensures value { told result ≡ called_of (λ (c : Coordinator). set_of c me object value) bytes.old }
     ensures bytes_after { bytes.new ≡ record_after (λ (c : Coordinator). set_of c me object value) bytes.old }
@@ -51,7 +51,7 @@ pub fn set_value(bytes: &mut [u8], me: u8, object: u8, value: u64) -> Result<u64
 }
 
 // Answers the value found for a ready object. Ruled out: the new value; a byte altered.
-#[tactic(auto, using(record::proofs::OnBytes::all_of, record::proofs::OnBytes::checked_length), unfolding(record::specs::Call::called_of, record::specs::Call::record_after))]
+#[tactic(auto, using(crate::proofs::Whole::whole), unfolding(record::specs::Call::called_of, record::specs::Call::record_after))]
 pub fn found(bytes: &mut [u8], me: u8, object: u8) -> Result<u64, Refusal>
     ensures value { told result ≡ called_of (λ (c : Coordinator). found_of tree c me object) bytes.old }
     ensures bytes_after { bytes.new ≡ record_after (λ (c : Coordinator). found_of tree c me object) bytes.old }
@@ -61,7 +61,7 @@ pub fn found(bytes: &mut [u8], me: u8, object: u8) -> Result<u64, Refusal>
 }
 
 // Takes a fresh live mask and distances. Ruled out: the old quorum answered; the distances kept as they were.
-#[tactic(auto, using(record::proofs::OnBytes::all_of, record::proofs::OnBytes::checked_length), unfolding(record::specs::Call::called_of, record::specs::Call::record_after))]
+#[tactic(auto, using(crate::proofs::Whole::whole), unfolding(record::specs::Call::called_of, record::specs::Call::record_after))]
 pub fn reselect(
     bytes: &mut [u8],
     me: u8,
@@ -76,7 +76,7 @@ pub fn reselect(
 }
 
 // Asks for votes; answers the participants. Ruled out: 8 before 11; a phase that stays open.
-#[tactic(auto, using(record::proofs::OnBytes::all_of, record::proofs::OnBytes::checked_length), unfolding(record::specs::Call::called_of, record::specs::Call::record_after))]
+#[tactic(auto, using(crate::proofs::Whole::whole), unfolding(record::specs::Call::called_of, record::specs::Call::record_after))]
 pub fn request_commit(bytes: &mut [u8], me: u8) -> Result<u64, Refusal>
     ensures value { told result ≡ called_of (λ (c : Coordinator). request_commit_of tree c me) bytes.old }
     ensures bytes_after { bytes.new ≡ record_after (λ (c : Coordinator). request_commit_of tree c me) bytes.old }
@@ -86,7 +86,7 @@ pub fn request_commit(bytes: &mut [u8], me: u8) -> Result<u64, Refusal>
 }
 
 // Gives the transaction up. Ruled out: a finishing one aborted; number 0 with the record left as it was.
-#[tactic(auto, using(record::proofs::OnBytes::all_of, record::proofs::OnBytes::checked_length), unfolding(record::specs::Call::called_of, record::specs::Call::record_after))]
+#[tactic(auto, using(crate::proofs::Whole::whole), unfolding(record::specs::Call::called_of, record::specs::Call::record_after))]
 pub fn abort(bytes: &mut [u8], me: u8) -> Result<u64, Refusal>
     ensures value { told result ≡ called_of (λ (c : Coordinator). abort_of c me) bytes.old }
     ensures bytes_after { bytes.new ≡ record_after (λ (c : Coordinator). abort_of c me) bytes.old }

@@ -37,3 +37,5 @@ three false false h f = refl
 pub garbled_message : (b : List ℕ) (n : ℕ) → n ≡ check_of b → (n ≡ 0 → ⊥) → eqb (check_of b) 1 ≡ false → check_of b ≡ 3
 unfolding check_of
 garbled_message b n e h = three (ltb (length b) shortest_message || ltb longest_message (length b)) (accepted b) (λ z. h (e ∙ z))
+
+pub ruleset all = (short_image, damaged_image, garbled_message)

@@ -35,7 +35,7 @@ fn wrong_turn(image: &[u8], message: &[u8]) -> bool
 }
 
 // Whether a message may be delivered, with room of a size for an answer.
-#[tactic(auto, using(crate::proofs::Refused::short_image, crate::proofs::Refused::damaged_image, crate::proofs::Refused::garbled_message), unfolding(crate::specs::Receive::refusal, crate::specs::Receive::refusals, wire::specs::Decode::decode))]
+#[tactic(auto, using(crate::proofs::Refused::all), unfolding(crate::specs::Receive::refusal, crate::specs::Receive::refusals, wire::specs::Decode::decode))]
 fn may_deliver(image: &[u8], me: u8, message: &[u8], size: usize) -> Result<(), Refusal>
     ensures { number_of result ≡ refusal size image.now me message.now }
 {

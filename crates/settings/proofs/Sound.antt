@@ -9,6 +9,7 @@ use lib.Dec.{eqb, ltb}
 use lib.ListN.{length, get_or, take, length-append, length-replicate, get_or-replicate, get_or-eq_default}
 use lib.Seq.{take_at, drop_at, take_all, ext_get_or}
 use borrow.Author.Tests.{eq-eqb, eqb-true, ltb-false, le-ltb}
+use Rattle.numbers.proofs.Laws.{lower_none}
 use Rattle.parts.specs.Parts.{part, splice, padded}
 use Rattle.parts.proofs.Laws.{length_part, get_d_part, part_ext, length_splice, get_d_splice, part_splice, length_padded, padded_at}
 use Rattle.hours.specs.Hours.{table_number}
@@ -219,3 +220,6 @@ module _ (s list : List ℕ) (z : Sound s) (e : length_number list ≡ 0) (t : c
 pub blank_number_lem : settings_number blank_settings ≡ 0
 unfolding settings_number unsound sound no_table part
 blank_number_lem = simp blank_sound
+
+-- what settings that nothing refuses have
+pub ruleset loads = (lower_none, sound_parts)

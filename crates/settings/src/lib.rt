@@ -117,7 +117,7 @@ pub fn blank(settings: &mut [u8]) -> Result<(), Refusal>
 }
 
 // Loads a table of packing hours in place of the one before. Ruled out: a faulty table that takes the old one's place; 2 for a table that is too short.
-#[tactic(auto, using(numbers::proofs::Laws::lower_none, crate::proofs::Sound::sound_parts), unfolding(crate::specs::Settings::load_number, crate::specs::Settings::load_after, parts::specs::Parts::part))]
+#[tactic(auto, using(crate::proofs::Sound::loads), unfolding(crate::specs::Settings::load_number, crate::specs::Settings::load_after))]
 pub fn load_hours(settings: &mut [u8], list: &[u8]) -> Result<(), Refusal>
     ensures value { number_of result ≡ load_number settings.old list.now }
     ensures settings_after { settings.new ≡ load_after settings.old list.now }

@@ -13,7 +13,7 @@ use Rattle.arrivals.specs.Receive.{delivered, receive_refusals, receive_of}
 use Rattle.record.specs.Record.{record_of}
 use Rattle.record.specs.Call.{told_by, kept, record_after}
 use Rattle.record_arrive.proofs.OnBytes.{short_bytes, long_answer}
-use Rattle.record.proofs.OnBytes.{part_called, part_record}
+use Rattle.record.proofs.OnBytes.{refused_record, part_called, part_record}
 use Rattle.record_arrive.proofs.receive.Goals as goal
 
 -- a delivery that nothing refuses is the delivery of its kind
@@ -24,6 +24,10 @@ delivered_is c me m e = simp (eq-eqb _ 0 e)
 pub returns-then-not-has_length-clause-bytes_after : goal.returns-then-not-has_length-clause-bytes_after
 returns-then-not-has_length-clause-bytes_after c = let x = c.args in
     short_bytes x.me x.message.now x.bytes.now (not-false _ (sym c.has_length.ensures ∙ c.if-not-has_length.true))
+
+pub returns-in_err-check-clause-bytes_after : goal.returns-in_err-check-clause-bytes_after
+returns-in_err-check-clause-bytes_after c = let x = c.args in
+    refused_record (λ (d : Coordinator). receive_of tree d x.me x.message.now) x.bytes.now _ c.in_err-check.ensures (code_counts c.in_err-check.field-0.0)
 
 pub returns-in_err-may_receive-clause-bytes_after : goal.returns-in_err-may_receive-clause-bytes_after
 unfolding record_after kept receive_of

@@ -10,7 +10,8 @@ returns-then-number-eq-LENGTH c = rw (← (c.number-number.ensures ∙ c.check.e
 
 pub returns-then-number-eq-DAMAGED : goal.returns-then-number-eq-DAMAGED
 unfolding author_number
-returns-then-number-eq-DAMAGED c = rw (← (c.number-number.ensures ∙ c.check.ensures)) (simp (ne_eqb _ 1 c.if-number-eq-LENGTH.false, eq-eqb _ 2 c.if-number-eq-DAMAGED.true))
+returns-then-number-eq-DAMAGED c = rw (← (c.number-number.ensures
+    ∙ c.check.ensures)) (simp (ne_eqb _ 1 c.if-number-eq-LENGTH.false, eq-eqb _ 2 c.if-number-eq-DAMAGED.true))
 
 pub returns-then-object-lt-OBJECTS_END : goal.returns-then-object-lt-OBJECTS_END
 unfolding author_number
