@@ -60,10 +60,10 @@ lighter_assoc (Some x) None z = refl
 lighter_assoc (Some x) (Some y) None = lighter_nothing _
 lighter_assoc (Some x) (Some y) (Some z) =
     assoc_by lighter_of (Some x) (Some y) (Some z) (lighter x.mask x.sum y.mask y.sum) (lighter y.mask y.sum z.mask z.sum) (lighter x.mask x.sum
-      z.mask z.sum) refl refl refl
+    z.mask z.sum) refl refl refl
     (light_trans x.mask x.sum y.mask y.sum z.mask z.sum)
     (λ a b. not_T (lighter x.mask x.sum z.mask z.sum) (λ w. T_not (lighter x.mask x.sum y.mask y.sum) a (light_trans x.mask x.sum z.mask z.sum y.mask
-      y.sum w (light_total y.mask y.sum z.mask z.sum b))))
+    y.sum w (light_total y.mask y.sum z.mask z.sum b))))
 
 -- ---- the join of two sets that share nothing: masks and weights add
 pub both_nothing : (x : Choice) → both_of x None ≡ None
@@ -95,7 +95,7 @@ both_lighter (Some x) (Some y) None = refl
 both_lighter (Some x) (Some y) (Some z) =
     cond_ap (both_of (Some x)) (lighter y.mask y.sum z.mask z.sum) (Some y) (Some z)
     ∙ ap (λ (b : Bool). cond b (quorum_with (x.mask + y.mask) (x.sum + y.sum)) (quorum_with (x.mask + z.mask) (x.sum + z.sum))) (sym (lighter_shift
-      x.mask x.sum y.mask y.sum z.mask z.sum))
+    x.mask x.sum y.mask y.sum z.mask z.sum))
 
 pub lighter_both : (x y z : Choice) → both_of (lighter_of x y) z ≡ lighter_of (both_of x z) (both_of y z)
 lighter_both x y z = both_comm (lighter_of x y) z ∙ both_lighter z x y ∙ ap₂ lighter_of (both_comm z x) (both_comm z y)

@@ -30,8 +30,13 @@ unfolding laid
 loop-i-init c =
     let lead = c.lead-at.ensures in
     let first = c.first-n.ensures.0 in
-    record { at = lead.long.0; room = omega (arith, lead.long.1, c.min-2.ensures, c.if-min-numbers.false); fit = rw first refl; laid = rw
-      (lead.bytes, first) refl }
+    record {
+      at = lead.long.0;
+      room = omega (arith, lead.long.1, c.min-2.ensures, c.if-min-numbers.false);
+      fit = rw first refl;
+      laid = rw
+          (lead.bytes, first) refl;
+    }
 
 -- a number that does not fit its place
 over : (c : Then-limit-v) → fits c.args.shape (length c.args.out.now) (take c.args.listed c.args.list.now) ≡ false

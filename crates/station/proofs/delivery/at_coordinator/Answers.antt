@@ -37,7 +37,7 @@ returns-in-Err-clause-by_index c = let x = c.args in
     let q = c.requires in
     let t = c.in-Err.ensures in
     (λ I O. c.refused.ensures ∙ ap (λ (n : ℕ). answer_with n 0) c.from.ensures
-      ∙ (away I R P O x.node x.k x.kept q.1 q.0 q.4 _ t.number (code_counts c.in-Err.refusal)).0)
+    ∙ (away I R P O x.node x.k x.kept q.1 q.0 q.4 _ t.number (code_counts c.in-Err.refusal)).0)
 
 pub returns-in-Err-clause-by_index_2 : goal.returns-in-Err-clause-by_index_2
 returns-in-Err-clause-by_index_2 c = let x = c.args in

@@ -28,7 +28,7 @@ returns-then-is_on-clause-value c = let x = c.args in
     let t = on_is x.records.now x.own.now x.node (sym c.is_on.ensures ∙ c.if-is_on.true) in
     let f : Coordinator → Step = λ k. open_of k x.node x.object 1 in
     let i = c.from-start.ensures in (on_lent x.records.now x.own.now x.node f t _ i _ (c.from-c.ensures
-      ∙ c.open_write.ensures.value) _ c.open_write.ensures.bytes_after _ c.answered.ensures).0
+    ∙ c.open_write.ensures.value) _ c.open_write.ensures.bytes_after _ c.answered.ensures).0
 
 pub returns-then-is_on-clause-records_after : goal.returns-then-is_on-clause-records_after
 unfolding step
@@ -36,7 +36,7 @@ returns-then-is_on-clause-records_after c = let x = c.args in
     let t = on_is x.records.now x.own.now x.node (sym c.is_on.ensures ∙ c.if-is_on.true) in
     let f : Coordinator → Step = λ k. open_of k x.node x.object 1 in
     let i = c.from-start.ensures in (on_lent x.records.now x.own.now x.node f t _ i _ (c.from-c.ensures
-      ∙ c.open_write.ensures.value) _ c.open_write.ensures.bytes_after _ c.answered.ensures).1
+    ∙ c.open_write.ensures.value) _ c.open_write.ensures.bytes_after _ c.answered.ensures).1
 
 pub returns-then-number-ne0-clause-value : goal.returns-then-number-ne0-clause-value
 returns-then-number-ne0-clause-value c = let x = c.args in

@@ -29,7 +29,7 @@ returns-then-is_on-clause-value c = let x = c.args in
     let t = on_is x.records.now x.own.now x.node (sym c.is_on.ensures ∙ c.if-is_on.true) in
     let f : Coordinator → Step = λ k. request_commit_of tree k x.node in
     let i = c.from-start.ensures in (on_lent x.records.now x.own.now x.node f t _ i _ (c.from-c.ensures
-      ∙ c.request_commit.ensures.value) _ c.request_commit.ensures.bytes_after _ c.answered.ensures).0
+    ∙ c.request_commit.ensures.value) _ c.request_commit.ensures.bytes_after _ c.answered.ensures).0
 
 pub returns-then-is_on-clause-records_after : goal.returns-then-is_on-clause-records_after
 unfolding step
@@ -37,7 +37,7 @@ returns-then-is_on-clause-records_after c = let x = c.args in
     let t = on_is x.records.now x.own.now x.node (sym c.is_on.ensures ∙ c.if-is_on.true) in
     let f : Coordinator → Step = λ k. request_commit_of tree k x.node in
     let i = c.from-start.ensures in (on_lent x.records.now x.own.now x.node f t _ i _ (c.from-c.ensures
-      ∙ c.request_commit.ensures.value) _ c.request_commit.ensures.bytes_after _ c.answered.ensures).1
+    ∙ c.request_commit.ensures.value) _ c.request_commit.ensures.bytes_after _ c.answered.ensures).1
 
 pub returns-then-number-ne0-clause-value : goal.returns-then-number-ne0-clause-value
 returns-then-number-ne0-clause-value c = let x = c.args in
