@@ -49,4 +49,4 @@ number_length c me m n e =
     one_first (eqb (check_of m) 1) (eqb (check_of m) 3) (no_node me || not (eqb (to_of m) me)) (for_replica (kind_of m)) n e
 
 -- a checked record is handed on as a part that is all of it
-pub ruleset whole = (all_of, checked_length)
+pub ruleset all = (all_of, checked_length)

@@ -15,7 +15,7 @@ use record::{SIZE, check};
 
 // Delivers a message; answers what it brought about: refused for either length, then as any call.
 // Ruled out: 'damaged' for a damaged record and a message of 14 bytes; a yes that leaves the bytes as they were.
-#[tactic(auto, using(crate::proofs::OnBytes::whole), unfolding(crate::specs::Call::received_of, record::specs::Call::called_of))]
+#[tactic(auto, using(crate::proofs::OnBytes::all), unfolding(crate::specs::Call::received_of, record::specs::Call::called_of))]
 pub fn receive(bytes: &mut [u8], me: u8, message: &[u8]) -> Result<u64, Refusal>
     ensures value { told result ≡ received_of me message.now bytes.old }
     ensures bytes_after { bytes.new ≡ record_after (λ (c : Coordinator). receive_of tree c me message.now) bytes.old }

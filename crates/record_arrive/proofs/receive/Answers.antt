@@ -3,6 +3,7 @@ use mathlib.Core.Path.{◌≡◌, sym, ap, ◌∙◌}
 use mathlib.Core.List.{List}
 use Prim.Native.Nat.{ℕ}
 use lib.ListN.{take}
+use borrow.Author.Rules.{rules}
 use borrow.Author.Tests.{eq-eqb, ne_eqb, not-false, not-true}
 use Rattle.numbers.proofs.Outcome.{code_counts}
 use Rattle.coordinator.specs.declared.Coordinator.{Coordinator}
@@ -11,7 +12,8 @@ use Rattle.coordinator.specs.System.{tree}
 use Rattle.numbers.specs.Refusal.{first_of}
 use Rattle.arrivals.specs.Receive.{delivered, receive_refusals, receive_of}
 use Rattle.record.specs.Record.{record_of}
-use Rattle.record.specs.Call.{told_by, kept, record_after}
+use Rattle.record.specs.Call.{called_of, told_by, kept, record_after}
+use Rattle.record_arrive.specs.Call.{received_of}
 use Rattle.record_arrive.proofs.OnBytes.{short_bytes, long_answer}
 use Rattle.record.proofs.OnBytes.{refused_record, part_called, part_record}
 use Rattle.record_arrive.proofs.receive.Goals as goal
@@ -28,6 +30,10 @@ returns-then-not-has_length-clause-bytes_after c = let x = c.args in
 pub returns-in_err-check-clause-bytes_after : goal.returns-in_err-check-clause-bytes_after
 returns-in_err-check-clause-bytes_after c = let x = c.args in
     refused_record (λ (d : Coordinator). receive_of tree d x.me x.message.now) x.bytes.now _ c.in_err-check.ensures (code_counts c.in_err-check.field-0.0)
+
+pub returns-in_err-may_receive-clause-value : goal.returns-in_err-may_receive-clause-value
+unfolding received_of called_of receive_of
+returns-in_err-may_receive-clause-value c = search rules
 
 pub returns-in_err-may_receive-clause-bytes_after : goal.returns-in_err-may_receive-clause-bytes_after
 unfolding record_after kept receive_of
