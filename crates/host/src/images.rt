@@ -30,7 +30,7 @@ pub fn senna_take_in(old: &[u8], image: &mut [u8]) -> u8
     ensures value { result ≡ take_number old.now image.old }
     ensures image_after { image.new ≡ take_after old.now image.old }
 {
-    intake::take_in(old, image)
+    numbers::number(intake::take_in(old, image))
 }
 
 // Takes a station's thirteen images of an older length in. Ruled out: the images before a damaged one written; 2 for twelve images.
@@ -38,7 +38,7 @@ pub fn senna_station_take_in(old: &[u8], images: &mut [u8]) -> u8
     ensures value { result ≡ convert_number old.now images.old }
     ensures images_after { images.new ≡ convert_after old.now images.old }
 {
-    station_intake::take_in_all(old, images)
+    numbers::number(station_intake::take_in_all(old, images))
 }
 
 // The number of asking who wrote an object's copy last.

@@ -6,11 +6,12 @@ ghost use Rattle.std.proofs.Math.Option.{none, some};
 ghost use Rattle.numbers.specs.Sizes.{nodes};
 ghost use Rattle.image.specs.Layout.{shape, image_size};
 ghost use Rattle.image.specs.Valid.{valid};
+ghost use Rattle.numbers.specs.Outcome.{number_of};
 ghost use Rattle.intake.specs.Take.{older_of, copy_as, owner_as, with_copy, with_kept, with_copies, with_owners, taken_in, take_number, take_after};
 ghost use Rattle.intake.specs.Pass.{shape_of, Fits};
 
 use image::{Copy, Owner, SIZE};
-use numbers::{NODES_END, both};
+use numbers::{NODES_END, Refusal, both};
 use read::{counts_ok, old_copy, old_owner};
 
 mod read;
@@ -112,24 +113,24 @@ fn is_valid(old: &[u8], s: Older, image: &[u8]) -> bool
     both(counts_ok(old, s), image::check(image).is_ok())
 }
 
-// Takes in `old`, an image of an older length: writes it into `image`, as one of today's. 1 where `old` has no older length or `image` not
-// today's, 2 where `old` is damaged; then nothing is altered. Ruled out: an author unknown where no copy was written; a copy more than the older bytes have;
+// Takes in `old`, an image of an older length: writes it into `image`, as one of today's. Refused where `old` has no older length or `image` not
+// today's, and where `old` is damaged; then nothing is altered. Ruled out: an author unknown where no copy was written; a copy more than the older bytes have;
 // a damaged image taken in.
-pub fn take_in(old: &[u8], image: &mut [u8]) -> u8
-    ensures number { result ≡ take_number old.now image.old }
+pub fn take_in(old: &[u8], image: &mut [u8]) -> Result<(), Refusal>
+    ensures number { number_of result ≡ take_number old.now image.old }
     ensures image { image.new ≡ take_after old.now image.old }
 {
     let Some(s) = older_of(old.len()) else {
-        return numbers::LENGTH;
+        return Err(Refusal::Length);
     };
     if image.len() != SIZE {
-        return numbers::LENGTH;
+        return Err(Refusal::Length);
     }
     let mut scratch = [0u8; SIZE];
     fill(old, s, &mut scratch);
     if !is_valid(old, s, &scratch) {
-        return numbers::DAMAGED;
+        return Err(Refusal::Damaged);
     }
     parts::lay(image, &scratch);
-    0
+    Ok(())
 }

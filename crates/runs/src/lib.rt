@@ -41,7 +41,7 @@ pub fn take_in(old: &[u8], images: &mut [u8]) -> u8
     ensures images_after { images.new ≡ convert_after old.now images.old }
     ensures goes_on { GoesOn old.now result images.old images.new }
 {
-    station_intake::take_in_all(old, images)
+    numbers::number(station_intake::take_in_all(old, images))
 }
 
 // Whether a kind is a host's call at a node.

@@ -139,7 +139,7 @@ pub fn blank(
     if settings.len() != SETTINGS {
         return numbers::LENGTH;
     }
-    let number = station_calls::blank(images, records, pool, own, on);
+    let number = numbers::number(station_calls::blank(images, records, pool, own, on));
     if number != 0 {
         return number;
     }

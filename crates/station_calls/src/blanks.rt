@@ -2,19 +2,27 @@
 ghost use Rattle.std.specs.Prelude.{◌≡◌, length};
 ghost use Rattle.numbers.specs.Sizes.{nodes};
 ghost use Rattle.buffers.specs.Buffers.{all, images_size, records_size};
+ghost use Rattle.numbers.specs.Outcome.{number_of};
 ghost use Rattle.station_calls.specs.Calls.{images_blank, records_blank, blank_number, blank_after};
 
 use buffers::{IMAGES, OWN, RECORDS};
-use numbers::{EVERY_NODE, NODES, either, refuse};
+use numbers::{EVERY_NODE, NODES, Refusal};
 
-// The number of a blank station's buffers and mask.
-fn blank_number(images: &[u8], records: &[u8], pool: &[u8], own: &[u8], on: u16) -> u8
-    ensures { result ≡ blank_number (all images.now records.now pool.now own.now) on }
+// Whether a blank station may be made of these buffers, with these nodes on.
+#[tactic(auto, unfolding(crate::specs::Calls::blank_number))]
+fn may_blank(images: &[u8], records: &[u8], pool: &[u8], own: &[u8], on: u16) -> Result<(), Refusal>
+    ensures { number_of result ≡ blank_number (all images.now records.now pool.now own.now) on }
 {
-    let ends = either(images.len() != IMAGES, records.len() != RECORDS);
-    let rest = either(pool.len() != pool::SIZE, own.len() != OWN);
-    let stranger = refuse(numbers::STRANGER, EVERY_NODE < on, 0);
-    refuse(numbers::LENGTH, either(ends, rest), stranger)
+    if images.len() != IMAGES || records.len() != RECORDS {
+        return Err(Refusal::Length);
+    }
+    if pool.len() != pool::SIZE || own.len() != OWN {
+        return Err(Refusal::Length);
+    }
+    if EVERY_NODE < on {
+        return Err(Refusal::Stranger);
+    }
+    Ok(())
 }
 
 // Every image becomes blank.
@@ -44,21 +52,24 @@ fn blank_records(records: &mut [u8])
 }
 
 // Makes a blank station whose nodes of a mask are on. Ruled out: a message that still waits; a node that is on though the mask does not name it.
-pub fn blank(images: &mut [u8], records: &mut [u8], pool: &mut [u8], own: &mut [u8], on: u16) -> u8
-    ensures value { result ≡ blank_number (all images.old records.old pool.old own.old) on }
+pub fn blank(
+    images: &mut [u8],
+    records: &mut [u8],
+    pool: &mut [u8],
+    own: &mut [u8],
+    on: u16,
+) -> Result<(), Refusal>
+    ensures value { number_of result ≡ blank_number (all images.old records.old pool.old own.old) on }
     ensures images_after { images.new ≡ (blank_after (all images.old records.old pool.old own.old) on).images }
     ensures records_after { records.new ≡ (blank_after (all images.old records.old pool.old own.old) on).records }
     ensures pool_after { pool.new ≡ (blank_after (all images.old records.old pool.old own.old) on).pool }
     ensures own_after { own.new ≡ (blank_after (all images.old records.old pool.old own.old) on).own }
 {
-    let number = blank_number(images, records, pool, own, on);
-    if number != 0 {
-        return number;
-    }
+    may_blank(images, records, pool, own, on)?;
     blank_images(images);
     blank_records(records);
     // A pool of its length is never refused.
     let _ = pool::blank(pool);
     octets::put_u16(own, 0, on);
-    0
+    Ok(())
 }

@@ -16,7 +16,9 @@ use Rattle.image.proofs.Each.{lt_or_le}
 use Rattle.intake.specs.Take.{taken_in}
 use Rattle.intake.proofs.Taken.{length_taken, bytes_taken}
 use Rattle.buffers.specs.Buffers.{images_size, image_at, with_image_at}
-use Rattle.station_intake.specs.Convert.{old_at, taken_of, all_taken}
+use Rattle.station_intake.specs.Convert.{part_at, old_at, taken_of, all_taken}
+use Rattle.station_intake.specs.Pass.{number_of, first_number}
+use borrow.Author.Tests.{eq-eqb, ne_eqb}
 
 -- a part ends where the next one starts, or before
 pub part_ends : (w i n : ℕ) → i < n → w * i + w ≤ w * n
@@ -98,3 +100,24 @@ module _ (s : Shape) (l : List ℕ) where
       rw (take_at a r (size * n) e, drop_at a r (size * n) e)
       (sym (append_assoc a t (drop size r))
       ∙ ap (λ (x : List ℕ). (a ++ t) ++ x) (drop-drop size (size * n) m ∙ ap (λ (k : ℕ). drop k m) (sym (mul-suc size n))))
+
+-- ---- the first refusal of the parts stays the first
+pub refused_stays : (w : ℕ) (old : List ℕ) (n k : ℕ) → (first_number w old n ≡ 0 → ⊥) → first_number w old (n + k) ≡ first_number w old n
+unfolding first_number
+refused_stays w old n zero h =
+    let same : n + zero ≡ n = omega arith in
+    ap (first_number w old) same
+refused_stays w old n (suc k) h =
+    let e = refused_stays w old n k h in
+    let next : n + suc k ≡ suc (n + k) = omega arith in
+    let stays : first_number w old (suc (n + k)) ≡ first_number w old n = simp (ne_eqb (first_number w old (n + k)) 0 (λ z. h (sym e ∙ z))) e in
+    ap (first_number w old) next ∙ stays
+
+-- a part that is refused, where none before it was
+pub refused_first : (w : ℕ) (old : List ℕ) (n : ℕ) → n < nodes → first_number w old n ≡ 0 → (r : ℕ)
+    → r ≡ number_of (part_at w old n) → (r ≡ 0 → ⊥) → r ≡ first_number w old nodes
+unfolding first_number
+refused_first w old n h z r e f =
+    let now : first_number w old (suc n) ≡ r = simp (eq-eqb (first_number w old n) 0 z) (sym e) in
+    let all : suc n + (nodes - suc n) ≡ nodes = omega arith in
+    sym now ∙ sym (refused_stays w old (suc n) (nodes - suc n) (λ y. f (sym now ∙ y))) ∙ ap (first_number w old) all

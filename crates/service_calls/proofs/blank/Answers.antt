@@ -16,33 +16,33 @@ returns-then-settings-ne-SETTINGS-clause-settings_after c = let x = c.args
 pub returns-then-number-ne0-clause-value : goal.returns-then-number-ne0-clause-value
 returns-then-number-ne0-clause-value c = let x = c.args in
     let b = lent x.images.now x.records.now x.pool.now x.own.now x.settings.now in
-    let e = c.blank-number.ensures in
+    let e = c.blank.ensures in
     let l = c.if-settings-ne-SETTINGS.false in
-    let h : stationNumber b.station x.on ≡ 0 → ⊥ = λ z. c.if-number-ne0.true (e.value ∙ z) in
-    e.value ∙ sym (same_number b x.on l)
+    let h : stationNumber b.station x.on ≡ 0 → ⊥ = λ z. c.if-number-ne0.true (c.number-number.ensures ∙ e.value ∙ z) in
+    c.number-number.ensures ∙ e.value ∙ sym (same_number b x.on l)
 
 pub returns-then-number-ne0-clause-settings_after : goal.returns-then-number-ne0-clause-settings_after
 returns-then-number-ne0-clause-settings_after c = let x = c.args in
     let b = lent x.images.now x.records.now x.pool.now x.own.now x.settings.now in
-    let e = c.blank-number.ensures in
+    let e = c.blank.ensures in
     let l = c.if-settings-ne-SETTINGS.false in
-    let h : stationNumber b.station x.on ≡ 0 → ⊥ = λ z. c.if-number-ne0.true (e.value ∙ z) in
+    let h : stationNumber b.station x.on ≡ 0 → ⊥ = λ z. c.if-number-ne0.true (c.number-number.ensures ∙ e.value ∙ z) in
     (λ j. lent (e.images_after j) (e.records_after j) (e.pool_after j) (e.own_after j) x.settings.now) ∙ refused_blank b x.on l h
 
 pub returns-clause-value : goal.returns-clause-value
 returns-clause-value c = let x = c.args in
     let b = lent x.images.now x.records.now x.pool.now x.own.now x.settings.now in
-    let e = c.blank-number.ensures in
+    let e = c.blank.ensures in
     let l = c.if-settings-ne-SETTINGS.false in
-    let h : stationNumber b.station x.on ≡ 0 = sym e.value ∙ c.if-number-ne0.false in
+    let h : stationNumber b.station x.on ≡ 0 = sym (c.number-number.ensures ∙ e.value) ∙ c.if-number-ne0.false in
     let z = c.zero.ensures in
     sym (same_number b x.on l ∙ h)
 
 pub returns-clause-settings_after : goal.returns-clause-settings_after
 returns-clause-settings_after c = let x = c.args in
     let b = lent x.images.now x.records.now x.pool.now x.own.now x.settings.now in
-    let e = c.blank-number.ensures in
+    let e = c.blank.ensures in
     let l = c.if-settings-ne-SETTINGS.false in
-    let h : stationNumber b.station x.on ≡ 0 = sym e.value ∙ c.if-number-ne0.false in
+    let h : stationNumber b.station x.on ≡ 0 = sym (c.number-number.ensures ∙ e.value) ∙ c.if-number-ne0.false in
     let z = c.zero.ensures in
     (λ j. lent (e.images_after j) (e.records_after j) (e.pool_after j) (e.own_after j) (z j)) ∙ made_blank b x.on l h
