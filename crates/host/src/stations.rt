@@ -45,7 +45,7 @@ pub fn senna_station_blank(
     ensures settings_after { lent images.new records.new pool.new own.new settings.new
         ≡ blank_after (lent images.old records.old pool.old own.old settings.old) on }
 {
-    service_calls::blank(images, records, pool, own, settings, on)
+    numbers::number(service_calls::blank(images, records, pool, own, settings, on))
 }
 
 // The distances have another length.

@@ -3,6 +3,7 @@
 #![tactic(auto)]
 
 ghost use Rattle.std.specs.Prelude.{◌≡◌, []};
+ghost use Rattle.numbers.specs.Outcome.{number_of};
 ghost use Rattle.frontend.specs.Asked.{call_of};
 ghost use Rattle.record.specs.declared.Called.{Called};
 ghost use Rattle.buffers.specs.Buffers.{answer_with};
@@ -11,18 +12,11 @@ ghost use Rattle.service_calls.specs.Lent.{blank_after};
 
 use buffers::{Answer, ends_number, on, own_number, refused};
 use frontend::Ask;
-use numbers::{NODES, NODES_END, lower, refuse};
+use numbers::{NODES, NODES_END, Refusal, lower, refuse};
 use record::Called;
 
 // The bytes of thirteen nodes' settings.
 pub const SETTINGS: usize = settings::SETTINGS * NODES;
-
-// A byte as a count.
-fn wide(x: u8) -> usize
-    ensures { result ≡ x }
-{
-    x as usize
-}
 
 // What a call on a record tells, as an answer.
 fn answered(r: Called) -> Answer
@@ -34,20 +28,22 @@ fn answered(r: Called) -> Answer
     }
 }
 
-// The number of the settings: 1 another length, 2 damaged ones of the node.
-fn settings_number(settings: &[u8], node: u8) -> u8
-    ensures { result ≡ settings_first settings.now node }
+// Whether the settings are lent whole: 1 another length, 2 damaged ones of the node.
+fn check_settings(settings: &[u8], node: u8) -> Result<(), Refusal>
+    ensures { number_of result ≡ settings_first settings.now node }
 {
     if settings.len() != SETTINGS {
-        return numbers::LENGTH;
+        return Err(Refusal::Length);
     }
     if NODES_END <= node {
-        return 0;
+        return Ok(());
     }
-    let start = settings::SETTINGS * wide(node);
+    let start = settings::SETTINGS * usize::from(node);
     let end = start + settings::SETTINGS;
-    let number = numbers::number(settings::check(&settings[start..end]));
-    refuse(numbers::DAMAGED, number != 0, 0)
+    match settings::check(&settings[start..end]) {
+        Ok(()) => Ok(()),
+        Err(_) => Err(Refusal::Damaged),
+    }
 }
 
 // A host's call at a node, by its front end: over the node's record and settings where it is on, else its number alone. Ruled out: another node's record
@@ -76,8 +72,8 @@ pub fn front(
     if NODES_END <= node {
         return refused(frontend::nowhere_number(a, list));
     }
-    let r = record::SIZE * wide(node);
-    let s = settings::SETTINGS * wide(node);
+    let r = record::SIZE * usize::from(node);
+    let s = settings::SETTINGS * usize::from(node);
     if mask::has(on(own), node) {
         let called = frontend::front(
             &mut records[r..r + record::SIZE],
@@ -102,7 +98,10 @@ pub fn load_hours(own: &[u8], settings: &mut [u8], node: u8, list: &[u8]) -> Ans
     ensures value { result ≡ load_told (lent [] [] [] own.now settings.old) node list.now }
     ensures settings_after { settings.new ≡ load_settings (lent [] [] [] own.now settings.old) node list.now }
 {
-    let lent = lower(own_number(own), settings_number(settings, node));
+    let lent = lower(
+        own_number(own),
+        numbers::number(check_settings(settings, node)),
+    );
     let table = numbers::number(hours::check_table(list));
     let first = lower(lent, table);
     if first != 0 {
@@ -112,7 +111,7 @@ pub fn load_hours(own: &[u8], settings: &mut [u8], node: u8, list: &[u8]) -> Ans
         return refused(numbers::STRANGER);
     }
     if mask::has(on(own), node) {
-        let start = settings::SETTINGS * wide(node);
+        let start = settings::SETTINGS * usize::from(node);
         let end = start + settings::SETTINGS;
         // What refuses it was answered above.
         let _ = settings::load_hours(&mut settings[start..end], list);
@@ -130,19 +129,16 @@ pub fn blank(
     own: &mut [u8],
     settings: &mut [u8],
     on: u16,
-) -> u8
-    ensures value { result ≡ blank_number
+) -> Result<(), Refusal>
+    ensures value { number_of result ≡ blank_number
         (lent images.old records.old pool.old own.old settings.old) on }
     ensures settings_after { lent images.new records.new pool.new own.new settings.new
         ≡ blank_after (lent images.old records.old pool.old own.old settings.old) on }
 {
     if settings.len() != SETTINGS {
-        return numbers::LENGTH;
+        return Err(Refusal::Length);
     }
-    let number = numbers::number(station_calls::blank(images, records, pool, own, on));
-    if number != 0 {
-        return number;
-    }
+    station_calls::blank(images, records, pool, own, on)?;
     parts::zero(settings);
-    0
+    Ok(())
 }

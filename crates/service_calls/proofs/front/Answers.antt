@@ -90,7 +90,7 @@ slice_bounds-front-end c = let x = c.args in
     c.ends_number.ensures c.refuse-short.ensures)
     (c.list_number.ensures x.a) in
     let l = records_long R O S x.node a (sym f ∙ c.if-first-ne0.false) in
-    let w = c.wide-r.ensures in
+    let w = c.from-r.ensures in
     let h = c.if-node-ge-NODES_END.false in
     omega (arith, l, w, h)
 
@@ -104,7 +104,7 @@ slice_bounds-front-end-then-has c = let x = c.args in
     c.ends_number.ensures c.refuse-short.ensures)
     (c.list_number.ensures x.a) in
     let l = settings_long R O S x.node a (sym f ∙ c.if-first-ne0.false) in
-    let w = c.wide-s.ensures in
+    let w = c.from-s.ensures in
     let h = c.if-node-ge-NODES_END.false in
     omega (arith, l, w, h)
 
@@ -120,8 +120,8 @@ returns-then-has-clause-value c = let x = c.args in
     let u = sym (c.has.ensures ∙ ap (λ (k : ℕ). contains k x.node) c.on.ensures) in
     let h : x.node < nodes = omega (arith, c.if-node-ge-NODES_END.false) in
     let e = c.front-called.ensures in
-    let w = c.wide-r.ensures in
-    let w2 = c.wide-s.ensures in
+    let w = c.from-r.ensures in
+    let w2 = c.from-s.ensures in
     let p = lent_record_lem R _ x.node w in
     let q = lent_part S _ x.node w2 in
     let d = on_node R O S x.node a (sym f ∙ c.if-first-ne0.false) h (u ∙ c.if-has.true) _
@@ -143,8 +143,8 @@ returns-then-has-clause-records_after c = let x = c.args in
     let u = sym (c.has.ensures ∙ ap (λ (k : ℕ). contains k x.node) c.on.ensures) in
     let h : x.node < nodes = omega (arith, c.if-node-ge-NODES_END.false) in
     let e = c.front-called.ensures in
-    let w = c.wide-r.ensures in
-    let w2 = c.wide-s.ensures in
+    let w = c.from-r.ensures in
+    let w2 = c.from-s.ensures in
     let p = lent_record_lem R _ x.node w in
     let q = lent_part S _ x.node w2 in
     let d = on_node R O S x.node a (sym f ∙ c.if-first-ne0.false) h (u ∙ c.if-has.true) _
@@ -166,8 +166,8 @@ returns-then-has-clause-settings_after c = let x = c.args in
     let u = sym (c.has.ensures ∙ ap (λ (k : ℕ). contains k x.node) c.on.ensures) in
     let h : x.node < nodes = omega (arith, c.if-node-ge-NODES_END.false) in
     let e = c.front-called.ensures in
-    let w = c.wide-r.ensures in
-    let w2 = c.wide-s.ensures in
+    let w = c.from-r.ensures in
+    let w2 = c.from-s.ensures in
     let p = lent_record_lem R _ x.node w in
     let q = lent_part S _ x.node w2 in
     let d = on_node R O S x.node a (sym f ∙ c.if-first-ne0.false) h (u ∙ c.if-has.true) _
@@ -187,7 +187,7 @@ slice_bounds-off_number-end c = let x = c.args in
     c.ends_number.ensures c.refuse-short.ensures)
     (c.list_number.ensures x.a) in
     let l = records_long R O S x.node a (sym f ∙ c.if-first-ne0.false) in
-    let w = c.wide-r.ensures in
+    let w = c.from-r.ensures in
     let h = c.if-node-ge-NODES_END.false in
     omega (arith, l, w, h)
 
@@ -201,7 +201,7 @@ slice_bounds-off_number-end-2 c = let x = c.args in
     c.refuse-short.ensures)
     (c.list_number.ensures x.a) in
     let l = settings_long R O S x.node a (sym f ∙ c.if-first-ne0.false) in
-    let w = c.wide-s.ensures in
+    let w = c.from-s.ensures in
     let h = c.if-node-ge-NODES_END.false in
     omega (arith, l, w, h)
 
@@ -216,8 +216,8 @@ returns-clause-value c = let x = c.args in
     (c.list_number.ensures x.a) in
     let u = sym (c.has.ensures ∙ ap (λ (k : ℕ). contains k x.node) c.on.ensures) in
     let h : x.node < nodes = omega (arith, c.if-node-ge-NODES_END.false) in
-    let p = lent_record_lem R _ x.node c.wide-r.ensures in
-    let q = lent_part S _ x.node c.wide-s.ensures in
+    let p = lent_record_lem R _ x.node c.from-r.ensures in
+    let q = lent_part S _ x.node c.from-s.ensures in
     let d = off_node R O S x.node a (sym f ∙ c.if-first-ne0.false) h (u ∙ c.if-has.false) _
     (c.off_number.ensures ∙ ap₂ (λ (m n : List ℕ). off_told m n x.node a) p q) in c.refused-2.ensures ∙ d.told
 
@@ -232,8 +232,8 @@ returns-clause-records_after c = let x = c.args in
     (c.list_number.ensures x.a) in
     let u = sym (c.has.ensures ∙ ap (λ (k : ℕ). contains k x.node) c.on.ensures) in
     let h : x.node < nodes = omega (arith, c.if-node-ge-NODES_END.false) in
-    let p = lent_record_lem R _ x.node c.wide-r.ensures in
-    let q = lent_part S _ x.node c.wide-s.ensures in
+    let p = lent_record_lem R _ x.node c.from-r.ensures in
+    let q = lent_part S _ x.node c.from-s.ensures in
     let d = off_node R O S x.node a (sym f ∙ c.if-first-ne0.false) h (u ∙ c.if-has.false) _
     (c.off_number.ensures ∙ ap₂ (λ (m n : List ℕ). off_told m n x.node a) p q) in d.records
 
@@ -248,7 +248,7 @@ returns-clause-settings_after c = let x = c.args in
     (c.list_number.ensures x.a) in
     let u = sym (c.has.ensures ∙ ap (λ (k : ℕ). contains k x.node) c.on.ensures) in
     let h : x.node < nodes = omega (arith, c.if-node-ge-NODES_END.false) in
-    let p = lent_record_lem R _ x.node c.wide-r.ensures in
-    let q = lent_part S _ x.node c.wide-s.ensures in
+    let p = lent_record_lem R _ x.node c.from-r.ensures in
+    let q = lent_part S _ x.node c.from-s.ensures in
     let d = off_node R O S x.node a (sym f ∙ c.if-first-ne0.false) h (u ∙ c.if-has.false) _
     (c.off_number.ensures ∙ ap₂ (λ (m n : List ℕ). off_told m n x.node a) p q) in d.settings
