@@ -6,19 +6,6 @@ use crate::calls::{lent_number, refused, taken};
 use record::Called;
 use settings::{CLASSES, KIND, tenths};
 
-// A byte as an answer; a class as a place.
-fn answer(x: u8) -> u64
-    ensures { result ≡ x }
-{
-    x as u64
-}
-
-fn wide(x: u8) -> usize
-    ensures { result ≡ x }
-{
-    x as usize
-}
-
 // The tenths that wait in a class. Ruled out: those that a batch leaves over before it is committed; 0 for a class that the table does not have.
 pub fn waiting(bytes: &[u8], settings: &[u8], class: u8) -> Called
     ensures { result ≡ waiting_of bytes.now settings.now class }
@@ -28,9 +15,9 @@ pub fn waiting(bytes: &[u8], settings: &[u8], class: u8) -> Called
         return refused(number);
     }
     let count = classes::count(&settings[CLASSES..KIND]);
-    if count <= wide(class) {
+    if count <= usize::from(class) {
         return refused(numbers::NO_SUCH_OBJECT);
     }
     let list = tenths(bytes, settings);
-    taken(answer(list[wide(class)]))
+    taken(u64::from(list[usize::from(class)]))
 }

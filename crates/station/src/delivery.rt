@@ -12,7 +12,6 @@ ghost use Rattle.station.specs.Messages.{lengths_number, blocked, delivery_told,
 use crate::messages::{
     exchange, hand, hand_over, is_for_replica, message_number, receiver, take_out, will_answer,
 };
-use crate::wide;
 use buffers::{Answer, IMAGES, RECORDS, on, own_number, refused};
 use numbers::{LONGEST_MESSAGE, both, either, lower, refuse};
 
@@ -56,7 +55,7 @@ fn at_replica(images: &mut [u8], pool: &mut [u8], node: u8, k: u8, kept: bool) -
     if d.number != 0 {
         return refused(d.number);
     }
-    let n = wide(d.length);
+    let n = usize::from(d.length);
     exchange(pool, k, kept, &b[..n]);
     refused(0)
 }

@@ -9,10 +9,3 @@ mod pools;
 
 pub use delivery::deliver;
 pub use pools::{drop, send};
-
-// A byte as a count.
-pub(crate) fn wide(x: u8) -> usize
-    ensures { result ≡ x }
-{
-    x as usize
-}

@@ -10,7 +10,6 @@ ghost use Rattle.pool.specs.Pool.{check, count, message_at};
 ghost use Rattle.buffers.specs.Buffers.{image_at, record_at, images_size, records_size};
 ghost use Rattle.station.specs.Messages.{handed, images_handed, handed_over, answered_by, leaving};
 
-use crate::wide;
 use numbers::{Refusal, either};
 use replica::Received;
 
@@ -19,7 +18,7 @@ pub(crate) fn message_number(pool: &[u8], k: u8) -> u8
     requires { check pool.now ≡ 0 }
     ensures { result ≡ cond (ltb k (count pool.now)) (check_of (message_at pool.now k)) 5 }
 {
-    if wide(k) < pool::count(pool) {
+    if usize::from(k) < pool::count(pool) {
         let start = pool::place(k);
         let end = start + pool::length(pool, k);
         numbers::number(wire::check(&pool[start..end]))
@@ -57,7 +56,7 @@ pub(crate) fn will_answer(images: &[u8], pool: &[u8], node: u8, k: u8) -> bool
     requires { (length images.now ≡ images_size) × (node < nodes) × (check pool.now ≡ 0) × (k < count pool.now) }
     ensures { result ≡ spoken (handed longest_message images.now pool.now node k).answer }
 {
-    let first = image::SIZE * wide(node);
+    let first = image::SIZE * usize::from(node);
     let last = first + image::SIZE;
     let start = pool::place(k);
     let end = start + pool::length(pool, k);
@@ -71,7 +70,7 @@ pub(crate) fn hand(images: &mut [u8], pool: &[u8], node: u8, k: u8, answer: &mut
     ensures images { images.new ≡ images_handed (length answer.old) images.old pool.now node k }
     ensures buffer { answer.new ≡ buffer_of answer.old (image_at images.old node) node (message_at pool.now k) }
 {
-    let first = image::SIZE * wide(node);
+    let first = image::SIZE * usize::from(node);
     let last = first + image::SIZE;
     let start = pool::place(k);
     let end = start + pool::length(pool, k);
@@ -84,7 +83,7 @@ pub(crate) fn hand_over(records: &mut [u8], pool: &[u8], node: u8, k: u8) -> Res
     ensures number { told result ≡ calledBy node (message_at pool.now k) (record_at records.old node) }
     ensures records { records.new ≡ handed_over records.old pool.now node k }
 {
-    let first = record::SIZE * wide(node);
+    let first = record::SIZE * usize::from(node);
     let last = first + record::SIZE;
     let start = pool::place(k);
     let end = start + pool::length(pool, k);

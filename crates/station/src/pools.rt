@@ -4,7 +4,6 @@ ghost use Rattle.buffers.specs.Buffers.{records_size};
 ghost use Rattle.numbers.specs.Sizes.{longest_message};
 ghost use Rattle.station.specs.Messages.{owed_at, owed_into, sending, send_told, send_pool, dropping, drop_told, drop_pool};
 
-use crate::wide;
 use buffers::{Answer, ends_number, on, refused, when_off};
 use letters::Written;
 use numbers::{LONGEST_MESSAGE, NODES_END, lower};
@@ -16,7 +15,7 @@ fn write_at(records: &[u8], node: u8, to: u8, object: u8, out: &mut [u8]) -> Wri
     ensures out_after { out.new ≡ owed_into records.now node to object out.old }
 {
     if node < NODES_END {
-        let start = record::SIZE * wide(node);
+        let start = record::SIZE * usize::from(node);
         let end = start + record::SIZE;
         record_due::write_due(&records[start..end], node, to, object, out)
     } else {
@@ -51,7 +50,7 @@ pub fn send(records: &[u8], pool: &mut [u8], own: &[u8], node: u8, to: u8, objec
     if numbers::MOST_WAITING <= pool::count(pool) {
         return refused(numbers::POOL_FULL);
     }
-    let n = wide(w.length);
+    let n = usize::from(w.length);
     if 0 < n {
         return refused(numbers::number(pool::add(pool, &b[..n])));
     }

@@ -13,22 +13,22 @@ pub slice_bounds-count-end : goal.slice_bounds-count-end
 slice_bounds-count-end c = let e = lent_long _ _ (sym c.lent_number-number.ensures ∙ c.if-number-ne0.false) in
     omega (arith, e)
 
-pub returns-then-count-wide : goal.returns-then-count-wide
+pub returns-then-count-from : goal.returns-then-count-from
 unfolding part
-returns-then-count-wide c = let x = c.args in
+returns-then-count-from c = let x = c.args in
     let fine = sym c.lent_number-number.ensures ∙ c.if-number-ne0.false in
-    c.refused-then-count-wide.ensures
-    ∙ waits_none x.bytes.now x.settings.now x.class fine _ c.count-count.ensures.0 _ c.wide.ensures c.if-count-wide.true
+    c.refused-then-count-from.ensures
+    ∙ waits_none x.bytes.now x.settings.now x.class fine _ c.count-count.ensures.0 _ c.from.ensures c.if-count-from.true
 
 pub tenths-list-requires : goal.tenths-list-requires
 tenths-list-requires c = lent_long _ _ (sym c.lent_number-number.ensures ∙ c.if-number-ne0.false)
 
-pub bounds-list-wide : goal.bounds-list-wide
+pub bounds-list-from : goal.bounds-list-from
 unfolding part
-bounds-list-wide c = let x = c.args in
+bounds-list-from c = let x = c.args in
     let fine = sym c.lent_number-number.ensures ∙ c.if-number-ne0.false in
-    class_inside x.bytes.now x.settings.now x.class fine _ c.count-count.ensures.0 _ c.wide.ensures c.if-count-wide.false
-    _ c.wide-2.ensures
+    class_inside x.bytes.now x.settings.now x.class fine _ c.count-count.ensures.0 _ c.from.ensures c.if-count-from.false
+    _ c.from-2.ensures
 
 pub returns : goal.returns
 unfolding part
@@ -36,4 +36,4 @@ returns c = let x = c.args in
     let fine = sym c.lent_number-number.ensures ∙ c.if-number-ne0.false in
     c.taken.ensures
     ∙ waits_told x.bytes.now x.settings.now x.class fine _ c.count-count.ensures.0 _
-    c.wide.ensures c.if-count-wide.false _ _ c.wide-2.ensures _ c.tenths-list.ensures c.answer.ensures
+    c.from.ensures c.if-count-from.false _ _ c.from-2.ensures _ c.tenths-list.ensures c.from-3.ensures

@@ -62,7 +62,7 @@ pub slice_bounds-b-end : goal.slice_bounds-b-end
 slice_bounds-b-end c = let x = c.args in
     let f = fits_here x.images.now x.images.now x.pool.now x.pool.now x.node x.k x.kept c.hand-d.result
     c.hand-d.ensures.number in
-    let i = c.wide-n.ensures in
+    let i = c.from-n.ensures in
     let g : length c.hand-d.new.answer ≡ longest_message = search rules in
     omega arith
 
@@ -70,9 +70,9 @@ pub slice_bounds-exchange-end : goal.slice_bounds-exchange-end
 slice_bounds-exchange-end c = let x = c.args in
     let f = fits_here x.images.now x.images.now x.pool.now x.pool.now x.node x.k x.kept c.hand-d.result
     c.hand-d.ensures.number in
-    let i = c.wide-n.ensures in
+    let i = c.from-n.ensures in
     let g : length c.hand-d.new.answer ≡ longest_message = search rules in
-    sym (length-take-le c.wide-n.result c.hand-d.new.answer (omega arith))
+    sym (length-take-le c.from-n.result c.hand-d.new.answer (omega arith))
 
 pub returns-clause-by_index : goal.returns-clause-by_index
 returns-clause-by_index c = let x = c.args in
@@ -86,7 +86,7 @@ returns-clause-by_index c = let x = c.args in
     let b = sym c.is_blocked.ensures ∙ c.if-is_blocked.false in
     let r = c.hand-d.result in
     let o = c.hand-d.new.answer in
-    let j = c.wide-n.ensures in
+    let j = c.from-n.ensures in
     (λ R O. c.refused-2.ensures ∙ (taken_here I R P O x.node x.k x.kept l p w r h.number f b (replicate longest_message 0) o h.buffer _ j).0)
 
 pub returns-clause-by_index_2 : goal.returns-clause-by_index_2
@@ -101,7 +101,7 @@ returns-clause-by_index_2 c = let x = c.args in
     let b = sym c.is_blocked.ensures ∙ c.if-is_blocked.false in
     let r = c.hand-d.result in
     let o = c.hand-d.new.answer in
-    let j = c.wide-n.ensures in
+    let j = c.from-n.ensures in
     (λ R O. h.images ∙ (taken_here I R P O x.node x.k x.kept l p w r h.number f b (replicate longest_message 0) o h.buffer _ j).1.0)
 
 pub returns-clause-by_index_3 : goal.returns-clause-by_index_3
@@ -116,6 +116,6 @@ returns-clause-by_index_3 c = let x = c.args in
     let b = sym c.is_blocked.ensures ∙ c.if-is_blocked.false in
     let r = c.hand-d.result in
     let o = c.hand-d.new.answer in
-    let j = c.wide-n.ensures in
+    let j = c.from-n.ensures in
     (λ R O. c.exchange.ensures ∙ (taken_here I R P O x.node x.k x.kept l p w r h.number f b (replicate longest_message 0) o
     h.buffer _ j).1.1)

@@ -37,9 +37,9 @@ unfolding image_at with_image_at
 returns-clause-number c = let x = c.args in
     let I = x.images.now in
     let out = x.answer.now in
-    let w = c.wide-first.result in
+    let w = c.from-first.result in
     let e : image_size shape * w + image_size shape - image_size shape * w ≡ image_size shape = omega arith in
-    let i = c.wide-first.ensures in
+    let i = c.from-first.ensures in
     let m = message_lent x.pool.now x.k _ _ c.place-start.ensures c.length.ensures in
     let s = c.place-start.result in
     let n = c.length.result in
@@ -54,9 +54,9 @@ unfolding image_at with_image_at
 returns-clause-images c = let x = c.args in
     let I = x.images.now in
     let out = x.answer.now in
-    let w = c.wide-first.result in
+    let w = c.from-first.result in
     let e : image_size shape * w + image_size shape - image_size shape * w ≡ image_size shape = omega arith in
-    let i = c.wide-first.ensures in
+    let i = c.from-first.ensures in
     let m = message_lent x.pool.now x.k _ _ c.place-start.ensures c.length.ensures in
     let s = c.place-start.result in
     let n = c.length.result in
@@ -76,9 +76,9 @@ unfolding image_at with_image_at
 returns-clause-buffer c = let x = c.args in
     let I = x.images.now in
     let out = x.answer.now in
-    let w = c.wide-first.result in
+    let w = c.from-first.result in
     let e : image_size shape * w + image_size shape - image_size shape * w ≡ image_size shape = omega arith in
-    let i = c.wide-first.ensures in
+    let i = c.from-first.ensures in
     let m = message_lent x.pool.now x.k _ _ c.place-start.ensures c.length.ensures in
     let s = c.place-start.result in
     let n = c.length.result in

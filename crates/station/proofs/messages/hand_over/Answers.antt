@@ -39,9 +39,9 @@ pub returns-clause-number : goal.returns-clause-number
 unfolding record_at with_record_at
 returns-clause-number c = let x = c.args in
     let R = x.records.now in
-    let w = c.wide-first.result in
+    let w = c.from-first.result in
     let e : record_size * w + record_size - record_size * w ≡ record_size = omega arith in
-    let i = c.wide-first.ensures in
+    let i = c.from-first.ensures in
     let m = message_lent x.pool.now x.k _ _ c.place-start.ensures c.length.ensures in
     let s = c.place-start.result in
     let n = c.length.result in
@@ -54,9 +54,9 @@ pub returns-clause-records : goal.returns-clause-records
 unfolding record_at with_record_at
 returns-clause-records c = let x = c.args in
     let R = x.records.now in
-    let w = c.wide-first.result in
+    let w = c.from-first.result in
     let e : record_size * w + record_size - record_size * w ≡ record_size = omega arith in
-    let i = c.wide-first.ensures in
+    let i = c.from-first.ensures in
     let m = message_lent x.pool.now x.k _ _ c.place-start.ensures c.length.ensures in
     let s = c.place-start.result in
     let n = c.length.result in

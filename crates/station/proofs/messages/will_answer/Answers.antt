@@ -29,10 +29,10 @@ slice_bounds-answers-end-2 c = let x = c.args in
 pub returns : goal.returns
 unfolding image_at part
 returns c = let x = c.args in
-    let w = c.wide-first.result in
+    let w = c.from-first.result in
     let e : image_size shape * w + image_size shape - image_size shape * w ≡ image_size shape = omega arith in
     let m = message_lent x.pool.now x.k _ _ c.place-start.ensures c.length.ensures in
     c.answers.ensures
     ∙ ap (λ (b : List ℕ). spoken (deliver longest_message
     (take (image_size shape * w + image_size shape - image_size shape * w) (drop (image_size shape * w) x.images.now)) x.node b).answer) m
-    ∙ rw (e, c.wide-first.ensures)
+    ∙ rw (e, c.from-first.ensures)

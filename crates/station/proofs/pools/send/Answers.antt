@@ -177,7 +177,7 @@ slice_bounds-b-end c = let x = c.args in
     let w = (owed_due x.records.now x.node x.to x.object _ c.write_at-w.ensures.value
     c.if-w-eq-DAMAGED.false).1 in
     let f = written_fits (record_in x.records.now x.node) x.node x.to x.object _ w in
-    let i = c.wide-n.ensures in
+    let i = c.from-n.ensures in
     let g : length c.write_at-w.new.out ≡ longest_message = search rules in
     omega arith
 
@@ -185,9 +185,9 @@ pub slice_bounds-add-end : goal.slice_bounds-add-end
 slice_bounds-add-end c = let x = c.args in
     let w = (owed_due x.records.now x.node x.to x.object _ c.write_at-w.ensures.value c.if-w-eq-DAMAGED.false).1 in
     let f = written_fits (record_in x.records.now x.node) x.node x.to x.object _ w in
-    let i = c.wide-n.ensures in
+    let i = c.from-n.ensures in
     let g : length c.write_at-w.new.out ≡ longest_message = search rules in
-    sym (length-take-le c.wide-n.result c.write_at-w.new.out (omega arith))
+    sym (length-take-le c.from-n.result c.write_at-w.new.out (omega arith))
 
 pub returns-then-n-gt0-clause-value : goal.returns-then-n-gt0-clause-value
 returns-then-n-gt0-clause-value c = let x = c.args in
@@ -208,8 +208,8 @@ returns-then-n-gt0-clause-value c = let x = c.args in
     let f : count P < most_waiting = omega arith in
     let p = (lower_none _ _ early).1 in
     let out = c.write_at-w.ensures.out_after ∙ owed_put R x.node x.to x.object _ due.0 in
-    let b = sent_both R P O x.node x.to x.object e _ w h f (let i = c.wide-n.ensures in let g = c.if-n-gt0.true in omega arith) p _ _
-    (length-replicate {A = ℕ} longest_message 0) out _ c.wide-n.ensures in
+    let b = sent_both R P O x.node x.to x.object e _ w h f (let i = c.from-n.ensures in let g = c.if-n-gt0.true in omega arith) p _ _
+    (length-replicate {A = ℕ} longest_message 0) out _ c.from-n.ensures in
     c.refused-then-n-gt0.ensures ∙ ap (λ (k : ℕ). answer_with k 0) (c.number.ensures ∙ c.add.ensures.number) ∙ b.0
     ∙ started_told R P O x.node x.to x.object first
 
@@ -232,8 +232,8 @@ returns-then-n-gt0-clause-pool_after c = let x = c.args in
     let f : count P < most_waiting = omega arith in
     let p = (lower_none _ _ early).1 in
     let out = c.write_at-w.ensures.out_after ∙ owed_put R x.node x.to x.object _ due.0 in
-    let b = sent_both R P O x.node x.to x.object e _ w h f (let i = c.wide-n.ensures in let g = c.if-n-gt0.true in omega arith) p _ _
-    (length-replicate {A = ℕ} longest_message 0) out _ c.wide-n.ensures in
+    let b = sent_both R P O x.node x.to x.object e _ w h f (let i = c.from-n.ensures in let g = c.if-n-gt0.true in omega arith) p _ _
+    (length-replicate {A = ℕ} longest_message 0) out _ c.from-n.ensures in
     c.add.ensures.pool ∙ b.1 ∙ started_pool R P O x.node x.to x.object first
 
 pub returns-clause-value : goal.returns-clause-value
@@ -254,7 +254,7 @@ returns-clause-value c = let x = c.args in
     let n = c.count.ensures.0 in
     let t = c.if-count-ge-MOST_WAITING.false in
     let f : count P < most_waiting = omega arith in
-    let i = c.wide-n.ensures in
+    let i = c.from-n.ensures in
     let g = c.if-n-gt0.false in
     c.refused-2.ensures ∙ gone_told R P O x.node x.to x.object e _ w h f ∙ started_told R P O x.node x.to x.object first
 
@@ -276,6 +276,6 @@ returns-clause-pool_after c = let x = c.args in
     let n = c.count.ensures.0 in
     let t = c.if-count-ge-MOST_WAITING.false in
     let f : count P < most_waiting = omega arith in
-    let i = c.wide-n.ensures in
+    let i = c.from-n.ensures in
     let g = c.if-n-gt0.false in
     idle_left R P O x.node x.to x.object e _ w h f (omega arith) ∙ started_pool R P O x.node x.to x.object first

@@ -21,9 +21,9 @@ unfolding record_at part
 returns-then-node-lt-NODES_END-clause-value c = let x = c.args in
     let q = c.requires in
     let R = x.records.now in
-    let n = c.wide-start.result in
+    let n = c.from-start.result in
     let k : record_size * n + record_size - record_size * n ≡ record_size = omega arith in
-    let s : take (record_size * n + record_size - record_size * n) (drop (record_size * n) R) ≡ record_at R x.node = rw (k, c.wide-start.ensures) in
+    let s : take (record_size * n + record_size - record_size * n) (drop (record_size * n) R) ≡ record_at R x.node = rw (k, c.from-start.ensures) in
     let h = c.if-node-lt-NODES_END.true in
     let r = c.write_due.ensures in
     r.value ∙ ap (λ (l : List ℕ). record_due l x.node x.to x.object (length x.out.now)) s
@@ -34,9 +34,9 @@ unfolding record_at part
 returns-then-node-lt-NODES_END-clause-out_after c = let x = c.args in
     let q = c.requires in
     let R = x.records.now in
-    let n = c.wide-start.result in
+    let n = c.from-start.result in
     let k : record_size * n + record_size - record_size * n ≡ record_size = omega arith in
-    let s : take (record_size * n + record_size - record_size * n) (drop (record_size * n) R) ≡ record_at R x.node = rw (k, c.wide-start.ensures) in
+    let s : take (record_size * n + record_size - record_size * n) (drop (record_size * n) R) ≡ record_at R x.node = rw (k, c.from-start.ensures) in
     let h = c.if-node-lt-NODES_END.true in
     let r = c.write_due.ensures in
     r.out_after ∙ ap (λ (l : List ℕ). record_due_buffer l x.node x.to x.object x.out.now) s
