@@ -64,7 +64,7 @@ pub fn result(out: &mut [u8], at: usize, kind: Kind, a: Answer) -> usize
 pub fn refusal(out: &mut [u8], at: usize, n: u8) -> usize
     ensures { page out.new result ≡ inks (page out.old at) (refusal_texts n) }
 {
-    let x = report::number(out, at, b"  ", n as u64);
+    let x = report::number(out, at, b"  ", u64::from(n));
     let y = report::text(out, x, b" ");
     let z = report::word(out, y, n);
     report::text(out, z, b"\n")

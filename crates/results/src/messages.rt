@@ -119,13 +119,14 @@ fn taken_out(kind: Kind, kept: bool) -> u8
 }
 
 // The place of the message that an accepted step put: the last, where one more waits than the step left of those before it.
+#[tactic(auto, unfolding(crate::specs::Told::put_place))]
 fn put_place(before: u8, gone: u8, now: u8) -> u8
     ensures { result ≡ put_place before gone now }
 {
     if now == 0 {
         return NOWHERE;
     }
-    if now as u16 + gone as u16 == before as u16 + 1 {
+    if u16::from(now) + u16::from(gone) == u16::from(before) + 1 {
         return now - 1;
     }
     NOWHERE
