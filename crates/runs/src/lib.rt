@@ -30,7 +30,7 @@ pub fn start(
     ensures holds { result ≡ 0 → Holds (blank_origin on) []
         (lent images.new records.new pool.new own.new settings.new) }
 {
-    service_calls::blank(images, records, pool, own, settings, on)
+    numbers::number(service_calls::blank(images, records, pool, own, settings, on))
 }
 
 // Takes in all thirteen images of an older length; the other buffers are as they are. Where they held an origin at rest, the running goes on from it: every

@@ -10,7 +10,7 @@ use Rattle.runs.proofs.start.Goals as goal
 pub returns-clause-value : goal.returns-clause-value
 returns-clause-value c = let x = c.args in
     let b = lent x.images.now x.records.now x.pool.now x.own.now x.settings.now in
-    let e = c.blank.ensures in e.value
+    let e = c.blank.ensures in c.number.ensures ∙ e.value
 
 pub returns-clause-settings_after : goal.returns-clause-settings_after
 returns-clause-settings_after c = let x = c.args in
@@ -20,4 +20,4 @@ returns-clause-settings_after c = let x = c.args in
 pub returns-clause-holds : goal.returns-clause-holds
 returns-clause-holds c = let x = c.args in
     let b = lent x.images.now x.records.now x.pool.now x.own.now x.settings.now in
-    let e = c.blank.ensures in (λ z. subst (Holds (blank_origin x.on) []) (sym e.settings_after) (begun b x.on (sym e.value ∙ z)))
+    let e = c.blank.ensures in (λ z. subst (Holds (blank_origin x.on) []) (sym e.settings_after) (begun b x.on (sym (c.number.ensures ∙ e.value) ∙ z)))
