@@ -1,6 +1,7 @@
 // The host's calls over a node's record and settings: 1 and 2 of both first, with 1 of a list that is lent; then as the plan says.
 ghost use Rattle.std.specs.Prelude.{◌≡◌, false, cond, []};
 ghost use Rattle.numbers.specs.Numbers.{stranger, out_of_turn};
+ghost use Rattle.numbers.specs.Outcome.{code_of, number_of};
 ghost use Rattle.classes.specs.Weights.{overweight};
 ghost use Rattle.coordinator.specs.System.{tree};
 ghost use Rattle.coordinator.specs.Calls.{no_node};
@@ -14,7 +15,7 @@ ghost use Rattle.frontend.specs.Plan.{told_by, left_by, batch_here, request_by, 
 use classes::MOST_CLASSES;
 use coordinator::{BeginWith, IDLE};
 use hours::LAST_MINUTE;
-use numbers::{NODES_END, either, first_refusal, lower, refuse};
+use numbers::{NODES_END, Refusal, either, first_refusal, lower, refuse};
 use record::Called;
 use record::look::phase;
 use settings::{BATCH, CLASSES, KIND, OWN, SETTINGS, is_adding, is_closed, settle, tenths};
@@ -33,11 +34,11 @@ pub(crate) fn taken(answer: u64) -> Called
     Called { number: 0, answer }
 }
 
-// The number of a record and its settings: 1 another length of either, 2 either damaged.
-pub(crate) fn lent_number(bytes: &[u8], settings: &[u8]) -> u8
-    ensures { result ≡ lent_number bytes.now settings.now }
+// Whether a record and its settings are lent whole: 1 another length of either, 2 either damaged.
+pub(crate) fn check_lent(bytes: &[u8], settings: &[u8]) -> Result<(), Refusal>
+    ensures { number_of result ≡ lent_number bytes.now settings.now }
 {
-    numbers::number(first_refusal(record::check(bytes), settings::check(settings)))
+    first_refusal(record::check(bytes), settings::check(settings))
 }
 
 // What a request answers that gives its transaction up: aborted.
@@ -57,7 +58,7 @@ pub fn begin(
     ensures bytes_after { bytes.new ≡ front_record bytes.old settings.old me (begin w day minute) }
     ensures settings_after { settings.new ≡ front_settings bytes.old settings.old me (begin w day minute) }
 {
-    let number = lent_number(bytes, settings);
+    let number = numbers::number(check_lent(bytes, settings));
     if number != 0 {
         return refused(number);
     }
@@ -76,14 +77,15 @@ pub fn begin(
     r
 }
 
-// A number where the call is out of turn, whatever else: 4 and 10 still precede 5.
-pub(crate) fn late(number: u8) -> u8
-    ensures { result ≡ out_of_turn_after number }
+// What refuses a call that is out of turn, whatever else: 4 and 10 still precede 5.
+pub(crate) fn late<T: Drop>(own: Result<T, Refusal>) -> Refusal
+    ensures { code_of result ≡ out_of_turn_after (number_of own) }
 {
-    if either(number == numbers::STRANGER, number == numbers::BUSY) {
-        return number;
+    match own {
+        Err(Refusal::Stranger) => Refusal::Stranger,
+        Err(Refusal::Busy) => Refusal::Busy,
+        _ => Refusal::OutOfTurn,
     }
-    numbers::OUT_OF_TURN
 }
 
 // A batch that nothing but the record refuses: a transaction begins, and each class's tally is opened to write and given its grams.
@@ -123,7 +125,7 @@ pub fn batch(
     ensures settings_after { settings.new ≡ front_settings bytes.old settings.old me (batch w day minute list.now) }
 {
     let length = numbers::number(classes::check_batch(list));
-    let number = lower(lent_number(bytes, settings), length);
+    let number = lower(numbers::number(check_lent(bytes, settings)), length);
     if number != 0 {
         return refused(number);
     }
@@ -131,8 +133,7 @@ pub fn batch(
         return refused(numbers::GARBLED);
     }
     if classes::is_none(&settings[CLASSES..KIND]) {
-        let alone = numbers::number(record_calls::may_begin(bytes, me, w));
-        return refused(late(alone));
+        return refused(u8::from(late(record_calls::may_begin(bytes, me, w))));
     }
     if is_closed(settings, day, minute) {
         let ahead = numbers::number(record_calls::may_begin(bytes, me, w));
@@ -141,11 +142,15 @@ pub fn batch(
     begin_batch(bytes, settings, me, w, list)
 }
 
-// The number of an open or a value call on a batch.
-pub(crate) fn not_yours(me: u8) -> u8
-    ensures { result ≡ cond (no_node me) stranger out_of_turn }
+// What refuses an open or a value call on a batch.
+pub(crate) fn not_yours(me: u8) -> Refusal
+    ensures { code_of result ≡ cond (no_node me) stranger out_of_turn }
 {
-    refuse(numbers::STRANGER, !(me < NODES_END), numbers::OUT_OF_TURN)
+    if NODES_END <= me {
+        Refusal::Stranger
+    } else {
+        Refusal::OutOfTurn
+    }
 }
 
 // Opens an object to read it. Ruled out: an object opened on a batch; a read opened as a write.
@@ -153,12 +158,12 @@ pub fn open_read(bytes: &mut [u8], settings: &[u8], me: u8, object: u8) -> Calle
     ensures value { result ≡ front_told bytes.old settings.now me (edit (reads object)) }
     ensures bytes_after { bytes.new ≡ front_record bytes.old settings.now me (edit (reads object)) }
 {
-    let number = lent_number(bytes, settings);
+    let number = numbers::number(check_lent(bytes, settings));
     if number != 0 {
         return refused(number);
     }
     if is_adding(settings) {
-        return refused(not_yours(me));
+        return refused(u8::from(not_yours(me)));
     }
     Called::from(deeds::open(bytes, me, object, 0))
 }
@@ -168,12 +173,12 @@ pub fn open_write(bytes: &mut [u8], settings: &[u8], me: u8, object: u8) -> Call
     ensures value { result ≡ front_told bytes.old settings.now me (edit (writes object)) }
     ensures bytes_after { bytes.new ≡ front_record bytes.old settings.now me (edit (writes object)) }
 {
-    let number = lent_number(bytes, settings);
+    let number = numbers::number(check_lent(bytes, settings));
     if number != 0 {
         return refused(number);
     }
     if is_adding(settings) {
-        return refused(not_yours(me));
+        return refused(u8::from(not_yours(me)));
     }
     Called::from(deeds::open(bytes, me, object, 1))
 }
@@ -183,12 +188,12 @@ pub fn set_value(bytes: &mut [u8], settings: &[u8], me: u8, object: u8, value: u
     ensures value { result ≡ front_told bytes.old settings.now me (edit (values object value)) }
     ensures bytes_after { bytes.new ≡ front_record bytes.old settings.now me (edit (values object value)) }
 {
-    let number = lent_number(bytes, settings);
+    let number = numbers::number(check_lent(bytes, settings));
     if number != 0 {
         return refused(number);
     }
     if is_adding(settings) {
-        return refused(not_yours(me));
+        return refused(u8::from(not_yours(me)));
     }
     Called::from(deeds::set_value(bytes, me, object, value))
 }
@@ -224,7 +229,7 @@ pub fn request_commit(bytes: &mut [u8], settings: &[u8], me: u8) -> Called
     ensures value { result ≡ front_told bytes.old settings.now me request }
     ensures bytes_after { bytes.new ≡ front_record bytes.old settings.now me request }
 {
-    let number = lent_number(bytes, settings);
+    let number = numbers::number(check_lent(bytes, settings));
     if number != 0 {
         return refused(number);
     }
@@ -238,7 +243,7 @@ pub fn load_classes(bytes: &[u8], settings: &mut [u8], me: u8, list: &[u8]) -> C
     ensures settings_after { settings.new ≡ front_settings bytes.now settings.old me (load_classes list.now) }
 {
     let length = numbers::number(classes::check_length(list));
-    let first = lower(lent_number(bytes, settings), length);
+    let first = lower(numbers::number(check_lent(bytes, settings)), length);
     if first != 0 {
         return refused(first);
     }

@@ -9,7 +9,7 @@ mod whole;
 pub use calls::{batch, begin, load_classes, open_read, open_write, request_commit, set_value};
 use coordinator::BeginWith;
 pub use tell::waiting;
-pub use whole::{front, list_number, nowhere_number, off_number};
+pub use whole::{check_list, front, refuse_nowhere, refuse_off};
 
 // What a host may ask of a front end.
 #[derive(Clone, Copy)]

@@ -2,7 +2,7 @@
 ghost use Rattle.std.specs.Prelude.{◌≡◌};
 ghost use Rattle.frontend.specs.Tell.{waiting_of};
 
-use crate::calls::{lent_number, refused, taken};
+use crate::calls::{check_lent, refused, taken};
 use record::Called;
 use settings::{CLASSES, KIND, tenths};
 
@@ -10,7 +10,7 @@ use settings::{CLASSES, KIND, tenths};
 pub fn waiting(bytes: &[u8], settings: &[u8], class: u8) -> Called
     ensures { result ≡ waiting_of bytes.now settings.now class }
 {
-    let number = lent_number(bytes, settings);
+    let number = numbers::number(check_lent(bytes, settings));
     if number != 0 {
         return refused(number);
     }

@@ -1,5 +1,6 @@
 // A call of the host, whichever it is, with the list that is lent beside it: at a node, at a node that is off, and at what is no node.
 ghost use Rattle.std.specs.Prelude.{◌≡◌, cond};
+ghost use Rattle.numbers.specs.Outcome.{code_of, number_of};
 ghost use Rattle.coordinator.specs.System.{tree};
 ghost use Rattle.coordinator.specs.Calls.{begin_of};
 ghost use Rattle.record.specs.Record.{record_of, check};
@@ -7,23 +8,23 @@ ghost use Rattle.frontend.specs.Plan.{out_of_turn_after, list_number, nowhere, f
 ghost use Rattle.frontend.specs.Asked.{call_by, call_of};
 
 use crate::calls::{
-    batch, begin, late, lent_number, load_classes, not_yours, open_read, open_write,
-    request_commit, set_value,
+    batch, begin, check_lent, late, load_classes, not_yours, open_read, open_write, request_commit,
+    set_value,
 };
 use crate::{Act, Ask};
 use coordinator::BeginWith;
 use hours::LAST_MINUTE;
-use numbers::{either, lower, refuse};
+use numbers::{Refusal, either, first_refusal};
 use record::Called;
 
-// The number of the list that a call is lent: 1 another length than its counts say. Ruled out: 1 for a begin; a batch judged as a table.
-pub fn list_number(act: Act, list: &[u8]) -> u8
-    ensures { (a : Ask) → result ≡ list_number (call_by act a list.now) }
+// Whether the list that a call is lent has the length that its counts say. Ruled out: 1 for a begin; a batch judged as a table.
+pub fn check_list(act: Act, list: &[u8]) -> Result<(), Refusal>
+    ensures { (a : Ask) → number_of result ≡ list_number (call_by act a list.now) }
 {
     match act {
-        Act::Batch => numbers::number(classes::check_batch(list)),
-        Act::LoadClasses => numbers::number(classes::check_length(list)),
-        _ => 0,
+        Act::Batch => classes::check_batch(list),
+        Act::LoadClasses => classes::check_length(list),
+        _ => Ok(()),
     }
 }
 
@@ -46,24 +47,24 @@ pub fn front(bytes: &mut [u8], settings: &mut [u8], me: u8, a: Ask, list: &[u8])
     }
 }
 
-// The number of a begin or a batch at a node that is off, by the record's own number: 3 where the minute or the weights are none, else 5, with 4 and 10
-// still before it.
-fn off_begin(bytes: &[u8], me: u8, w: BeginWith, garbled: bool) -> u8
+// What refuses a begin or a batch at a node that is off: 3 where the minute or the weights are none, else 5, with 4 and 10 of the record still before it.
+fn off_begin(bytes: &[u8], me: u8, w: BeginWith, garbled: bool) -> Refusal
     requires { check bytes.now ≡ 0 }
-    ensures { result ≡ cond garbled 3 (out_of_turn_after (begin_of tree (record_of bytes.now) me w).number) }
+    ensures { code_of result ≡ cond garbled 3 (out_of_turn_after (begin_of tree (record_of bytes.now) me w).number) }
 {
-    let own = numbers::number(record_calls::may_begin(bytes, me, w));
-    refuse(numbers::GARBLED, garbled, late(own))
+    if garbled {
+        return Refusal::Garbled;
+    }
+    late(record_calls::may_begin(bytes, me, w))
 }
 
-// The number of a call at a node that is off; nothing is altered. Ruled out: 13 at a node that is off; 10 for classes loaded there.
-pub fn off_number(bytes: &[u8], settings: &[u8], me: u8, a: Ask, list: &[u8]) -> u8
-    ensures { result ≡ off_told bytes.now settings.now me (call_of a list.now) }
+// What refuses a call at a node that is off; nothing is altered. Ruled out: 13 at a node that is off; 10 for classes loaded there.
+pub fn refuse_off(bytes: &[u8], settings: &[u8], me: u8, a: Ask, list: &[u8]) -> Refusal
+    ensures { code_of result ≡ off_told bytes.now settings.now me (call_of a list.now) }
 {
     let act = a.act;
-    let first = lower(lent_number(bytes, settings), list_number(act, list));
-    if first != 0 {
-        return first;
+    if let Err(refusal) = first_refusal(check_lent(bytes, settings), check_list(act, list)) {
+        return refusal;
     }
     let with = a.with;
     let late = LAST_MINUTE < a.minute;
@@ -74,27 +75,29 @@ pub fn off_number(bytes: &[u8], settings: &[u8], me: u8, a: Ask, list: &[u8]) ->
     }
 }
 
-// The number of a call at what is no node. Ruled out: 4 for a batch that is too long; 5 for what is no node.
-pub fn nowhere_number(a: Ask, list: &[u8]) -> u8
-    ensures { result ≡ nowhere (call_of a list.now) }
+// What refuses a begin or a batch at what is no node: 3 where the minute or the weights are none.
+fn stranger(garbled: bool) -> Refusal
+    ensures { code_of result ≡ cond garbled 3 4 }
+{
+    if garbled {
+        Refusal::Garbled
+    } else {
+        Refusal::Stranger
+    }
+}
+
+// What refuses a call at what is no node. Ruled out: 4 for a batch that is too long; 5 for what is no node.
+pub fn refuse_nowhere(a: Ask, list: &[u8]) -> Refusal
+    ensures { code_of result ≡ nowhere (call_of a list.now) }
 {
     let act = a.act;
+    if let Err(refusal) = check_list(act, list) {
+        return refusal;
+    }
     let late = LAST_MINUTE < a.minute;
     match act {
-        Act::Begin => refuse(numbers::GARBLED, late, numbers::STRANGER),
-        Act::Batch => {
-            let own = refuse(
-                numbers::GARBLED,
-                either(classes::is_overweight(list), late),
-                numbers::STRANGER,
-            );
-            let first = numbers::number(classes::check_batch(list));
-            refuse(first, first != 0, own)
-        }
-        Act::LoadClasses => {
-            let first = numbers::number(classes::check_length(list));
-            refuse(first, first != 0, numbers::STRANGER)
-        }
-        _ => numbers::STRANGER,
+        Act::Begin => stranger(late),
+        Act::Batch => stranger(either(classes::is_overweight(list), late)),
+        _ => Refusal::Stranger,
     }
 }

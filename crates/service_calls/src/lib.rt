@@ -65,12 +65,12 @@ pub fn front(
     let act = a.act;
     let short = refuse(numbers::LENGTH, settings.len() != SETTINGS, 0);
     let ends = lower(ends_number(records.len(), own), short);
-    let first = lower(ends, frontend::list_number(act, list));
+    let first = lower(ends, numbers::number(frontend::check_list(act, list)));
     if first != 0 {
         return refused(first);
     }
     if NODES_END <= node {
-        return refused(frontend::nowhere_number(a, list));
+        return refused(u8::from(frontend::refuse_nowhere(a, list)));
     }
     let r = record::SIZE * usize::from(node);
     let s = settings::SETTINGS * usize::from(node);
@@ -84,13 +84,14 @@ pub fn front(
         );
         return answered(called);
     }
-    refused(frontend::off_number(
+    let refusal = frontend::refuse_off(
         &records[r..r + record::SIZE],
         &settings[s..s + settings::SETTINGS],
         node,
         a,
         list,
-    ))
+    );
+    refused(u8::from(refusal))
 }
 
 // Loads a table of packing hours for a node, in any phase. Ruled out: another node's hours replaced; a faulty table that takes the old one's place.

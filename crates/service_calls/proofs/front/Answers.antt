@@ -21,7 +21,7 @@ returns-then-first-ne0-clause-value c = let x = c.args in
     let a : Front = call_of x.a x.list.now in
     let f = c.lower-first.ensures ∙ ap₂ lower (c.lower-ends.ensures ∙ ap₂ lower
     c.ends_number.ensures c.refuse-short.ensures)
-    (c.list_number.ensures x.a) in
+    (c.number.ensures ∙ c.check_list.ensures x.a) in
     let d = refused_first R O S x.node a _ f c.if-first-ne0.true in c.refused.ensures ∙ d.told
 
 pub returns-then-first-ne0-clause-records_after : goal.returns-then-first-ne0-clause-records_after
@@ -32,7 +32,7 @@ returns-then-first-ne0-clause-records_after c = let x = c.args in
     let a : Front = call_of x.a x.list.now in
     let f = c.lower-first.ensures ∙ ap₂ lower (c.lower-ends.ensures ∙ ap₂ lower
     c.ends_number.ensures c.refuse-short.ensures)
-    (c.list_number.ensures x.a) in
+    (c.number.ensures ∙ c.check_list.ensures x.a) in
     let d = refused_first R O S x.node a _ f c.if-first-ne0.true in d.records
 
 pub returns-then-first-ne0-clause-settings_after : goal.returns-then-first-ne0-clause-settings_after
@@ -43,7 +43,7 @@ returns-then-first-ne0-clause-settings_after c = let x = c.args in
     let a : Front = call_of x.a x.list.now in
     let f = c.lower-first.ensures ∙ ap₂ lower (c.lower-ends.ensures ∙ ap₂ lower
     c.ends_number.ensures c.refuse-short.ensures)
-    (c.list_number.ensures x.a) in
+    (c.number.ensures ∙ c.check_list.ensures x.a) in
     let d = refused_first R O S x.node a _ f c.if-first-ne0.true in d.settings
 
 pub returns-then-node-ge-NODES_END-clause-value : goal.returns-then-node-ge-NODES_END-clause-value
@@ -54,8 +54,8 @@ returns-then-node-ge-NODES_END-clause-value c = let x = c.args in
     let a : Front = call_of x.a x.list.now in
     let f = c.lower-first.ensures ∙ ap₂ lower (c.lower-ends.ensures ∙ ap₂ lower c.ends_number.ensures
     c.refuse-short.ensures)
-    (c.list_number.ensures x.a) in
-    let d = no_node R O S x.node a (sym f ∙ c.if-first-ne0.false) c.if-node-ge-NODES_END.true _ c.nowhere_number.ensures
+    (c.number.ensures ∙ c.check_list.ensures x.a) in
+    let d = no_node R O S x.node a (sym f ∙ c.if-first-ne0.false) c.if-node-ge-NODES_END.true _ (c.from.ensures ∙ c.refuse_nowhere.ensures)
     in c.refused-then-node-ge-NODES_END.ensures ∙ d.told
 
 pub returns-then-node-ge-NODES_END-clause-records_after : goal.returns-then-node-ge-NODES_END-clause-records_after
@@ -66,8 +66,8 @@ returns-then-node-ge-NODES_END-clause-records_after c = let x = c.args in
     let a : Front = call_of x.a x.list.now in
     let f = c.lower-first.ensures ∙ ap₂ lower (c.lower-ends.ensures ∙ ap₂ lower c.ends_number.ensures
     c.refuse-short.ensures)
-    (c.list_number.ensures x.a) in
-    let d = no_node R O S x.node a (sym f ∙ c.if-first-ne0.false) c.if-node-ge-NODES_END.true _ c.nowhere_number.ensures in d.records
+    (c.number.ensures ∙ c.check_list.ensures x.a) in
+    let d = no_node R O S x.node a (sym f ∙ c.if-first-ne0.false) c.if-node-ge-NODES_END.true _ (c.from.ensures ∙ c.refuse_nowhere.ensures) in d.records
 
 pub returns-then-node-ge-NODES_END-clause-settings_after : goal.returns-then-node-ge-NODES_END-clause-settings_after
 returns-then-node-ge-NODES_END-clause-settings_after c = let x = c.args in
@@ -77,8 +77,8 @@ returns-then-node-ge-NODES_END-clause-settings_after c = let x = c.args in
     let a : Front = call_of x.a x.list.now in
     let f = c.lower-first.ensures ∙ ap₂ lower (c.lower-ends.ensures ∙ ap₂ lower c.ends_number.ensures
     c.refuse-short.ensures)
-    (c.list_number.ensures x.a) in
-    let d = no_node R O S x.node a (sym f ∙ c.if-first-ne0.false) c.if-node-ge-NODES_END.true _ c.nowhere_number.ensures in d.settings
+    (c.number.ensures ∙ c.check_list.ensures x.a) in
+    let d = no_node R O S x.node a (sym f ∙ c.if-first-ne0.false) c.if-node-ge-NODES_END.true _ (c.from.ensures ∙ c.refuse_nowhere.ensures) in d.settings
 
 pub slice_bounds-front-end : goal.slice_bounds-front-end
 slice_bounds-front-end c = let x = c.args in
@@ -88,7 +88,7 @@ slice_bounds-front-end c = let x = c.args in
     let a : Front = call_of x.a x.list.now in
     let f = c.lower-first.ensures ∙ ap₂ lower (c.lower-ends.ensures ∙ ap₂ lower
     c.ends_number.ensures c.refuse-short.ensures)
-    (c.list_number.ensures x.a) in
+    (c.number.ensures ∙ c.check_list.ensures x.a) in
     let l = records_long R O S x.node a (sym f ∙ c.if-first-ne0.false) in
     let w = c.from-r.ensures in
     let h = c.if-node-ge-NODES_END.false in
@@ -102,7 +102,7 @@ slice_bounds-front-end-then-has c = let x = c.args in
     let a : Front = call_of x.a x.list.now in
     let f = c.lower-first.ensures ∙ ap₂ lower (c.lower-ends.ensures ∙ ap₂ lower
     c.ends_number.ensures c.refuse-short.ensures)
-    (c.list_number.ensures x.a) in
+    (c.number.ensures ∙ c.check_list.ensures x.a) in
     let l = settings_long R O S x.node a (sym f ∙ c.if-first-ne0.false) in
     let w = c.from-s.ensures in
     let h = c.if-node-ge-NODES_END.false in
@@ -116,7 +116,7 @@ returns-then-has-clause-value c = let x = c.args in
     let a : Front = call_of x.a x.list.now in
     let f = c.lower-first.ensures ∙ ap₂ lower (c.lower-ends.ensures ∙ ap₂ lower
     c.ends_number.ensures c.refuse-short.ensures)
-    (c.list_number.ensures x.a) in
+    (c.number.ensures ∙ c.check_list.ensures x.a) in
     let u = sym (c.has.ensures ∙ ap (λ (k : ℕ). contains k x.node) c.on.ensures) in
     let h : x.node < nodes = omega (arith, c.if-node-ge-NODES_END.false) in
     let e = c.front-called.ensures in
@@ -139,7 +139,7 @@ returns-then-has-clause-records_after c = let x = c.args in
     let a : Front = call_of x.a x.list.now in
     let f = c.lower-first.ensures ∙ ap₂ lower (c.lower-ends.ensures ∙ ap₂ lower
     c.ends_number.ensures c.refuse-short.ensures)
-    (c.list_number.ensures x.a) in
+    (c.number.ensures ∙ c.check_list.ensures x.a) in
     let u = sym (c.has.ensures ∙ ap (λ (k : ℕ). contains k x.node) c.on.ensures) in
     let h : x.node < nodes = omega (arith, c.if-node-ge-NODES_END.false) in
     let e = c.front-called.ensures in
@@ -162,7 +162,7 @@ returns-then-has-clause-settings_after c = let x = c.args in
     let a : Front = call_of x.a x.list.now in
     let f = c.lower-first.ensures ∙ ap₂ lower (c.lower-ends.ensures ∙ ap₂ lower
     c.ends_number.ensures c.refuse-short.ensures)
-    (c.list_number.ensures x.a) in
+    (c.number.ensures ∙ c.check_list.ensures x.a) in
     let u = sym (c.has.ensures ∙ ap (λ (k : ℕ). contains k x.node) c.on.ensures) in
     let h : x.node < nodes = omega (arith, c.if-node-ge-NODES_END.false) in
     let e = c.front-called.ensures in
@@ -177,29 +177,29 @@ returns-then-has-clause-settings_after c = let x = c.args in
     let r = both_record R S _ _ x.node w w2 F G _ e.bytes_after in
     let t = both_settings R S _ _ x.node w w2 F G _ e.settings_after in t ∙ d.settings
 
-pub slice_bounds-off_number-end : goal.slice_bounds-off_number-end
-slice_bounds-off_number-end c = let x = c.args in
+pub slice_bounds-refuse_off-end : goal.slice_bounds-refuse_off-end
+slice_bounds-refuse_off-end c = let x = c.args in
     let R = x.records.now in
     let O = x.own.now in
     let S = x.settings.now in
     let a : Front = call_of x.a x.list.now in
     let f = c.lower-first.ensures ∙ ap₂ lower (c.lower-ends.ensures ∙ ap₂ lower
     c.ends_number.ensures c.refuse-short.ensures)
-    (c.list_number.ensures x.a) in
+    (c.number.ensures ∙ c.check_list.ensures x.a) in
     let l = records_long R O S x.node a (sym f ∙ c.if-first-ne0.false) in
     let w = c.from-r.ensures in
     let h = c.if-node-ge-NODES_END.false in
     omega (arith, l, w, h)
 
-pub slice_bounds-off_number-end-2 : goal.slice_bounds-off_number-end-2
-slice_bounds-off_number-end-2 c = let x = c.args in
+pub slice_bounds-refuse_off-end-2 : goal.slice_bounds-refuse_off-end-2
+slice_bounds-refuse_off-end-2 c = let x = c.args in
     let R = x.records.now in
     let O = x.own.now in
     let S = x.settings.now in
     let a : Front = call_of x.a x.list.now in
     let f = c.lower-first.ensures ∙ ap₂ lower (c.lower-ends.ensures ∙ ap₂ lower c.ends_number.ensures
     c.refuse-short.ensures)
-    (c.list_number.ensures x.a) in
+    (c.number.ensures ∙ c.check_list.ensures x.a) in
     let l = settings_long R O S x.node a (sym f ∙ c.if-first-ne0.false) in
     let w = c.from-s.ensures in
     let h = c.if-node-ge-NODES_END.false in
@@ -213,13 +213,13 @@ returns-clause-value c = let x = c.args in
     let a : Front = call_of x.a x.list.now in
     let f = c.lower-first.ensures ∙ ap₂ lower (c.lower-ends.ensures ∙ ap₂ lower
     c.ends_number.ensures c.refuse-short.ensures)
-    (c.list_number.ensures x.a) in
+    (c.number.ensures ∙ c.check_list.ensures x.a) in
     let u = sym (c.has.ensures ∙ ap (λ (k : ℕ). contains k x.node) c.on.ensures) in
     let h : x.node < nodes = omega (arith, c.if-node-ge-NODES_END.false) in
     let p = lent_record_lem R _ x.node c.from-r.ensures in
     let q = lent_part S _ x.node c.from-s.ensures in
     let d = off_node R O S x.node a (sym f ∙ c.if-first-ne0.false) h (u ∙ c.if-has.false) _
-    (c.off_number.ensures ∙ ap₂ (λ (m n : List ℕ). off_told m n x.node a) p q) in c.refused-2.ensures ∙ d.told
+    ((c.from-2.ensures ∙ c.refuse_off-refusal.ensures) ∙ ap₂ (λ (m n : List ℕ). off_told m n x.node a) p q) in c.refused-2.ensures ∙ d.told
 
 pub returns-clause-records_after : goal.returns-clause-records_after
 returns-clause-records_after c = let x = c.args in
@@ -229,13 +229,13 @@ returns-clause-records_after c = let x = c.args in
     let a : Front = call_of x.a x.list.now in
     let f = c.lower-first.ensures ∙ ap₂ lower (c.lower-ends.ensures ∙ ap₂ lower
     c.ends_number.ensures c.refuse-short.ensures)
-    (c.list_number.ensures x.a) in
+    (c.number.ensures ∙ c.check_list.ensures x.a) in
     let u = sym (c.has.ensures ∙ ap (λ (k : ℕ). contains k x.node) c.on.ensures) in
     let h : x.node < nodes = omega (arith, c.if-node-ge-NODES_END.false) in
     let p = lent_record_lem R _ x.node c.from-r.ensures in
     let q = lent_part S _ x.node c.from-s.ensures in
     let d = off_node R O S x.node a (sym f ∙ c.if-first-ne0.false) h (u ∙ c.if-has.false) _
-    (c.off_number.ensures ∙ ap₂ (λ (m n : List ℕ). off_told m n x.node a) p q) in d.records
+    ((c.from-2.ensures ∙ c.refuse_off-refusal.ensures) ∙ ap₂ (λ (m n : List ℕ). off_told m n x.node a) p q) in d.records
 
 pub returns-clause-settings_after : goal.returns-clause-settings_after
 returns-clause-settings_after c = let x = c.args in
@@ -245,10 +245,10 @@ returns-clause-settings_after c = let x = c.args in
     let a : Front = call_of x.a x.list.now in
     let f = c.lower-first.ensures ∙ ap₂ lower (c.lower-ends.ensures ∙ ap₂ lower
     c.ends_number.ensures c.refuse-short.ensures)
-    (c.list_number.ensures x.a) in
+    (c.number.ensures ∙ c.check_list.ensures x.a) in
     let u = sym (c.has.ensures ∙ ap (λ (k : ℕ). contains k x.node) c.on.ensures) in
     let h : x.node < nodes = omega (arith, c.if-node-ge-NODES_END.false) in
     let p = lent_record_lem R _ x.node c.from-r.ensures in
     let q = lent_part S _ x.node c.from-s.ensures in
     let d = off_node R O S x.node a (sym f ∙ c.if-first-ne0.false) h (u ∙ c.if-has.false) _
-    (c.off_number.ensures ∙ ap₂ (λ (m n : List ℕ). off_told m n x.node a) p q) in d.settings
+    ((c.from-2.ensures ∙ c.refuse_off-refusal.ensures) ∙ ap₂ (λ (m n : List ℕ). off_told m n x.node a) p q) in d.settings

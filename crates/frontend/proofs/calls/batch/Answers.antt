@@ -25,7 +25,7 @@ returns-then-number-ne0-clause-value c = let x = c.args in
     let s = x.settings.now in
     let small : Bytes l = λ j. omega (arith, c.slice_known-1.given j) in
     let a : Call = batch x.w x.day x.minute x.list.now in
-    let f = list_first l s a _ _ _ c.lower-number.ensures c.lent_number.ensures (c.number-length.ensures ∙ c.check_batch.ensures) in
+    let f = list_first l s a _ _ _ c.lower-number.ensures (c.number.ensures ∙ c.check_lent.ensures) (c.number-length.ensures ∙ c.check_batch.ensures) in
     let d = refused_first l s x.me a _ f c.if-number-ne0.true in c.refused.ensures ∙ d.told
 
 pub returns-then-number-ne0-clause-bytes_after : goal.returns-then-number-ne0-clause-bytes_after
@@ -35,7 +35,7 @@ returns-then-number-ne0-clause-bytes_after c = let x = c.args in
     let s = x.settings.now in
     let small : Bytes l = λ j. omega (arith, c.slice_known-1.given j) in
     let a : Call = batch x.w x.day x.minute x.list.now in
-    let f = list_first l s a _ _ _ c.lower-number.ensures c.lent_number.ensures (c.number-length.ensures ∙ c.check_batch.ensures) in
+    let f = list_first l s a _ _ _ c.lower-number.ensures (c.number.ensures ∙ c.check_lent.ensures) (c.number-length.ensures ∙ c.check_batch.ensures) in
     let d = refused_first l s x.me a _ f c.if-number-ne0.true in d.its_record
 
 pub returns-then-number-ne0-clause-settings_after : goal.returns-then-number-ne0-clause-settings_after
@@ -45,7 +45,7 @@ returns-then-number-ne0-clause-settings_after c = let x = c.args in
     let s = x.settings.now in
     let small : Bytes l = λ j. omega (arith, c.slice_known-1.given j) in
     let a : Call = batch x.w x.day x.minute x.list.now in
-    let f = list_first l s a _ _ _ c.lower-number.ensures c.lent_number.ensures (c.number-length.ensures ∙ c.check_batch.ensures) in
+    let f = list_first l s a _ _ _ c.lower-number.ensures (c.number.ensures ∙ c.check_lent.ensures) (c.number-length.ensures ∙ c.check_batch.ensures) in
     let d = refused_first l s x.me a _ f c.if-number-ne0.true in d.settings
 
 pub returns-then-either-clause-value : goal.returns-then-either-clause-value
@@ -55,7 +55,7 @@ returns-then-either-clause-value c = let x = c.args in
     let s = x.settings.now in
     let small : Bytes l = λ j. omega (arith, c.slice_known-1.given j) in
     let a : Call = batch x.w x.day x.minute x.list.now in
-    let f = list_first l s a _ _ _ c.lower-number.ensures c.lent_number.ensures (c.number-length.ensures ∙ c.check_batch.ensures) in
+    let f = list_first l s a _ _ _ c.lower-number.ensures (c.number.ensures ∙ c.check_lent.ensures) (c.number-length.ensures ∙ c.check_batch.ensures) in
     let z = sym f ∙ c.if-number-ne0.false in
     let same = same_bytes l small (first_fine l s a _ f c.if-number-ne0.false).0 in
     let e = sym
@@ -70,7 +70,7 @@ returns-then-either-clause-bytes_after c = let x = c.args in
     let s = x.settings.now in
     let small : Bytes l = λ j. omega (arith, c.slice_known-1.given j) in
     let a : Call = batch x.w x.day x.minute x.list.now in
-    let f = list_first l s a _ _ _ c.lower-number.ensures c.lent_number.ensures (c.number-length.ensures ∙ c.check_batch.ensures) in
+    let f = list_first l s a _ _ _ c.lower-number.ensures (c.number.ensures ∙ c.check_lent.ensures) (c.number-length.ensures ∙ c.check_batch.ensures) in
     let z = sym f ∙ c.if-number-ne0.false in
     let same = same_bytes l small (first_fine l s a _ f c.if-number-ne0.false).0 in
     let e = sym
@@ -85,7 +85,7 @@ returns-then-either-clause-settings_after c = let x = c.args in
     let s = x.settings.now in
     let small : Bytes l = λ j. omega (arith, c.slice_known-1.given j) in
     let a : Call = batch x.w x.day x.minute x.list.now in
-    let f = list_first l s a _ _ _ c.lower-number.ensures c.lent_number.ensures (c.number-length.ensures ∙ c.check_batch.ensures) in
+    let f = list_first l s a _ _ _ c.lower-number.ensures (c.number.ensures ∙ c.check_lent.ensures) (c.number-length.ensures ∙ c.check_batch.ensures) in
     let z = sym f ∙ c.if-number-ne0.false in
     let same = same_bytes l small (first_fine l s a _ f c.if-number-ne0.false).0 in
     let e = sym
@@ -100,7 +100,7 @@ slice_bounds-is_none-end c = let x = c.args in
     let s = x.settings.now in
     let small : Bytes l = λ j. omega (arith, c.slice_known-1.given j) in
     let a : Call = batch x.w x.day x.minute x.list.now in
-    let f = list_first l s a _ _ _ c.lower-number.ensures c.lent_number.ensures (c.number-length.ensures ∙ c.check_batch.ensures) in
+    let f = list_first l s a _ _ _ c.lower-number.ensures (c.number.ensures ∙ c.check_lent.ensures) (c.number-length.ensures ∙ c.check_batch.ensures) in
     let h = (sound_parts s (first_fine l s a _ f c.if-number-ne0.false).1).long in
     omega (arith, h)
 
@@ -111,14 +111,14 @@ returns-then-is_none-clause-value c = let x = c.args in
     let s = x.settings.now in
     let small : Bytes l = λ j. omega (arith, c.slice_known-1.given j) in
     let a : Call = batch x.w x.day x.minute x.list.now in
-    let f = list_first l s a _ _ _ c.lower-number.ensures c.lent_number.ensures (c.number-length.ensures ∙ c.check_batch.ensures) in
+    let f = list_first l s a _ _ _ c.lower-number.ensures (c.number.ensures ∙ c.check_lent.ensures) (c.number-length.ensures ∙ c.check_batch.ensures) in
     let z = sym f ∙ c.if-number-ne0.false in
     let same = same_bytes l small (first_fine l s a _ f c.if-number-ne0.false).0 in
     let n = neither x.list.now x.minute _ _ c.either.ensures
     c.is_overweight.ensures c.if-either.false in
     let e = (first_fine l s a _ f c.if-number-ne0.false).0 in
-    let own = own_number_lem (λ (k : Coordinator). begin_of tree k x.me x.w) l e _ (c.number-alone.ensures ∙ c.may_begin.ensures) in
-    let t = c.late.ensures ∙ ap out_of_turn_after (sym own) in
+    let own = own_number_lem (λ (k : Coordinator). begin_of tree k x.me x.w) l e _ (c.may_begin.ensures) in
+    let t = c.from.ensures ∙ c.late.ensures ∙ ap out_of_turn_after (sym own) in
     let d = batch_refuses l s x.me x.w x.day x.minute x.list.now same z _
     (no_table_lem l s x.me x.w x.day x.minute x.list.now same z n.0 n.1 (sym c.is_none.ensures ∙ c.if-is_none.true) ∙ sym t)
     (λ q. out_of_turn_lem (begin_of tree (record_of l) x.me x.w).number (sym t ∙ q)) in c.refused-then-is_none.ensures ∙ d.told
@@ -130,14 +130,14 @@ returns-then-is_none-clause-bytes_after c = let x = c.args in
     let s = x.settings.now in
     let small : Bytes l = λ j. omega (arith, c.slice_known-1.given j) in
     let a : Call = batch x.w x.day x.minute x.list.now in
-    let f = list_first l s a _ _ _ c.lower-number.ensures c.lent_number.ensures (c.number-length.ensures ∙ c.check_batch.ensures) in
+    let f = list_first l s a _ _ _ c.lower-number.ensures (c.number.ensures ∙ c.check_lent.ensures) (c.number-length.ensures ∙ c.check_batch.ensures) in
     let z = sym f ∙ c.if-number-ne0.false in
     let same = same_bytes l small (first_fine l s a _ f c.if-number-ne0.false).0 in
     let n = neither x.list.now x.minute _ _ c.either.ensures
     c.is_overweight.ensures c.if-either.false in
     let e = (first_fine l s a _ f c.if-number-ne0.false).0 in
-    let own = own_number_lem (λ (k : Coordinator). begin_of tree k x.me x.w) l e _ (c.number-alone.ensures ∙ c.may_begin.ensures) in
-    let t = c.late.ensures ∙ ap out_of_turn_after (sym own) in
+    let own = own_number_lem (λ (k : Coordinator). begin_of tree k x.me x.w) l e _ (c.may_begin.ensures) in
+    let t = c.from.ensures ∙ c.late.ensures ∙ ap out_of_turn_after (sym own) in
     let d = batch_refuses l s x.me x.w x.day x.minute x.list.now same z _
     (no_table_lem l s x.me x.w x.day x.minute x.list.now same z n.0 n.1 (sym c.is_none.ensures ∙ c.if-is_none.true) ∙ sym t)
     (λ q. out_of_turn_lem (begin_of tree (record_of l) x.me x.w).number (sym t ∙ q)) in d.its_record
@@ -149,14 +149,14 @@ returns-then-is_none-clause-settings_after c = let x = c.args in
     let s = x.settings.now in
     let small : Bytes l = λ j. omega (arith, c.slice_known-1.given j) in
     let a : Call = batch x.w x.day x.minute x.list.now in
-    let f = list_first l s a _ _ _ c.lower-number.ensures c.lent_number.ensures (c.number-length.ensures ∙ c.check_batch.ensures) in
+    let f = list_first l s a _ _ _ c.lower-number.ensures (c.number.ensures ∙ c.check_lent.ensures) (c.number-length.ensures ∙ c.check_batch.ensures) in
     let z = sym f ∙ c.if-number-ne0.false in
     let same = same_bytes l small (first_fine l s a _ f c.if-number-ne0.false).0 in
     let n = neither x.list.now x.minute _ _ c.either.ensures
     c.is_overweight.ensures c.if-either.false in
     let e = (first_fine l s a _ f c.if-number-ne0.false).0 in
-    let own = own_number_lem (λ (k : Coordinator). begin_of tree k x.me x.w) l e _ (c.number-alone.ensures ∙ c.may_begin.ensures) in
-    let t = c.late.ensures ∙ ap out_of_turn_after (sym own) in
+    let own = own_number_lem (λ (k : Coordinator). begin_of tree k x.me x.w) l e _ (c.may_begin.ensures) in
+    let t = c.from.ensures ∙ c.late.ensures ∙ ap out_of_turn_after (sym own) in
     let d = batch_refuses l s x.me x.w x.day x.minute x.list.now same z _
     (no_table_lem l s x.me x.w x.day x.minute x.list.now same z n.0 n.1 (sym c.is_none.ensures ∙ c.if-is_none.true) ∙ sym t)
     (λ q. out_of_turn_lem (begin_of tree (record_of l) x.me x.w).number (sym t ∙ q)) in d.settings
@@ -168,7 +168,7 @@ is_closed-requires c = let x = c.args in
     let s = x.settings.now in
     let small : Bytes l = λ j. omega (arith, c.slice_known-1.given j) in
     let a : Call = batch x.w x.day x.minute x.list.now in
-    let f = list_first l s a _ _ _ c.lower-number.ensures c.lent_number.ensures
+    let f = list_first l s a _ _ _ c.lower-number.ensures (c.number.ensures ∙ c.check_lent.ensures)
     (c.number-length.ensures ∙ c.check_batch.ensures) in
     (sound_parts s (first_fine l s a _ f c.if-number-ne0.false).1).long
 
@@ -179,7 +179,7 @@ returns-then-is_closed-clause-value c = let x = c.args in
     let s = x.settings.now in
     let small : Bytes l = λ j. omega (arith, c.slice_known-1.given j) in
     let a : Call = batch x.w x.day x.minute x.list.now in
-    let f = list_first l s a _ _ _ c.lower-number.ensures c.lent_number.ensures
+    let f = list_first l s a _ _ _ c.lower-number.ensures (c.number.ensures ∙ c.check_lent.ensures)
     (c.number-length.ensures ∙ c.check_batch.ensures) in
     let z = sym f ∙ c.if-number-ne0.false in
     let same = same_bytes l small (first_fine l s a _ f c.if-number-ne0.false).0 in
@@ -199,7 +199,7 @@ returns-then-is_closed-clause-bytes_after c = let x = c.args in
     let s = x.settings.now in
     let small : Bytes l = λ j. omega (arith, c.slice_known-1.given j) in
     let a : Call = batch x.w x.day x.minute x.list.now in
-    let f = list_first l s a _ _ _ c.lower-number.ensures c.lent_number.ensures
+    let f = list_first l s a _ _ _ c.lower-number.ensures (c.number.ensures ∙ c.check_lent.ensures)
     (c.number-length.ensures ∙ c.check_batch.ensures) in
     let z = sym f ∙ c.if-number-ne0.false in
     let same = same_bytes l small (first_fine l s a _ f c.if-number-ne0.false).0 in
@@ -219,7 +219,7 @@ returns-then-is_closed-clause-settings_after c = let x = c.args in
     let s = x.settings.now in
     let small : Bytes l = λ j. omega (arith, c.slice_known-1.given j) in
     let a : Call = batch x.w x.day x.minute x.list.now in
-    let f = list_first l s a _ _ _ c.lower-number.ensures c.lent_number.ensures
+    let f = list_first l s a _ _ _ c.lower-number.ensures (c.number.ensures ∙ c.check_lent.ensures)
     (c.number-length.ensures ∙ c.check_batch.ensures) in
     let z = sym f ∙ c.if-number-ne0.false in
     let same = same_bytes l small (first_fine l s a _ f c.if-number-ne0.false).0 in
@@ -239,7 +239,7 @@ begin_batch-requires c = let x = c.args in
     let s = x.settings.now in
     let small : Bytes l = λ j. omega (arith, c.slice_known-1.given j) in
     let a : Call = batch x.w x.day x.minute x.list.now in
-    let f = list_first l s a _ _ _ c.lower-number.ensures c.lent_number.ensures
+    let f = list_first l s a _ _ _ c.lower-number.ensures (c.number.ensures ∙ c.check_lent.ensures)
     (c.number-length.ensures ∙ c.check_batch.ensures) in
     let n = neither x.list.now x.minute _ _ c.either.ensures
     c.is_overweight.ensures c.if-either.false in
@@ -253,7 +253,7 @@ returns-clause-value c = let x = c.args in
     let s = x.settings.now in
     let small : Bytes l = λ j. omega (arith, c.slice_known-1.given j) in
     let a : Call = batch x.w x.day x.minute x.list.now in
-    let f = list_first l s a _ _ _ c.lower-number.ensures c.lent_number.ensures (c.number-length.ensures ∙ c.check_batch.ensures) in
+    let f = list_first l s a _ _ _ c.lower-number.ensures (c.number.ensures ∙ c.check_lent.ensures) (c.number-length.ensures ∙ c.check_batch.ensures) in
     let z = sym f ∙ c.if-number-ne0.false in
     let same = same_bytes l small (first_fine l s a _ f c.if-number-ne0.false).0 in
     let n = neither x.list.now x.minute _ _ c.either.ensures
@@ -270,7 +270,7 @@ returns-clause-bytes_after c = let x = c.args in
     let s = x.settings.now in
     let small : Bytes l = λ j. omega (arith, c.slice_known-1.given j) in
     let a : Call = batch x.w x.day x.minute x.list.now in
-    let f = list_first l s a _ _ _ c.lower-number.ensures c.lent_number.ensures (c.number-length.ensures ∙ c.check_batch.ensures) in
+    let f = list_first l s a _ _ _ c.lower-number.ensures (c.number.ensures ∙ c.check_lent.ensures) (c.number-length.ensures ∙ c.check_batch.ensures) in
     let z = sym f ∙ c.if-number-ne0.false in
     let same = same_bytes l small (first_fine l s a _ f c.if-number-ne0.false).0 in
     let n = neither x.list.now x.minute _ _ c.either.ensures
@@ -287,7 +287,7 @@ returns-clause-settings_after c = let x = c.args in
     let s = x.settings.now in
     let small : Bytes l = λ j. omega (arith, c.slice_known-1.given j) in
     let a : Call = batch x.w x.day x.minute x.list.now in
-    let f = list_first l s a _ _ _ c.lower-number.ensures c.lent_number.ensures (c.number-length.ensures ∙ c.check_batch.ensures) in
+    let f = list_first l s a _ _ _ c.lower-number.ensures (c.number.ensures ∙ c.check_lent.ensures) (c.number-length.ensures ∙ c.check_batch.ensures) in
     let z = sym f ∙ c.if-number-ne0.false in
     let same = same_bytes l small (first_fine l s a _ f c.if-number-ne0.false).0 in
     let n = neither x.list.now x.minute _ _ c.either.ensures

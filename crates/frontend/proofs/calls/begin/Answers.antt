@@ -26,7 +26,7 @@ returns-then-number-ne0-clause-value c = let x = c.args in
     let s = x.settings.now in
     let small : Bytes l = λ j. omega (arith, c.slice_known-1.given j) in
     let d = refused_first l s x.me (begin x.w x.day x.minute) _
-    (c.lent_number-number.ensures ∙ sym (lent_is l s (begin x.w x.day x.minute) refl)) c.if-number-ne0.true in c.refused.ensures ∙ d.told
+    ((c.number-number.ensures ∙ c.check_lent.ensures) ∙ sym (lent_is l s (begin x.w x.day x.minute) refl)) c.if-number-ne0.true in c.refused.ensures ∙ d.told
 
 pub returns-then-number-ne0-clause-bytes_after : goal.returns-then-number-ne0-clause-bytes_after
 unfolding list_number
@@ -35,7 +35,7 @@ returns-then-number-ne0-clause-bytes_after c = let x = c.args in
     let s = x.settings.now in
     let small : Bytes l = λ j. omega (arith, c.slice_known-1.given j) in
     let d = refused_first l s x.me (begin x.w x.day x.minute) _
-    (c.lent_number-number.ensures ∙ sym (lent_is l s (begin x.w x.day x.minute) refl)) c.if-number-ne0.true in d.its_record
+    ((c.number-number.ensures ∙ c.check_lent.ensures) ∙ sym (lent_is l s (begin x.w x.day x.minute) refl)) c.if-number-ne0.true in d.its_record
 
 pub returns-then-number-ne0-clause-settings_after : goal.returns-then-number-ne0-clause-settings_after
 unfolding list_number
@@ -44,7 +44,7 @@ returns-then-number-ne0-clause-settings_after c = let x = c.args in
     let s = x.settings.now in
     let small : Bytes l = λ j. omega (arith, c.slice_known-1.given j) in
     let d = refused_first l s x.me (begin x.w x.day x.minute) _
-    (c.lent_number-number.ensures ∙ sym (lent_is l s (begin x.w x.day x.minute) refl)) c.if-number-ne0.true in d.settings
+    ((c.number-number.ensures ∙ c.check_lent.ensures) ∙ sym (lent_is l s (begin x.w x.day x.minute) refl)) c.if-number-ne0.true in d.settings
 
 pub returns-then-minute-gt-LAST_MINUTE-clause-value : goal.returns-then-minute-gt-LAST_MINUTE-clause-value
 unfolding list_number
@@ -53,7 +53,7 @@ returns-then-minute-gt-LAST_MINUTE-clause-value c = let x = c.args in
     let s = x.settings.now in
     let small : Bytes l = λ j. omega (arith, c.slice_known-1.given j) in
     let z : first_number l s (begin x.w x.day x.minute) ≡ 0 = lent_first l s (begin x.w x.day x.minute) refl _
-    c.lent_number-number.ensures c.if-number-ne0.false in
+    (c.number-number.ensures ∙ c.check_lent.ensures) c.if-number-ne0.false in
     let e = lent_none l s x.me (begin x.w x.day x.minute) z in
     let same = same_bytes l small e.0 in
     let d = begin_refuses l s x.me x.w x.day x.minute same z 3 (late_number s x.day x.minute c.if-minute-gt-LAST_MINUTE.true _)
@@ -66,7 +66,7 @@ returns-then-minute-gt-LAST_MINUTE-clause-bytes_after c = let x = c.args in
     let s = x.settings.now in
     let small : Bytes l = λ j. omega (arith, c.slice_known-1.given j) in
     let z : first_number l s (begin x.w x.day x.minute) ≡ 0 = lent_first l s (begin x.w x.day x.minute) refl _
-    c.lent_number-number.ensures c.if-number-ne0.false in
+    (c.number-number.ensures ∙ c.check_lent.ensures) c.if-number-ne0.false in
     let e = lent_none l s x.me (begin x.w x.day x.minute) z in
     let same = same_bytes l small e.0 in
     let d = begin_refuses l s x.me x.w x.day x.minute same z 3 (late_number s x.day x.minute c.if-minute-gt-LAST_MINUTE.true _)
@@ -79,14 +79,14 @@ returns-then-minute-gt-LAST_MINUTE-clause-settings_after c = let x = c.args in
     let s = x.settings.now in
     let small : Bytes l = λ j. omega (arith, c.slice_known-1.given j) in
     let z : first_number l s (begin x.w x.day x.minute) ≡ 0 = lent_first l s (begin x.w x.day x.minute) refl _
-    c.lent_number-number.ensures c.if-number-ne0.false in
+    (c.number-number.ensures ∙ c.check_lent.ensures) c.if-number-ne0.false in
     let e = lent_none l s x.me (begin x.w x.day x.minute) z in
     let same = same_bytes l small e.0 in
     let d = begin_refuses l s x.me x.w x.day x.minute same z 3 (late_number s x.day x.minute c.if-minute-gt-LAST_MINUTE.true _)
     (λ q. let y : ⊥ = omega (arith, q) in y) in d.settings
 
 pub is_closed-requires : goal.is_closed-requires
-is_closed-requires c = (lent_fine _ _ _ c.lent_number-number.ensures c.if-number-ne0.false).1
+is_closed-requires c = (lent_fine _ _ _ (c.number-number.ensures ∙ c.check_lent.ensures) c.if-number-ne0.false).1
 
 pub returns-then-is_closed-clause-value : goal.returns-then-is_closed-clause-value
 unfolding list_number
@@ -95,7 +95,7 @@ returns-then-is_closed-clause-value c = let x = c.args in
     let s = x.settings.now in
     let small : Bytes l = λ j. omega (arith, c.slice_known-1.given j) in
     let z : first_number l s (begin x.w x.day x.minute) ≡ 0 = lent_first l s (begin x.w x.day x.minute) refl _
-    c.lent_number-number.ensures c.if-number-ne0.false in
+    (c.number-number.ensures ∙ c.check_lent.ensures) c.if-number-ne0.false in
     let e = lent_none l s x.me (begin x.w x.day x.minute) z in
     let same = same_bytes l small e.0 in
     let own = own_number_lem (λ (k : Coordinator). begin_of tree k x.me x.w) l e.0 _ (c.number-own.ensures ∙ c.may_begin.ensures) in
@@ -110,7 +110,7 @@ returns-then-is_closed-clause-bytes_after c = let x = c.args in
     let s = x.settings.now in
     let small : Bytes l = λ j. omega (arith, c.slice_known-1.given j) in
     let z : first_number l s (begin x.w x.day x.minute) ≡ 0 = lent_first l s (begin x.w x.day x.minute) refl _
-    c.lent_number-number.ensures c.if-number-ne0.false in
+    (c.number-number.ensures ∙ c.check_lent.ensures) c.if-number-ne0.false in
     let e = lent_none l s x.me (begin x.w x.day x.minute) z in
     let same = same_bytes l small e.0 in
     let own = own_number_lem (λ (k : Coordinator). begin_of tree k x.me x.w) l e.0 _ (c.number-own.ensures ∙ c.may_begin.ensures) in
@@ -125,7 +125,7 @@ returns-then-is_closed-clause-settings_after c = let x = c.args in
     let s = x.settings.now in
     let small : Bytes l = λ j. omega (arith, c.slice_known-1.given j) in
     let z : first_number l s (begin x.w x.day x.minute) ≡ 0 = lent_first l s (begin x.w x.day x.minute) refl _
-    c.lent_number-number.ensures c.if-number-ne0.false in
+    (c.number-number.ensures ∙ c.check_lent.ensures) c.if-number-ne0.false in
     let e = lent_none l s x.me (begin x.w x.day x.minute) z in
     let same = same_bytes l small e.0 in
     let own = own_number_lem (λ (k : Coordinator). begin_of tree k x.me x.w) l e.0 _ (c.number-own.ensures ∙ c.may_begin.ensures) in
@@ -134,13 +134,13 @@ returns-then-is_closed-clause-settings_after c = let x = c.args in
     let d = begin_refuses l s x.me x.w x.day x.minute same z _ h.0 h.1 in d.settings
 
 pub tenths-waits-requires : goal.tenths-waits-requires
-tenths-waits-requires c = (lent_fine _ _ _ c.lent_number-number.ensures c.if-number-ne0.false).1
+tenths-waits-requires c = (lent_fine _ _ _ (c.number-number.ensures ∙ c.check_lent.ensures) c.if-number-ne0.false).1
 
 pub begin-requires : goal.begin-requires
-begin-requires c = (lent_fine _ _ _ c.lent_number-number.ensures c.if-number-ne0.false).0
+begin-requires c = (lent_fine _ _ _ (c.number-number.ensures ∙ c.check_lent.ensures) c.if-number-ne0.false).0
 
 pub settle-requires : goal.settle-requires
-settle-requires c = (lent_fine _ _ _ c.lent_number-number.ensures c.if-number-ne0.false).1
+settle-requires c = (lent_fine _ _ _ (c.number-number.ensures ∙ c.check_lent.ensures) c.if-number-ne0.false).1
 
 pub returns-then-r-eq0-clause-value : goal.returns-then-r-eq0-clause-value
 unfolding list_number settled_as
@@ -149,7 +149,7 @@ returns-then-r-eq0-clause-value c = let x = c.args in
     let s = x.settings.now in
     let small : Bytes l = λ j. omega (arith, c.slice_known-1.given j) in
     let z : first_number l s (begin x.w x.day x.minute) ≡ 0 = lent_first l s (begin x.w x.day x.minute) refl _
-    c.lent_number-number.ensures c.if-number-ne0.false in
+    (c.number-number.ensures ∙ c.check_lent.ensures) c.if-number-ne0.false in
     let e = lent_none l s x.me (begin x.w x.day x.minute) z in
     let same = same_bytes l small e.0 in
     let n = open_number s x.day x.minute c.if-minute-gt-LAST_MINUTE.false
@@ -168,7 +168,7 @@ returns-then-r-eq0-clause-bytes_after c = let x = c.args in
     let s = x.settings.now in
     let small : Bytes l = λ j. omega (arith, c.slice_known-1.given j) in
     let z : first_number l s (begin x.w x.day x.minute) ≡ 0 = lent_first l s (begin x.w x.day x.minute) refl _
-    c.lent_number-number.ensures c.if-number-ne0.false in
+    (c.number-number.ensures ∙ c.check_lent.ensures) c.if-number-ne0.false in
     let e = lent_none l s x.me (begin x.w x.day x.minute) z in
     let same = same_bytes l small e.0 in
     let n = open_number s x.day x.minute c.if-minute-gt-LAST_MINUTE.false
@@ -187,7 +187,7 @@ returns-then-r-eq0-clause-settings_after c = let x = c.args in
     let s = x.settings.now in
     let small : Bytes l = λ j. omega (arith, c.slice_known-1.given j) in
     let z : first_number l s (begin x.w x.day x.minute) ≡ 0 = lent_first l s (begin x.w x.day x.minute) refl _
-    c.lent_number-number.ensures c.if-number-ne0.false in
+    (c.number-number.ensures ∙ c.check_lent.ensures) c.if-number-ne0.false in
     let e = lent_none l s x.me (begin x.w x.day x.minute) z in
     let same = same_bytes l small e.0 in
     let n = open_number s x.day x.minute c.if-minute-gt-LAST_MINUTE.false
@@ -206,7 +206,7 @@ returns-else-r-eq0-clause-value c = let x = c.args in
     let s = x.settings.now in
     let small : Bytes l = λ j. omega (arith, c.slice_known-1.given j) in
     let z : first_number l s (begin x.w x.day x.minute) ≡ 0 = lent_first l s (begin x.w x.day x.minute) refl _
-    c.lent_number-number.ensures c.if-number-ne0.false in
+    (c.number-number.ensures ∙ c.check_lent.ensures) c.if-number-ne0.false in
     let e = lent_none l s x.me (begin x.w x.day x.minute) z in
     let same = same_bytes l small e.0 in
     let n = open_number s x.day x.minute c.if-minute-gt-LAST_MINUTE.false
@@ -223,7 +223,7 @@ returns-else-r-eq0-clause-bytes_after c = let x = c.args in
     let s = x.settings.now in
     let small : Bytes l = λ j. omega (arith, c.slice_known-1.given j) in
     let z : first_number l s (begin x.w x.day x.minute) ≡ 0 = lent_first l s (begin x.w x.day x.minute) refl _
-    c.lent_number-number.ensures c.if-number-ne0.false in
+    (c.number-number.ensures ∙ c.check_lent.ensures) c.if-number-ne0.false in
     let e = lent_none l s x.me (begin x.w x.day x.minute) z in
     let same = same_bytes l small e.0 in
     let n = open_number s x.day x.minute c.if-minute-gt-LAST_MINUTE.false
@@ -240,7 +240,7 @@ returns-else-r-eq0-clause-settings_after c = let x = c.args in
     let s = x.settings.now in
     let small : Bytes l = λ j. omega (arith, c.slice_known-1.given j) in
     let z : first_number l s (begin x.w x.day x.minute) ≡ 0 = lent_first l s (begin x.w x.day x.minute) refl _
-    c.lent_number-number.ensures c.if-number-ne0.false in
+    (c.number-number.ensures ∙ c.check_lent.ensures) c.if-number-ne0.false in
     let e = lent_none l s x.me (begin x.w x.day x.minute) z in
     let same = same_bytes l small e.0 in
     let n = open_number s x.day x.minute c.if-minute-gt-LAST_MINUTE.false

@@ -15,13 +15,13 @@ use Rattle.frontend.proofs.calls.load_classes.Goals as goal
 pub returns-then-first-ne0-clause-value : goal.returns-then-first-ne0-clause-value
 returns-then-first-ne0-clause-value c = let x = c.args in
     let e = loads_first x.bytes.now x.settings.now x.me x.list.now _ _ _
-    c.lent_number.ensures (c.number-length.ensures ∙ c.check_length.ensures) c.lower-first.ensures in
+    (c.number.ensures ∙ c.check_lent.ensures) (c.number-length.ensures ∙ c.check_length.ensures) c.lower-first.ensures in
     c.refused.ensures ∙ first_told x.bytes.now x.settings.now x.me (load_classes x.list.now) _ e c.if-first-ne0.true
 
 pub returns-then-first-ne0-clause-settings_after : goal.returns-then-first-ne0-clause-settings_after
 returns-then-first-ne0-clause-settings_after c = let x = c.args in
     let e = loads_first x.bytes.now x.settings.now x.me x.list.now _ _ _
-    c.lent_number.ensures (c.number-length.ensures ∙ c.check_length.ensures) c.lower-first.ensures in
+    (c.number.ensures ∙ c.check_lent.ensures) (c.number-length.ensures ∙ c.check_length.ensures) c.lower-first.ensures in
     first_settings x.bytes.now x.settings.now x.me (load_classes x.list.now) _ e c.if-first-ne0.true
 
 pub returns-then-number-ne0-clause-value : goal.returns-then-number-ne0-clause-value
@@ -30,7 +30,7 @@ returns-then-number-ne0-clause-value c = let x = c.args in
     let s = x.settings.now in
     let list = x.list.now in
     let e = loads_first l s x.me list _ _ _
-    c.lent_number.ensures (c.number-length.ensures ∙ c.check_length.ensures) c.lower-first.ensures in
+    (c.number.ensures ∙ c.check_lent.ensures) (c.number-length.ensures ∙ c.check_length.ensures) c.lower-first.ensures in
     let z = sym e ∙ c.if-first-ne0.false in
     let n = loads_number l s x.me list z _ _ _
     c.phase.ensures (c.number-table.ensures ∙ c.check_table.ensures) c.refuse-number.ensures in
@@ -42,7 +42,7 @@ returns-then-number-ne0-clause-settings_after c = let x = c.args in
     let s = x.settings.now in
     let list = x.list.now in
     let e = loads_first l s x.me list _ _ _
-    c.lent_number.ensures (c.number-length.ensures ∙ c.check_length.ensures) c.lower-first.ensures in
+    (c.number.ensures ∙ c.check_lent.ensures) (c.number-length.ensures ∙ c.check_length.ensures) c.lower-first.ensures in
     let z = sym e ∙ c.if-first-ne0.false in
     let n = loads_number l s x.me list z _ _ _
     c.phase.ensures (c.number-table.ensures ∙ c.check_table.ensures) c.refuse-number.ensures in
@@ -51,7 +51,7 @@ returns-then-number-ne0-clause-settings_after c = let x = c.args in
 pub slice_bounds-lay-end : goal.slice_bounds-lay-end
 slice_bounds-lay-end c = let x = c.args in
     let e = loads_first x.bytes.now x.settings.now x.me x.list.now _ _ _
-    c.lent_number.ensures (c.number-length.ensures ∙ c.check_length.ensures) c.lower-first.ensures in
+    (c.number.ensures ∙ c.check_lent.ensures) (c.number-length.ensures ∙ c.check_length.ensures) c.lower-first.ensures in
     let n = lent_long _ _ (first_none x.bytes.now x.settings.now (load_classes x.list.now) (sym e ∙ c.if-first-ne0.false)).0 in
     omega (arith, n)
 
@@ -62,7 +62,7 @@ returns-clause-value c = let x = c.args in
     let s = x.settings.now in
     let list = x.list.now in
     let e = loads_first l s x.me list _ _ _
-    c.lent_number.ensures (c.number-length.ensures ∙ c.check_length.ensures) c.lower-first.ensures in
+    (c.number.ensures ∙ c.check_lent.ensures) (c.number-length.ensures ∙ c.check_length.ensures) c.lower-first.ensures in
     let z = sym e ∙ c.if-first-ne0.false in
     let n = loads_number l s x.me list z _ _ _
     c.phase.ensures (c.number-table.ensures ∙ c.check_table.ensures) c.refuse-number.ensures in
@@ -77,7 +77,7 @@ returns-clause-settings_after c = let x = c.args in
     let s = x.settings.now in
     let list = x.list.now in
     let e = loads_first l s x.me list _ _ _
-    c.lent_number.ensures (c.number-length.ensures ∙ c.check_length.ensures) c.lower-first.ensures in
+    (c.number.ensures ∙ c.check_lent.ensures) (c.number-length.ensures ∙ c.check_length.ensures) c.lower-first.ensures in
     let z = sym e ∙ c.if-first-ne0.false in
     let n = loads_number l s x.me list z _ _ _
     c.phase.ensures (c.number-table.ensures ∙ c.check_table.ensures) c.refuse-number.ensures in

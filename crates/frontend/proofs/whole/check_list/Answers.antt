@@ -1,4 +1,4 @@
--- `frontend::whole::list_number`: by the act; only a batch and a table are lent a list.
+-- `frontend::whole::check_list`: by the act; only a batch and a table are lent a list.
 use mathlib.Core.Path.{◌≡◌, refl, sym, ap, ◌∙◌}
 use mathlib.Core.List.{List, [], ◌∷◌}
 use Prim.Native.Nat.{ℕ}
@@ -11,7 +11,7 @@ use Rattle.frontend.specs.declared.Ask.{Ask}
 use Rattle.frontend.specs.Plan.{list_number}
 use Rattle.frontend.specs.Asked.{call_by}
 use Rattle.frontend.specs.contracts.Act.{the_type}
-use Rattle.frontend.proofs.whole.list_number.Goals as goal
+use Rattle.frontend.proofs.whole.check_list.Goals as goal
 
 abbrev rest : List ℕ
 rest = 0 ∷ 2 ∷ 3 ∷ 4 ∷ 5 ∷ []
@@ -28,12 +28,12 @@ no_list LoadClasses a l h = absurd (miss rest 6 tt h)
 
 pub returns-in-Batch : goal.returns-in-Batch
 unfolding list_number call_by
-returns-in-Batch c = λ a. c.number.ensures ∙ c.check_batch.ensures
+returns-in-Batch c = λ a. c.check_batch.ensures
     ∙ ap (λ (k : Act). list_number (call_by k a c.args.list.now)) (sym c.in-Batch.is)
 
 pub returns-in-LoadClasses : goal.returns-in-LoadClasses
 unfolding list_number call_by
-returns-in-LoadClasses c = λ a. c.number-in-LoadClasses.ensures ∙ c.check_length.ensures
+returns-in-LoadClasses c = λ a. c.check_length.ensures
     ∙ ap (λ (k : Act). list_number (call_by k a c.args.list.now)) (sym c.in-LoadClasses.is)
 
 pub returns-in_default : goal.returns-in_default
