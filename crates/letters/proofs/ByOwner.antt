@@ -6,6 +6,7 @@ use Prim.Native.Nat.{ℕ, zero, suc, ◌+◌, ◌*◌, ◌≤◌, ◌<◌}
 use native.Mathlib.Omega.{arith}
 use native.Mathlib.Numerals.{add-one}
 use lib.Dec.{eqb}
+use mir.Val.{bool_byte}
 use borrow.Author.Tests.{eq-eqb, ne_eqb}
 use lib.ListN.{length, get_or, set, take, drop, replicate, length-append, drop_of_length-le}
 use lib.Seq.{sets, drop-cons}
@@ -48,6 +49,19 @@ rivals_count o (s ∷ ss) =
     one : (b : Bool) (x : Rival) → cond (not b) 1 0 ≡ length (cond b [] (x ∷ []))
     one true x = refl
     one false x = refl
+
+-- 1 for yes and 0 for no, as a byte and as a number
+pub one_bit : (b : Bool) → (bool_byte b ≡ cond b 1 0) × (cond b 1 0 ≤ 1)
+one_bit true = (refl, omega arith)
+one_bit false = (refl, omega arith)
+
+-- the owner i first
+pub count_next : (i : ℕ) (ss : List ℕ) → i < length ss
+    → count_by (λ s. not (eqb s 0)) (drop i ss)
+    ≡ cond (not (eqb (get_or ss i 0) 0)) 1 0 + count_by (λ s. not (eqb s 0)) (drop (i + 1) ss)
+count_next i ss h =
+    ap (count_by (λ s. not (eqb s 0))) (drop-cons ss i 0 h ∙ ap (λ (j : ℕ). get_or ss i 0 ∷ drop j ss) (sym (add-one i)))
+    ∙ sum_by-cons (λ n. cond (not (eqb n 0)) 1 0) (get_or ss i 0) (drop (i + 1) ss)
 
 pub rivals_length : (o : ℕ) (ss : List ℕ) → length (rivals_by o ss) ≤ length ss
 unfolding rivals_by

@@ -90,7 +90,12 @@ fn count_rivals(serials: [u32; NODES]) -> usize
     ensures value { result ≡ length (rivals_by 0 serials) }
     ensures upper_bound { result ≤ nodes }
 {
-    serials.iter().filter(|serial| **serial != 0).count()
+    // Added up without a branch, which costs less than a chain that filters them.
+    let mut n = 0;
+    for serial in &serials {
+        n += usize::from(*serial != 0);
+    }
+    n
 }
 
 // The words with their count; the message's length.

@@ -219,7 +219,8 @@ fn put_row(out: &mut [u8], at: usize, asker: u8, live: u16, distances: &[u16; NO
     decimal::append(out, c, b"\n")
 }
 
-// The reply to a line that ends here.
+// The reply to a line that ends here. Inlined: called, it would have each byte of a line store the whole line for it.
+#[inline(always)]
 fn put_reply(out: &mut [u8], at: usize, line: Line) -> usize
     requires { at + 40 ≤ length out.old }
     ensures next { result ≡ at + length (reply (ended line)) }

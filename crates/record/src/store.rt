@@ -17,7 +17,7 @@ use crate::{
     OBJECT_SIZE, OBJECTS_PLACE, OUTCOME, PARTICIPANTS, PHASE, QUORUM, RIVAL_SIZE, RIVALS, SERIAL,
     SIZE, TIMESTAMP, VALUE_IN, VERSION_IN, YES,
 };
-use coordinator::{ABORTED, Coordinator, FINISHING, Object};
+use coordinator::{ABORTED, Coordinator, FINISHING, IDLE, Object};
 use numbers::{MOST_OPEN, NODES, Refusal};
 
 // The low byte of a count.
@@ -128,7 +128,7 @@ pub fn write(bytes: &mut [u8], c: Coordinator)
 }
 
 // Writes a blank record; refused for another length. Ruled out: a byte left as it was; a byte written where the length is another.
-#[tactic(auto, unfolding(crate::specs::Call::blank_number, crate::specs::Call::blank_after, crate::specs::Record::written))]
+#[tactic(auto, unfolding(crate::specs::Call::blank_number, crate::specs::Call::blank_after))]
 pub fn blank(bytes: &mut [u8]) -> Result<(), Refusal>
     ensures value { number_of result ≡ blank_number bytes.old }
     ensures bytes_after { bytes.new ≡ blank_after bytes.old }
@@ -136,7 +136,8 @@ pub fn blank(bytes: &mut [u8]) -> Result<(), Refusal>
     if bytes.len() != SIZE {
         return Err(Refusal::Length);
     }
-    write(bytes, coordinator::blank());
+    // A blank record is all zeros.
+    bytes.fill(0);
     Ok(())
 }
 
@@ -154,11 +155,10 @@ pub fn become_idle(bytes: &mut [u8], outcome: u8)
     requires { length bytes.old ≡ record_size }
     ensures { bytes.new ≡ bytes_of (idle_after (record_of bytes.old).serial (record_of bytes.old).timestamp outcome) }
 {
-    let mut c = coordinator::blank();
-    c.serial = octets::get_u32(bytes, SERIAL);
-    c.timestamp = octets::get_u32(bytes, TIMESTAMP);
-    c.outcome = outcome;
-    write(bytes, c);
+    let serial = octets::get_u32(bytes, SERIAL);
+    let timestamp = octets::get_u32(bytes, TIMESTAMP);
+    bytes.fill(0);
+    put_front(bytes, serial, timestamp, outcome, IDLE, 0);
 }
 
 // The transaction ends aborted: finishing until every awaited node says done; with nobody awaited, idle at once.

@@ -61,7 +61,9 @@ pub fn found(bytes: &mut [u8], me: u8, object: u8) -> Result<u64, Refusal>
 }
 
 // Takes a fresh live mask and distances. Ruled out: the old quorum answered; the distances kept as they were.
+// Inlined: called, it would take the distances once more on the stack.
 #[tactic(auto, using(crate::proofs::Whole::whole), unfolding(record::specs::Call::called_of, record::specs::Call::record_after))]
+#[inline(always)]
 pub fn reselect(
     bytes: &mut [u8],
     me: u8,
