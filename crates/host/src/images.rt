@@ -18,10 +18,15 @@ pub fn senna_check_image(image: &[u8]) -> u8
 }
 
 // Makes an image blank. Ruled out: a byte of a buffer of another length altered; holders of 0.
+// The length is looked at ahead, so that it need not be kept for the number while the bytes are written.
+#[tactic(auto, unfolding(image::specs::Blank::blank, image::specs::Blank::blank_as, image::specs::Blank::blank_number))]
 pub fn senna_blank_image(image: &mut [u8]) -> u8
     ensures value { result ≡ blank_number image.old }
     ensures image_after { image.new ≡ blank image.old }
 {
+    if image.len() != image::SIZE {
+        return numbers::LENGTH;
+    }
     numbers::number(image::blank(image))
 }
 
