@@ -8,7 +8,7 @@ ghost use Rattle.station_intake.specs.Convert.{convert_number, convert_after};
 ghost use Rattle.host.specs.Images.{author_number, author_answer};
 
 use crate::Author;
-use numbers::OBJECTS_END;
+use numbers::{OBJECTS_END, Refusal};
 
 // The number of an image. Ruled out: 0 for a holder whose state is not 2; 2 for an image of another length.
 pub fn senna_check_image(image: &[u8]) -> u8
@@ -25,7 +25,7 @@ pub fn senna_blank_image(image: &mut [u8]) -> u8
     ensures image_after { image.new ≡ blank image.old }
 {
     if image.len() != image::SIZE {
-        return numbers::LENGTH;
+        return u8::from(Refusal::Length);
     }
     numbers::number(image::blank(image))
 }
